@@ -1,0 +1,77 @@
+-- Single frames, worked by hand from the layouts: the definitions yield what they should.
+use Prim.Native.Nat.{ℕ}
+use mathlib.Core.Path.{_≡_, refl}
+use mathlib.Core.List.{List, [], _∷_, _++_}
+use lib.ListN.{replicate, set}
+use Rattle.frames.specs.Bytes.{numberAt, bytesOf}
+use Rattle.frames.specs.Refusals.{refused, good, refusal}
+use Rattle.frames.specs.ReportGeneral.{generalFixed, generalRead}
+use Rattle.frames.specs.Discovery.{vacant, fields, discoverFixed, discoverRead}
+use Rattle.frames.specs.ConfigureRoute.{routeFrame, routeWritten, routeRead}
+use Rattle.frames.specs.declared.Route.{Route}
+
+-- phy 5, route index 258
+abbrev request : ℕ → Route
+request entry = record { phy = record { 0 = 5 }; index = record { 0 = 258 }; entry = entry }
+
+-- its bytes up to byte 11
+abbrev front : List ℕ
+front = 0x40 ∷ 0x90 ∷ 0 ∷ 0 ∷ 0 ∷ 0 ∷ 1 ∷ 2 ∷ 0 ∷ 5 ∷ 0 ∷ 0 ∷ []
+
+enabled : List ℕ
+enabled = front ++ (0x00 ∷ 0 ∷ 0 ∷ 0 ∷ 0x50 ∷ 0 ∷ 0 ∷ 0 ∷ 0 ∷ 0 ∷ 0 ∷ 0xb1 ∷ replicate 16 0)
+
+disabled : List ℕ
+disabled = front ++ (0x80 ∷ replicate 27 0)
+
+writes : (routeFrame (request 0x50000000000000b1) ≡ enabled)
+    × ((routeFrame (request 0) ≡ disabled)
+    × ((routeWritten 39 (request 7) ≡ refused (refusal 16 0 0))
+    × (routeWritten 39 (record { phy = record { 0 = 128 }; index = record { 0 = 0 }; entry = 7 }) ≡ refused (refusal 15 0 0))))
+unfolding routeFrame routeWritten bytesOf enabled disabled
+writes = (refl, (refl, (refl, refl)))
+
+-- a set disable bit hides the address; the other bits of byte 12 and the other bytes are ignored
+reads : (routeRead enabled ≡ good (request 0x50000000000000b1))
+    × ((routeRead (set enabled 12 0x80) ≡ good (request 0))
+    × ((routeRead (set (set enabled 12 0x7f) 39 0xff) ≡ good (request 0x50000000000000b1))
+    × ((routeRead (enabled ++ (0 ∷ [])) ≡ refused (refusal 1 0 0))
+    × ((routeRead (set (set enabled 0 0x41) 9 128) ≡ refused (refusal 2 0 0))
+    × ((routeRead (set enabled 1 0x91) ≡ refused (refusal 2 0 0))
+    × (routeRead (set enabled 9 128) ≡ refused (refusal 15 0 0)))))))
+unfolding routeRead numberAt enabled
+reads = (refl, (refl, (refl, (refl, (refl, (refl, refl))))))
+
+-- R 0x1234, 20 phys, configurable
+general : List ℕ
+general = 0x41 ∷ 0 ∷ 0 ∷ 0 ∷ 0xaa ∷ 0xbb ∷ 0x12 ∷ 0x34 ∷ 0xcc ∷ 20 ∷ 0xff ∷ replicate 17 0xee
+
+reports : (generalRead general ≡ good (record { indexes = 0x1234; phys = 20; configurable = 1 }))
+    × ((generalRead (set general 10 0xfe) ≡ good (record { indexes = 0x1234; phys = 20; configurable = 0 }))
+    × ((generalRead (set general 2 1) ≡ refused (refusal 2 0 0))
+    × ((generalRead (set general 3 0x10) ≡ refused (refusal 2 0 0))
+    × ((generalRead [] ≡ refused (refusal 1 0 0))
+    × (generalRead (0 ∷ general) ≡ refused (refusal 1 0 0))))))
+unfolding generalRead generalFixed numberAt general
+reports = (refl, (refl, (refl, (refl, (refl, refl)))))
+
+-- every field with bits of its own, and all bits set around type and attribute
+discover : List ℕ
+discover =
+    0x41 ∷ 0x10 ∷ 0x00 ∷ 0x00 ∷ (replicate 5 0x99 ++ (17 ∷ 0x99 ∷ 0x99 ∷ 0xaf ∷ 0x99 ∷ 0x99 ∷ 0x99
+    ∷ (0x50 ∷ 1 ∷ 2 ∷ 3 ∷ 4 ∷ 5 ∷ 6 ∷ 7 ∷ 0x51 ∷ 8 ∷ 9 ∷ 10 ∷ 11 ∷ 12 ∷ 13 ∷ 14 ∷ 33 ∷ (replicate 11 0x99 ++ (0xf2 ∷ replicate 7 0x99)))))
+
+discovers : (discoverRead discover ≡ good (fields (record {
+  identifier = record { 0 = 17 };
+  device = 2;
+  own = 0x5001020304050607;
+  attached = 0x5108090a0b0c0d0e;
+  far = record { 0 = 33 };
+  attribute = 2;
+})))
+    × ((discoverRead (set discover 2 0x16) ≡ good (vacant 0x16))
+    × ((discoverRead (set (set discover 2 0x16) 1 0) ≡ refused (refusal 2 0 0))
+    × ((discoverRead (set discover 3 0x0f) ≡ refused (refusal 2 0 0))
+    × (discoverRead (discover ++ (0 ∷ [])) ≡ refused (refusal 1 0 0)))))
+unfolding discoverRead discoverFixed numberAt discover
+discovers = (refl, (refl, (refl, (refl, refl))))

@@ -1,0 +1,58 @@
+-- CONFIGURE ROUTE INFORMATION request: 40 bytes.
+use Prim.Native.Nat.{ℕ}
+use mathlib.Core.Bool.{Bool, true, false, cond, _&&_}
+use mathlib.Core.List.{List, [], _∷_, _++_}
+use lib.ListN.{length, drop, replicate}
+use lib.Dec.{eqb, leb}
+use Rattle.frames.specs.Bytes.{byte, bits, numberAt, bytesOf}
+use Rattle.frames.specs.Refusals.{Result, refused, good, unless, refusal}
+use Rattle.frames.specs.declared.Route.{Route}
+use Rattle.frames.specs.declared.RouteRead.{RouteRead}
+use Rattle.frames.specs.declared.RouteRead.the-variants.{Refused, Read}
+use Rattle.frames.specs.declared.RouteWrite.{RouteWrite}
+use Rattle.frames.specs.declared.RouteWrite.the-variants.{Refused as NotWritten, Written}
+
+-- byte 12: 80h if the entry is 0, else 00h
+abbrev pub disableByte : ℕ → ℕ
+disableByte entry = cond (eqb entry 0) 0x80 0x00
+
+-- the forty bytes, by offset: 0 and 1; 2 to 5; route index at 6; 8; phy at 9; 10 and 11; 12; 13 to 15; address at 16; 24 to 39
+unfoldable pub routeFrame : Route → List ℕ
+routeFrame q =
+    0x40 ∷ 0x90 ∷ (replicate 4 0 ++ (bytesOf 2 (q .index .0) ++ (0 ∷ q .phy .0 ∷ 0 ∷ 0 ∷ disableByte (q .entry) ∷ 0 ∷ 0 ∷ 0
+    ∷ (bytesOf 8 (q .entry) ++ replicate 16 0))))
+
+-- writing into so many bytes: refused, or the forty bytes
+unfoldable pub routeWritten : ℕ → Route → Result (List ℕ)
+routeWritten room q =
+    unless (leb (q .phy .0) 127) (refusal 15 0 0) (unless (leb 40 room) (refusal 16 0 0) (good (routeFrame q)))
+
+-- what the answer to writing says in document 01's terms, given the request
+abbrev pub writeAnswer : Route → RouteWrite → Result (List ℕ)
+writeAnswer q (NotWritten r) = refused r
+writeAnswer q Written = good (routeFrame q)
+
+-- the whole buffer after writing, and the part that is handed back: empty where refused
+abbrev pub bufferAfter : List ℕ → Result (List ℕ) → List ℕ
+bufferAfter buf (refused r) = buf
+bufferAfter buf (good frame) = frame ++ drop 40 buf
+
+abbrev pub partAfter : Result (List ℕ) → List ℕ
+partAfter (refused r) = []
+partAfter (good frame) = frame
+
+-- what the answer to reading says in document 01's terms
+abbrev pub routeAnswer : RouteRead → Result Route
+routeAnswer (Refused r) = refused r
+routeAnswer (Read q) = good q
+
+-- the entry is 0 when bit 7 of byte 12 is set
+abbrev pub entryIn : List ℕ → ℕ
+entryIn s = cond (eqb (bits 7 1 (byte s 12)) 1) 0 (numberAt s 16 8)
+
+unfoldable pub routeRead : List ℕ → Result Route
+routeRead s =
+    unless (eqb (length s) 40) (refusal 1 0 0)
+    (unless (eqb (byte s 0) 0x40 && eqb (byte s 1) 0x90) (refusal 2 0 0)
+    (unless (leb (byte s 9) 127) (refusal 15 0 0)
+    (good (record { phy = record { 0 = byte s 9 }; index = record { 0 = numberAt s 6 2 }; entry = entryIn s }))))

@@ -1,0 +1,143 @@
+// CONFIGURE ROUTE INFORMATION requests.
+use crate::ExpanderNumber;
+use crate::PhyId;
+use crate::Refusal;
+use crate::Route;
+use crate::RouteIndex;
+use crate::RouteRead;
+use crate::RouteWrite;
+use crate::bytes;
+ghost use mathlib.Core.Path.{_≡_};
+ghost use mathlib.Core.List.{_++_};
+ghost use Prim.Native.Nat.{_≤_};
+ghost use lib.ListN.{length, drop};
+ghost use denote.Ref.{ptr};
+ghost use Rattle.frames.specs.ConfigureRoute.{disableByte, routeFrame, routeWritten, writeAnswer, bufferAfter, partAfter, routeAnswer, entryIn, routeRead};
+
+// Bit 7 of byte 12, set where the entry is disabled.
+fn disable_byte(entry: u64) -> u8
+    ensures { λ r. ⌜ r ≡ disableByte entry ⌝ }
+{
+    if entry == 0 {
+        return 1 << 7;
+    }
+    0
+}
+
+// The forty bytes of the request, at the front of a buffer that has room for them.
+fn put_frame(buf: &mut [u8], request: Route)
+    requires { ⌜ 40 ≤ length (now buf) ⌝ }
+    ensures { λ _. ⌜ now (buf .exit) ≡ routeFrame request ++ drop 40 (now (buf .entry)) ⌝ }
+{
+    let index = request.index.0;
+    let disable = disable_byte(request.entry);
+    bytes::clear_front(buf, 40);
+    buf[0] = 0x40;
+    buf[1] = 0x90;
+    buf[9] = request.phy.0;
+    buf[12] = disable;
+    bytes::put_number(buf, 6, 2, index as u64);
+    bytes::put_number(buf, 16, 8, request.entry);
+}
+
+// Whether a request can be written into the buffer: it is given what the writers are given, and
+// writes nothing.
+pub fn route_refusal(buf: &[u8], request: Route) -> RouteWrite
+    ensures { λ r. ⌜ writeAnswer request r ≡ routeWritten (length (now (buf .entry))) request ⌝ }
+{
+    if request.phy.0 > 127 {
+        return RouteWrite::Refused(Refusal {
+            number: 15,
+            expander: ExpanderNumber(0),
+            phy: PhyId(0),
+        });
+    }
+    if buf.len() < 40 {
+        return RouteWrite::Refused(Refusal {
+            number: 16,
+            expander: ExpanderNumber(0),
+            phy: PhyId(0),
+        });
+    }
+    RouteWrite::Written
+}
+
+// Writes the request at the front of the buffer. The bytes after the forty stay, and all of them
+// where it is refused.
+pub fn put_route(buf: &mut [u8], request: Route) -> RouteWrite
+    ensures { λ r. ⌜ (writeAnswer request r ≡ routeWritten (length (now (buf .entry))) request) × (now (buf .exit) ≡ bufferAfter (now (buf .entry)) (routeWritten (length (now (buf .entry))) request)) ⌝ }
+{
+    let answer = route_refusal(&*buf, request);
+    match answer {
+        RouteWrite::Refused(r) => RouteWrite::Refused(r),
+        RouteWrite::Written => {
+            put_frame(buf, request);
+            RouteWrite::Written
+        }
+    }
+}
+
+// Writes the request as put_route does, and hands back the forty bytes of the buffer that hold it:
+// an empty part where it is refused.
+pub fn write_route<'a>(buf: &'a mut [u8], request: Route) -> &'a mut [u8]
+    ensures { λ r. ⌜ (now r ≡ partAfter (routeWritten (length (now (buf .entry))) request)) × (ptr r ≡ ptr (buf .entry)) ⌝ }
+{
+    let answer = put_route(buf, request);
+    match answer {
+        RouteWrite::Refused(_) => &mut buf[..0],
+        RouteWrite::Written => &mut buf[..40],
+    }
+}
+
+// The entry of a request: 0 when the disable bit is set.
+fn entry_in(frame: &[u8]) -> u64
+    requires { ⌜ length (now frame) ≡ 40 ⌝ }
+    ensures { λ r. ⌜ r ≡ entryIn (now (frame .entry)) ⌝ }
+{
+    if (frame[12] >> 7) & 1 == 1 {
+        return 0;
+    }
+    bytes::number_at(frame, 16, 8)
+}
+
+// Reads one request.
+pub fn read_route(frame: &[u8]) -> RouteRead
+    ensures { λ r. ⌜ routeAnswer r ≡ routeRead (now (frame .entry)) ⌝ }
+{
+    if frame.len() != 40 {
+        return RouteRead::Refused(Refusal {
+            number: 1,
+            expander: ExpanderNumber(0),
+            phy: PhyId(0),
+        });
+    }
+    if frame[0] != 0x40 {
+        return RouteRead::Refused(Refusal {
+            number: 2,
+            expander: ExpanderNumber(0),
+            phy: PhyId(0),
+        });
+    }
+    if frame[1] != 0x90 {
+        return RouteRead::Refused(Refusal {
+            number: 2,
+            expander: ExpanderNumber(0),
+            phy: PhyId(0),
+        });
+    }
+    let phy = frame[9];
+    if phy > 127 {
+        return RouteRead::Refused(Refusal {
+            number: 15,
+            expander: ExpanderNumber(0),
+            phy: PhyId(0),
+        });
+    }
+    let index = bytes::number_at(frame, 6, 2) as u16;
+    let entry = entry_in(frame);
+    RouteRead::Read(Route {
+        phy: PhyId(phy),
+        index: RouteIndex(index),
+        entry: entry,
+    })
+}

@@ -1,0 +1,78 @@
+// SMP frames, each by itself: REPORT GENERAL and DISCOVER responses are read, CONFIGURE ROUTE
+// INFORMATION requests are written and read.
+mod bytes;
+mod configure_route;
+mod discovery;
+mod report_general;
+
+pub use bytes::address_at;
+pub use configure_route::put_route;
+pub use configure_route::read_route;
+pub use configure_route::route_refusal;
+pub use configure_route::write_route;
+pub use discovery::read_discover;
+pub use report_general::read_general;
+
+// A phy identifier: which phy of an expander.
+pub struct PhyId(pub u8);
+
+// A route index: which entry of a phy's routing table.
+pub struct RouteIndex(pub u16);
+
+// An expander number: which expander of a domain file, from 0.
+pub struct ExpanderNumber(pub u8);
+
+// A refusal: "number, expander, phy".
+pub struct Refusal {
+    pub number: u8,
+    pub expander: ExpanderNumber,
+    pub phy: PhyId,
+}
+
+// The fields of a REPORT GENERAL response: how many route indexes each phy has (R), how many phys
+// there are, and the configurable bit.
+pub struct General {
+    pub indexes: u16,
+    pub phys: u8,
+    pub configurable: u8,
+}
+
+pub enum GeneralRead {
+    Refused(Refusal),
+    Read(General),
+}
+
+// The fields of a DISCOVER response: phy identifier, attached device type, own address, attached
+// address, attached phy identifier, routing attribute.
+pub struct Discover {
+    pub identifier: PhyId,
+    pub device: u8,
+    pub own: u64,
+    pub attached: u64,
+    pub far: PhyId,
+    pub attribute: u8,
+}
+
+// A vacant phy is reported with its non-zero function result.
+pub enum DiscoverRead {
+    Refused(Refusal),
+    Vacant(u8),
+    Read(Discover),
+}
+
+// The fields of a CONFIGURE ROUTE INFORMATION request. Entry 0 is a disabled entry.
+pub struct Route {
+    pub phy: PhyId,
+    pub index: RouteIndex,
+    pub entry: u64,
+}
+
+pub enum RouteRead {
+    Refused(Refusal),
+    Read(Route),
+}
+
+pub enum RouteWrite {
+    Refused(Refusal),
+    Written,
+}
