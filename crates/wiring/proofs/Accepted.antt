@@ -1,0 +1,588 @@
+-- What the causes leave of a domain: 1 to 6 of one that is read, 7 to 10 of one that is wired, 11 to 13 of one that is linked.
+use mathlib.Core.Path.{_≡_, refl, sym, ap, subst, _∙_}
+use mathlib.Core.Logic.{_⊎_, inl, inr, _≢_, _↔_, ⊎-elim, by-cases}
+use mathlib.Core.List.{List, [], _∷_, _++_}
+use mathlib.Core.Bool.{Bool, true, false, cond, not, _||_, _&&_}
+use Prim.Native.Nat.{ℕ, zero, suc, _+_, _≤_, _<_}
+use native.Mathlib.Omega.{arith}
+use native.Mathlib.Decide.{ℕ-discrete, decLt}
+use lib.ListN.{length, getD, take, drop}
+use lib.Dec.{T, eqb, ltb, leb, eqb→eq, ltb→lt, lt→ltb, leb→le, not-T, T-not}
+use Rattle.frames.specs.Bytes.{byte, numberAt}
+use Rattle.frames.specs.declared.Refusal.{Refusal}
+use Rattle.frames.specs.Refusals.{Result, refused, good, unless, then, refusal}
+use Rattle.frames.specs.ReportGeneral.{generalRead}
+use Rattle.frames.specs.Discovery.{Discovered, vacant, fields, discoverRead}
+use Rattle.wiring.specs.declared.Limits.{Limits}
+use Rattle.wiring.specs.declared.ExpanderUnit.{ExpanderUnit}
+use Rattle.wiring.specs.declared.Phy.{Phy}
+use Rattle.wiring.specs.declared.Phy.the-variants.{Vacant, Present}
+use Rattle.wiring.specs.Lists.{upTo, any, In, isIn}
+use Rattle.wiring.specs.Domain.{Expander, Domain, noExpander, expanderAt, phyAt, addressOf, farOf, attributeOf, routes, attached, toEnd, toExpander, numberOf}
+use Rattle.wiring.specs.File.{limits, Parsed, parsed, placed, phyOf, phyUnit, phyUnits, expanderUnit, expanderOf, expanders, domainRead}
+use Rattle.wiring.specs.Causes.{Place, place, places, farPhy, names, unanswered, endAt, claimed, clash, clashing, fixed, firstIn, firstOf, wiredDomain, wired}
+use Rattle.wiring.specs.Graph.{loopfree}
+use Rattle.wiring.specs.Neighbours.{neighbours}
+use Rattle.wiring.specs.Links.{unlooped, joined, joinedIn, tableToTable, linkedDomain}
+use Rattle.wiring.proofs.Members.{tests, and-left, and-right, or-cases, not-not, is-true, is-false, was-true, eq→eqb, all-cons, any-of, of-any, in-left, in-right, in-getD, getD-in, in-take, take-in, in-upTo, numbers-below}
+use Rattle.wiring.proofs.Loops.{loopfree-iff}
+use Rattle.wiring.proofs.Reach.{reached-iff}
+use Rattle.wiring.proofs.Wires.{LoopIn, ChainIn, To, Plain, Wired, end-attached, expander-attached, routes-one, plain-attribute, numberOf-is, phy-range, in-range, routes-range, in-places, adj-symmetric}
+
+-- results
+module _ {A : Type 0} where
+  pub good-one : (a b : A) → _≡_ {A = Result A} (good a) (good b) → a ≡ b
+  good-one a b e = cc
+
+  pub not-good : (r : Refusal) (a : A) → _≡_ {A = Result A} (refused r) (good a) → ⊥
+  not-good r a e = let z : _≡_ {A = ℕ} 0 1 = cc in omega arith
+
+  pub unless-good : (b : Bool) (r : Refusal) (x : Result A) (a : A) → unless b r x ≡ good a → T b × (x ≡ good a)
+  unless-good true r x a e = (tt, e)
+  unless-good false r x a e = absurd (not-good r a e)
+
+  pub good-unless : (b : Bool) (r : Refusal) (x : Result A) → T b → unless b r x ≡ x
+  good-unless true r x t = refl
+  good-unless false r x t = absurd t
+
+  placed-good : (i p : ℕ) (x : Result A) (a : A) → placed i p x ≡ good a → x ≡ good a
+  placed-good i p (refused r) a e = absurd (not-good (refusal (r .number) i p) a e)
+  placed-good i p (good b) a e = e
+
+module _ {A B : Type 0} where
+  pub then-good : (x : Result A) (k : A → Result B) (b : B) → then x k ≡ good b → (a : A) × (x ≡ good a) × (k a ≡ good b)
+  then-good (refused r) k b e = absurd (not-good r b e)
+  then-good (good a) k b e = (a, refl, e)
+
+  pub good-then : (x : Result A) (k : A → Result B) (a : A) (b : B) → x ≡ good a → k a ≡ good b → then x k ≡ good b
+  good-then x k a b e f = subst (λ y. then y k ≡ good b) (sym e) f
+
+-- causes 1 to 6
+pub record GoodPhy (φ : Phy) : Type 0 where
+  pub plain : Plain φ
+  pub borne : T (attached φ) → addressOf φ ≢ 0
+
+no-phy : (r : ℕ) → GoodPhy (Vacant r)
+no-phy r = record { plain = tt; borne = λ t. absurd t }
+
+phyOf-good : (own i p : ℕ) (f : Discovered) (φ : Phy) → phyOf own i p f ≡ good φ → GoodPhy φ
+phyOf-good own i p (vacant r) φ e = subst GoodPhy (good-one (Vacant r) φ e) (no-phy r)
+phyOf-good own i p (fields f) φ e =
+    let five = unless-good (eqb (f .identifier .0) p && eqb (f .own) own) (refusal 5 i p) _ φ e in
+    let six = unless-good (leb (f .device) 3 && (leb (f .attribute) 2 && (eqb (f .device) 0 || not (eqb (f .attached) 0)))) (refusal 6 i p) _ φ (five .1) in
+    let t = six .0 in
+    let φ′ = Present (record { device = f .device; attribute = f .attribute; address = f .attached; far = f .far }) in
+    subst GoodPhy (good-one φ′ φ (six .1)) (record {
+      plain = (search (tests, leb→le), search (tests, leb→le));
+      borne = λ u a. ⊎-elim (T-not (eqb (f .device) 0) u) (λ v. T-not (eqb (f .attached) 0) v (eq→eqb (f .attached) 0 a))
+          (or-cases (eqb (f .device) 0) (not (eqb (f .attached) 0)) (search tests));
+    })
+
+-- as many phys, all of them good; past the end there is a vacant one
+record GoodPhys (count : ℕ) (φs : List Phy) : Type 0 where
+  size : length φs ≡ count
+  all : (q : ℕ) → GoodPhy (getD φs q (Vacant 0))
+
+good-cons : (count : ℕ) (φ : Phy) (φs : List Phy) → GoodPhy φ → GoodPhys count φs → GoodPhys (suc count) (φ ∷ φs)
+good-cons count φ φs g r = record { size = ap suc (r .size); all = go }
+  where
+    go : (q : ℕ) → GoodPhy (getD (φ ∷ φs) q (Vacant 0))
+    go zero = g
+    go (suc q) = r .all q
+
+phyUnit-good : (file : List ℕ) (own i p at : ℕ) (u : Parsed Phy) → phyUnit file own i p at ≡ good u → GoodPhy (u .value)
+unfolding phyUnit
+phyUnit-good file own i p at u e =
+    let a = unless-good (leb (at + 52) (length file)) (refusal 1 i p) _ u e in
+    let b = then-good (placed i p (discoverRead (take 52 (drop at file)))) _ u (a .1) in
+    let c = then-good (phyOf own i p (b .0)) _ u (b .2) in
+    subst (λ v. GoodPhy (v .value)) (good-one (parsed (c .0) (at + 52)) u (c .2)) (phyOf-good own i p (b .0) (c .0) (c .1))
+
+phyUnits-good : (file : List ℕ) (own i count p at : ℕ) (φs : Parsed (List Phy)) → phyUnits file own i count p at ≡ good φs → GoodPhys count (φs .value)
+unfolding phyUnits
+phyUnits-good file own i zero p at φs e =
+    subst (λ v. GoodPhys 0 (v .value)) (good-one (parsed [] at) φs e) (record { size = refl; all = λ q. no-phy 0 })
+phyUnits-good file own i (suc count) p at φs e =
+    let a = then-good (phyUnit file own i p at) _ φs e in
+    let b = then-good (phyUnits file own i count (p + 1) (a .0 .next)) _ φs (a .2) in
+    subst (λ v. GoodPhys (suc count) (v .value)) (good-one (parsed (a .0 .value ∷ b .0 .value) (b .0 .next)) φs (b .2))
+    (good-cons count (a .0 .value) (b .0 .value) (phyUnit-good file own i p at (a .0) (a .1))
+    (phyUnits-good file own i count (p + 1) (a .0 .next) (b .0) (b .1)))
+
+record GoodUnit (most : Limits) (seen : List ℕ) (u : ExpanderUnit) : Type 0 where
+  borne : u .address ≢ 0
+  new : ¬ (In (u .address) seen)
+  some : 1 ≤ u .phys
+  few : u .phys ≤ most .phys
+
+expanderUnit-good : (most : Limits) (file seen : List ℕ) (i at : ℕ) (u : Parsed ExpanderUnit) → expanderUnit most file seen i at ≡ good u
+    → GoodUnit most seen (u .value)
+unfolding expanderUnit
+expanderUnit-good most file seen i at u e =
+    let own = numberAt file at 8 in
+    let a = unless-good (leb (at + 36) (length file)) (refusal 1 i 0) _ u e in
+    let b = then-good (placed i 0 (generalRead (take 28 (drop (at + 8) file)))) _ u (a .1) in
+    let g = b .0 in
+    let c = unless-good (leb 1 (g .phys) && leb (g .phys) (most .phys)) (refusal 3 i 0) _ u (b .2) in
+    let f = unless-good (not (eqb own 0) && not (isIn own seen)) (refusal 4 i 0) _ u (c .1) in
+    let three = c .0 in
+    let v : ExpanderUnit = record { address = own; indexes = g .indexes; phys = g .phys; configurable = g .configurable } in
+    subst (λ v. GoodUnit most seen (v .value)) (good-one (parsed v (at + 36)) u (f .1)) (record {
+      borne = λ z. T-not (eqb own 0) (and-left (not (eqb own 0)) (not (isIn own seen)) (f .0)) (eq→eqb own 0 z);
+      new = λ h. T-not (isIn own seen) (and-right (not (eqb own 0)) (not (isIn own seen)) (f .0)) (search tests);
+      some = search (tests, leb→le);
+      few = search (tests, leb→le);
+    })
+
+-- the expanders that follow those with the addresses in `seen`
+record Rest (most : Limits) (seen : List ℕ) (count : ℕ) (d : Domain) : Type 0 where
+  size : length d ≡ count
+  borne : (j : ℕ) → j < length d → expanderAt d j .address ≢ 0
+  new : (j : ℕ) → j < length d → ¬ (In (expanderAt d j .address) seen)
+  number : (j : ℕ) → j < length d → numberOf d (expanderAt d j .address) ≡ j
+  some : (j : ℕ) → j < length d → 1 ≤ length (expanderAt d j .phys)
+  few : (j : ℕ) → length (expanderAt d j .phys) ≤ most .phys
+  phys : (j p : ℕ) → GoodPhy (phyAt d j p)
+
+no-rest : (most : Limits) (seen : List ℕ) → Rest most seen 0 []
+no-rest most seen = record {
+  size = refl;
+  borne = λ j h. absurd (omega arith);
+  new = λ j h. absurd (omega arith);
+  number = λ j h. absurd (omega arith);
+  some = λ j h. absurd (omega arith);
+  few = λ j. omega arith;
+  phys = λ j p. no-phy 0;
+}
+
+module _ (most : Limits) (seen : List ℕ) (count : ℕ) (u : ExpanderUnit) (φs : List Phy) (d : Domain) (g : GoodUnit most seen u) (s : GoodPhys (u .phys) φs)
+    (r : Rest most (seen ++ (u .address ∷ [])) count d) where
+  abbrev whole : Domain
+  whole = expanderOf u φs ∷ d
+
+  rest-borne : (j : ℕ) → j < length whole → expanderAt whole j .address ≢ 0
+  rest-borne zero h = g .borne
+  rest-borne (suc j) h = r .borne j (omega arith)
+
+  rest-new : (j : ℕ) → j < length whole → ¬ (In (expanderAt whole j .address) seen)
+  rest-new zero h = g .new
+  rest-new (suc j) h = λ k. r .new j (omega arith) (in-left seen (u .address ∷ []) (expanderAt d j .address) k)
+
+  rest-number : (j : ℕ) → j < length whole → numberOf whole (expanderAt whole j .address) ≡ j
+  unfolding numberOf
+  rest-number zero h = rw (is-true (eqb (u .address) (u .address)) (eq→eqb (u .address) (u .address) refl)) refl
+  rest-number (suc j) h =
+      let a = expanderAt d j .address in
+      let n : ¬ (T (eqb (u .address) a)) = λ t. r .new j (omega arith) (in-right seen (u .address ∷ []) a (inl (sym (eqb→eq (u .address) a t)))) in
+      rw (is-false (eqb (u .address) a) n) (ap suc (r .number j (omega arith)))
+
+  rest-some : (j : ℕ) → j < length whole → 1 ≤ length (expanderAt whole j .phys)
+  rest-some zero h = omega (arith, g .some, s .size)
+  rest-some (suc j) h = r .some j (omega arith)
+
+  rest-few : (j : ℕ) → length (expanderAt whole j .phys) ≤ most .phys
+  rest-few zero = omega (arith, g .few, s .size)
+  rest-few (suc j) = r .few j
+
+  rest-phys : (j p : ℕ) → GoodPhy (phyAt whole j p)
+  rest-phys zero p = s .all p
+  rest-phys (suc j) p = r .phys j p
+
+  rest-cons : (e : Domain) → _≡_ {A = Result Domain} (good whole) (good e) → Rest most seen (suc count) e
+  rest-cons e q =
+      subst (Rest most seen (suc count)) (good-one whole e q)
+      (record { size = ap suc (r .size); borne = rest-borne; new = rest-new; number = rest-number; some = rest-some; few = rest-few; phys = rest-phys })
+
+expanders-good : (most : Limits) (file : List ℕ) (count i at : ℕ) (seen : List ℕ) (d : Domain) → expanders most file count i at seen ≡ good d
+    → Rest most seen count d
+unfolding expanders
+expanders-good most file zero i at seen d e =
+    subst (Rest most seen 0) (good-one [] d (unless-good (eqb at (length file)) (refusal 1 i 0) _ d e .1)) (no-rest most seen)
+expanders-good most file (suc count) i at seen d e =
+    let a = then-good (expanderUnit most file seen i at) _ d e in
+    let u = a .0 .value in
+    let b = then-good (phyUnits file (u .address) i (u .phys) 0 (a .0 .next)) _ d (a .2) in
+    let c = then-good (expanders most file count (i + 1) (b .0 .next) (seen ++ (u .address ∷ []))) _ d (b .2) in
+    rest-cons most seen count u (b .0 .value) (c .0)
+    (expanderUnit-good most file seen i at (a .0) (a .1))
+    (phyUnits-good file (u .address) i (u .phys) 0 (a .0 .next) (b .0) (b .1))
+    (expanders-good most file count (i + 1) (b .0 .next) (seen ++ (u .address ∷ [])) (c .0) (c .1))
+    d (c .2)
+
+-- what causes 1 to 6 leave
+pub record Read (most : Limits) (d : Domain) : Type 0 where
+  pub some : 0 < length d
+  pub expanders : length d ≤ most .expanders
+  pub somePhys : (i : ℕ) → i < length d → 1 ≤ length (expanderAt d i .phys)
+  pub phys : (i : ℕ) → length (expanderAt d i .phys) ≤ most .phys
+  pub number : (i : ℕ) → i < length d → numberOf d (expanderAt d i .address) ≡ i
+  pub borne : (i : ℕ) → i < length d → expanderAt d i .address ≢ 0
+  pub plain : (i p : ℕ) → Plain (phyAt d i p)
+  pub attachedBorne : (i p : ℕ) → T (attached (phyAt d i p)) → addressOf (phyAt d i p) ≢ 0
+
+pub read-good : (most : Limits) (file : List ℕ) (d : Domain) → domainRead most file ≡ good d → Read most d
+unfolding domainRead
+read-good most file d e =
+    let a = unless-good (leb 2 (length file)) (refusal 1 0 0) _ d e in
+    let b = unless-good (eqb (byte file 0) 0x10) (refusal 2 0 0) _ d (a .1) in
+    let c = unless-good (leb 1 (byte file 1) && leb (byte file 1) (most .expanders)) (refusal 3 0 0) _ d (b .1) in
+    let three = c .0 in
+    let r = expanders-good most file (byte file 1) 0 2 [] d (c .1) in
+    let x : 1 ≤ byte file 1 = search (tests, leb→le) in
+    let y : byte file 1 ≤ most .expanders = search (tests, leb→le) in
+    record {
+      some = omega (arith, r .size);
+      expanders = omega (arith, r .size);
+      somePhys = r .some;
+      phys = r .few;
+      number = r .number;
+      borne = r .borne;
+      plain = λ i p. r .phys i p .plain;
+      attachedBorne = λ i p. r .phys i p .borne;
+    }
+
+-- what causes 1 to 6 leave of a file, in numbers
+pub some-expander : (file : List ℕ) (d : Domain) → domainRead limits file ≡ good d → 0 < length d
+some-expander file d e = read-good limits file d e .some
+
+pub few-expanders : (file : List ℕ) (d : Domain) → domainRead limits file ≡ good d → length d ≤ 64
+few-expanders file d e = read-good limits file d e .expanders
+
+pub few-phys : (file : List ℕ) (d : Domain) (i : ℕ) → domainRead limits file ≡ good d → length (expanderAt d i .phys) ≤ 128
+few-phys file d i e = read-good limits file d e .phys i
+
+-- a search over places that finds none
+pub firstIn-good : (k : ℕ) (test : ℕ → ℕ → Bool) (qs : List Place) (d e : Domain) → firstIn k test qs d ≡ good e
+    → (d ≡ e) × ((i p : ℕ) → In (place i p) qs → ¬ (T (test i p)))
+unfolding firstIn
+firstIn-good k test [] d e f = (good-one d e f, λ i p h. absurd h)
+firstIn-good k test (q ∷ qs) d e f = go (test (q .expander) (q .phy)) refl f (firstIn-good k test qs d e)
+  where
+    go : (b : Bool) → test (q .expander) (q .phy) ≡ b → cond b (refused (refusal k (q .expander) (q .phy))) (firstIn k test qs d) ≡ good e
+        → (firstIn k test qs d ≡ good e → (d ≡ e) × ((i p : ℕ) → In (place i p) qs → ¬ (T (test i p))))
+        → (d ≡ e) × ((i p : ℕ) → In (place i p) (q ∷ qs) → ¬ (T (test i p)))
+    go true o g r = absurd (not-good (refusal k (q .expander) (q .phy)) e g)
+    go false o g r =
+        let s = r g in
+        (s .0, λ i p. ⊎-elim (λ h t. subst T o (subst (λ v. T (test (v .expander) (v .phy))) h t)) (s .1 i p))
+
+pub good-firstIn : (k : ℕ) (test : ℕ → ℕ → Bool) (qs : List Place) (d : Domain) → ((i p : ℕ) → In (place i p) qs → ¬ (T (test i p)))
+    → firstIn k test qs d ≡ good d
+unfolding firstIn
+good-firstIn k test [] d f = refl
+good-firstIn k test (q ∷ qs) d f =
+    rw (is-false (test (q .expander) (q .phy)) (f (q .expander) (q .phy) (inl refl))) (good-firstIn k test qs d (λ i p h. f i p (inr h)))
+
+-- a search over the whole domain, with a test that holds of no phy past the end
+pub firstOf-good : (k : ℕ) (test : ℕ → ℕ → Bool) (d e : Domain) → ((i p : ℕ) → T (test i p) → p < length (expanderAt d i .phys))
+    → firstOf k test d ≡ good e → (d ≡ e) × ((i p : ℕ) → ¬ (T (test i p)))
+firstOf-good k test d e r f =
+    let g = firstIn-good k test (places d) d e f in
+    (g .0, λ i p t. g .1 i p (in-places d i p (r i p t)) t)
+
+pub good-firstOf : (k : ℕ) (test : ℕ → ℕ → Bool) (d : Domain) → ((i p : ℕ) → ¬ (T (test i p))) → firstOf k test d ≡ good d
+good-firstOf k test d f = good-firstIn k test (places d) d (λ i p h. f i p)
+
+-- causes 7 to 10 hold of no phy past the end
+unanswered-range : (d : Domain) (i p : ℕ) → T (unanswered d i p) → p < length (expanderAt d i .phys)
+unfolding unanswered
+unanswered-range d i p t = phy-range d toExpander i p (search tests) (λ u. u)
+
+claimed-range : (d : Domain) (i p : ℕ) → T (claimed d i p) → p < length (expanderAt d i .phys)
+unfolding claimed
+claimed-range d i p t = phy-range d toEnd i p (search tests) (λ u. u)
+
+clash-attached : (φ ψ : Phy) → T (clash φ ψ) → T (attached φ)
+unfolding clash
+clash-attached φ ψ t = search tests
+
+clashing-range : (d : Domain) (i p : ℕ) → T (clashing d i p) → p < length (expanderAt d i .phys)
+unfolding clashing
+clashing-range d i p t =
+    let r = of-any (clash (phyAt d i p)) (take p (expanderAt d i .phys)) t in
+    in-range d i p (clash-attached (phyAt d i p) (r .0) (r .2)) .1
+
+fixed-range : (d : Domain) (i p : ℕ) → T (fixed d i p) → p < length (expanderAt d i .phys)
+unfolding fixed
+fixed-range d i p t = routes-range d 2 i p (search tests) (omega arith)
+
+-- none of causes 7 to 10 holds of a phy
+pub record Passed (d : Domain) : Type 0 where
+  pub seven : (i p : ℕ) → ¬ (T (unanswered d i p))
+  pub eight : (i p : ℕ) → ¬ (T (claimed d i p))
+  pub nine : (i p : ℕ) → ¬ (T (clashing d i p))
+  pub ten : (i p : ℕ) → ¬ (T (fixed d i p))
+
+pub wired-passed : (d e : Domain) → wiredDomain d ≡ good e → (d ≡ e) × Passed d
+unfolding wiredDomain
+wired-passed d e f =
+    let a = then-good (firstOf 7 (unanswered d) d) _ e f in
+    let b = then-good (firstOf 8 (claimed d) d) _ e (a .2) in
+    let c = then-good (firstOf 9 (clashing d) d) _ e (b .2) in
+    let g = firstOf-good 10 (fixed d) d e (fixed-range d) (c .2) in (
+      g .0,
+      record {
+        seven = firstOf-good 7 (unanswered d) d (a .0) (unanswered-range d) (a .1) .1;
+        eight = firstOf-good 8 (claimed d) d (b .0) (claimed-range d) (b .1) .1;
+        nine = firstOf-good 9 (clashing d) d (c .0) (clashing-range d) (c .1) .1;
+        ten = g .1;
+      },
+    )
+
+pub passed-wired : (d : Domain) → Passed d → wiredDomain d ≡ good d
+unfolding wiredDomain
+passed-wired d s =
+    good-then (firstOf 7 (unanswered d) d) _ d d (good-firstOf 7 (unanswered d) d (s .seven))
+    (good-then (firstOf 8 (claimed d) d) _ d d (good-firstOf 8 (claimed d) d (s .eight))
+    (good-then (firstOf 9 (clashing d) d) _ d d (good-firstOf 9 (clashing d) d (s .nine)) (good-firstOf 10 (fixed d) d (s .ten))))
+
+-- a good result is the domain itself
+pub wired-same : (d e : Domain) → wiredDomain d ≡ good e → d ≡ e
+wired-same d e f = wired-passed d e f .0
+
+-- cause 9, two phys at a time
+clash-attribute : (φ ψ : Phy) → T (attached φ) → T (attached ψ) → addressOf φ ≡ addressOf ψ → attributeOf φ ≢ attributeOf ψ → T (clash φ ψ)
+unfolding clash
+clash-attribute φ ψ t u e n =
+    let other = not-T (eqb (attributeOf φ) (attributeOf ψ)) (λ o. n (eqb→eq (attributeOf φ) (attributeOf ψ) o)) in
+    rw (is-true (eqb (addressOf φ) (addressOf ψ)) (eq→eqb (addressOf φ) (addressOf ψ) e)) (search tests)
+
+clash-address : (φ ψ : Phy) → T (attached φ) → T (attached ψ) → T (routes 1 φ) → T (routes 1 ψ) → addressOf φ ≢ addressOf ψ → T (clash φ ψ)
+unfolding clash
+clash-address φ ψ t u x y n = rw (is-false (eqb (addressOf φ) (addressOf ψ)) (λ o. n (eqb→eq (addressOf φ) (addressOf ψ) o))) (search tests)
+
+clash-why : (φ ψ : Phy) → (T (attached φ) → T (attached ψ) → addressOf φ ≡ addressOf ψ → attributeOf φ ≡ attributeOf ψ)
+    → (T (attached φ) → T (attached ψ) → T (routes 1 φ) → T (routes 1 ψ) → addressOf φ ≡ addressOf ψ) → T (clash φ ψ) → ⊥
+unfolding clash
+clash-why φ ψ k o c = go (eqb (addressOf φ) (addressOf ψ)) refl (search tests)
+  where
+    t : T (attached φ)
+    t = search tests
+
+    u : T (attached ψ)
+    u = search tests
+
+    go : (b : Bool) → eqb (addressOf φ) (addressOf ψ) ≡ b → T (cond b (not (eqb (attributeOf φ) (attributeOf ψ))) (routes 1 φ && routes 1 ψ)) → ⊥
+    go true e v = T-not (eqb (attributeOf φ) (attributeOf ψ)) v (search (tests, k t u))
+    go false e v = subst T e (eq→eqb (addressOf φ) (addressOf ψ) (o t u (search tests) (search tests)))
+
+-- past causes 1 to 6, none of 7 to 10 holds of a phy exactly when the domain is wired
+module _ (most : Limits) (d : Domain) (g : Read most d) (s : Passed d) where
+  no-direct : (i p : ℕ) → T (toExpander (phyAt d i p)) → ¬ (T (routes 0 (phyAt d i p)))
+  unfolding unanswered
+  no-direct i p t u = s .seven i p (search tests)
+
+  named : (i p : ℕ) → T (toExpander (phyAt d i p)) → T (names (expanderAt d i .address) p (farPhy d (phyAt d i p)))
+  unfolding unanswered
+  named i p t = not-not (names (expanderAt d i .address) p (farPhy d (phyAt d i p))) (λ u. s .seven i p (search tests))
+
+  answered : (i p : ℕ) → T (toExpander (phyAt d i p)) → To d (numberOf d (addressOf (phyAt d i p))) (farOf (phyAt d i p)) i
+  answered i p t = let n = named i p t in record { expander = search tests; address = search tests }
+
+  named-back : (i p : ℕ) → T (toExpander (phyAt d i p)) → farOf (farPhy d (phyAt d i p)) ≡ p
+  named-back i p t = let n = named i p t in search tests
+
+  routed : (i p : ℕ) → T (toExpander (phyAt d i p)) → T (routes 1 (phyAt d i p)) ⊎ T (routes 2 (phyAt d i p))
+  routed i p t =
+      let a = attributeOf (phyAt d i p) in
+      let h = plain-attribute (phyAt d i p) (g .plain i p) (expander-attached (phyAt d i p) t) in
+      by-cases (ℕ-discrete a 1) (λ e. inl (eq→eqb a 1 e))
+      (λ k. by-cases (ℕ-discrete a 0) (λ e. absurd (no-direct i p t (eq→eqb a 0 e))) (λ l. inr (eq→eqb a 2 (omega arith))))
+
+  own-address : (i p j : ℕ) → T (toEnd (phyAt d i p)) → j < length d → addressOf (phyAt d i p) ≢ expanderAt d j .address
+  unfolding claimed
+  own-address i p j t h e =
+      let n = ap (numberOf d) e ∙ g .number j h in
+      let k = lt→ltb (numberOf d (addressOf (phyAt d i p))) (length d) (omega arith) in
+      s .eight i p (search tests)
+
+  not-earlier : (i p j q : ℕ) → T (toEnd (phyAt d i p)) → T (toEnd (phyAt d j q)) → addressOf (phyAt d i p) ≡ addressOf (phyAt d j q) → i < j → ⊥
+  unfolding claimed endAt
+  not-earlier i p j q t u e h =
+      let a = addressOf (phyAt d j q) in
+      let r = in-range d i p (end-attached (phyAt d i p) t) in
+      let m = in-getD (expanderAt d i .phys) (Vacant 0) p (r .1) in
+      let f = any-of (λ φ. toEnd φ && eqb (addressOf φ) a) (expanderAt d i .phys) (phyAt d i p) m (search tests) in
+      let k = any-of (endAt a) (take j d) (expanderAt d i) (in-take d noExpander i j h (r .0)) f in
+      s .eight j q (search tests)
+
+  no-clash : (i p q : ℕ) → q < p → T (clash (phyAt d i p) (phyAt d i q)) → ⊥
+  unfolding clashing
+  no-clash i p q h c =
+      let r = in-range d i p (clash-attached (phyAt d i p) (phyAt d i q) c) .1 in
+      s .nine i p
+      (any-of (clash (phyAt d i p)) (take p (expanderAt d i .phys)) (phyAt d i q) (in-take (expanderAt d i .phys) (Vacant 0) q p h (omega arith)) c)
+
+  -- two phys of one expander, of which either may be the lower
+  either : (i p q : ℕ) → T (clash (phyAt d i p) (phyAt d i q)) → T (clash (phyAt d i q) (phyAt d i p)) → p ≢ q → ⊥
+  either i p q a b n = by-cases (decLt q p) (λ h. no-clash i p q h a) (λ h. no-clash i q p (omega arith) b)
+
+  one-kind : (i p q : ℕ) → T (attached (phyAt d i p)) → T (attached (phyAt d i q)) → addressOf (phyAt d i p) ≡ addressOf (phyAt d i q)
+      → attributeOf (phyAt d i p) ≡ attributeOf (phyAt d i q)
+  one-kind i p q t u e = by-cases (ℕ-discrete (attributeOf (phyAt d i p)) (attributeOf (phyAt d i q))) (λ k. k)
+      (λ k. absurd (either i p q
+      (clash-attribute (phyAt d i p) (phyAt d i q) t u e k) (clash-attribute (phyAt d i q) (phyAt d i p) u t (sym e) (λ o. k (sym o)))
+      (λ o. k (ap (λ v. attributeOf (phyAt d i v)) o))))
+
+  one-way : (i p q : ℕ) → T (attached (phyAt d i p)) → T (attached (phyAt d i q)) → T (routes 1 (phyAt d i p)) → T (routes 1 (phyAt d i q))
+      → addressOf (phyAt d i p) ≡ addressOf (phyAt d i q)
+  one-way i p q t u x y = by-cases (ℕ-discrete (addressOf (phyAt d i p)) (addressOf (phyAt d i q))) (λ k. k)
+      (λ k. absurd (either i p q
+      (clash-address (phyAt d i p) (phyAt d i q) t u x y k) (clash-address (phyAt d i q) (phyAt d i p) u t y x (λ o. k (sym o)))
+      (λ o. k (ap (λ v. addressOf (phyAt d i v)) o))))
+
+  loadable : (i p : ℕ) → T (routes 2 (phyAt d i p)) → expanderAt d i .configurable ≢ 0
+  unfolding fixed
+  loadable i p t e = s .ten i p (search tests)
+
+  pub passed-wires : most .phys ≤ 255 → Wired d
+  passed-wires m = record {
+    number = g .number;
+    borne = g .borne;
+    few = λ i p t. let a = in-range d i p t .1 in let b = g .phys i in omega arith;
+    plain = g .plain;
+    attachedBorne = g .attachedBorne;
+    routing = routed;
+    answer = answered;
+    back = named-back;
+    apart = own-address;
+    onePlace = λ i p j q t u e. by-cases (ℕ-discrete i j) (λ k. k)
+        (λ k. absurd (by-cases (decLt i j) (not-earlier i p j q t u e) (λ n. not-earlier j q i p u t (sym e) (omega arith))));
+    kind = one-kind;
+    oneWay = one-way;
+    configured = loadable;
+  }
+
+-- the phy at which an expander has an end device
+pub end-at : (s : ℕ) (e : Expander) → T (endAt s e) → (p : ℕ) × T (toEnd (getD (e .phys) p (Vacant 0))) × (addressOf (getD (e .phys) p (Vacant 0)) ≡ s)
+unfolding endAt
+end-at s e t =
+    let f = of-any (λ φ. toEnd φ && eqb (addressOf φ) s) (e .phys) t in
+    let n = getD-in (e .phys) (Vacant 0) (f .0) (f .1) in
+    let z = subst (λ φ. T (toEnd φ && eqb (addressOf φ) s)) (sym (n .2)) (f .2) in
+    (n .0, search tests, search tests)
+
+module _ (d : Domain) (w : Wired d) where
+  answers : (i p : ℕ) → T (unanswered d i p) → ⊥
+  unfolding unanswered
+  answers i p t =
+      let u : T (toExpander (phyAt d i p)) = search tests in
+      let a = w .answer i p u in
+      let b = w .back i p u in
+      let φ = phyAt d i p in
+      let m = names (expanderAt d i .address) p (farPhy d φ) in
+      let v : T (routes 0 φ || not m) = search tests in
+      ⊎-elim
+      (λ z. ⊎-elim (λ o. let n = routes-one 0 1 φ z o in omega arith) (λ o. let n = routes-one 0 2 φ z o in omega arith) (w .routing i p u))
+      (λ z. T-not m z (search (tests, a .expander, a .address)))
+      (or-cases (routes 0 φ) (not m) v)
+
+  unclaimed : (i p : ℕ) → T (claimed d i p) → ⊥
+  unfolding claimed
+  unclaimed i p t =
+      let u : T (toEnd (phyAt d i p)) = search tests in
+      let a = addressOf (phyAt d i p) in
+      ⊎-elim
+      (λ v. let h = ltb→lt (numberOf d a) (length d) v in w .apart i p (numberOf d a) u h (sym (numberOf-is d a h)))
+      (λ v. let o = of-any (endAt a) (take i d) v in
+      let k = take-in i d noExpander (o .0) (o .1) in
+      let f = end-at a (expanderAt d (k .0)) (subst (λ e. T (endAt a e)) (sym (k .3)) (o .2)) in
+      omega (arith, k .1, w .onePlace (k .0) (f .0) i p (f .1) u (f .2)))
+      (or-cases (ltb (numberOf d a) (length d)) (any (endAt a) (take i d)) (search tests))
+
+  unclashing : (i p : ℕ) → T (clashing d i p) → ⊥
+  unfolding clashing
+  unclashing i p t =
+      let o = of-any (clash (phyAt d i p)) (take p (expanderAt d i .phys)) t in
+      let k = take-in p (expanderAt d i .phys) (Vacant 0) (o .0) (o .1) in
+      clash-why (phyAt d i p) (phyAt d i (k .0)) (w .kind i p (k .0)) (w .oneWay i p (k .0)) (subst (λ ψ. T (clash (phyAt d i p) ψ)) (sym (k .3)) (o .2))
+
+  unfixed : (i p : ℕ) → T (fixed d i p) → ⊥
+  unfolding fixed
+  unfixed i p t = w .configured i p (search tests) (search tests)
+
+  pub wires-passed : Passed d
+  wires-passed = record { seven = answers; eight = unclaimed; nine = unclashing; ten = unfixed }
+
+pub wired-iff : (most : Limits) (d : Domain) → Read most d → most .phys ≤ 255 → (wiredDomain d ≡ good d) ↔ Wired d
+wired-iff most d g m = (λ e. passed-wires most d g (wired-passed d d e .1) m, λ w. passed-wired d (wires-passed d w))
+
+-- a file past causes 1 to 10
+pub wired-read : (file : List ℕ) (d : Domain) → wired file ≡ good d → domainRead limits file ≡ good d
+wired-read file d e = let a = then-good (domainRead limits file) wiredDomain d e in a .1 ∙ ap good (wired-same (a .0) d (a .2))
+
+pub wired-domain : (file : List ℕ) (d : Domain) → wired file ≡ good d → wiredDomain d ≡ good d
+wired-domain file d e =
+    let a = then-good (domainRead limits file) wiredDomain d e in
+    subst (λ x. wiredDomain x ≡ good d) (wired-same (a .0) d (a .2)) (a .2)
+
+pub wired-wires : (file : List ℕ) (d : Domain) → wired file ≡ good d → Wired d
+wired-wires file d e = wired-iff limits d (read-good limits file d (wired-read file d e)) (omega arith) .0 (wired-domain file d e)
+
+-- causes 11 to 13
+pub record Linked (d : Domain) : Type 0 where
+  pub noLoop : ¬ (LoopIn d)
+  pub chained : (i : ℕ) → i < length d → (l : List ℕ) × ChainIn d 0 i l
+  pub noTables : (i p : ℕ) → T (toExpander (phyAt d i p)) → T (routes 2 (phyAt d i p)) → T (routes 2 (farPhy d (phyAt d i p))) → ⊥
+
+unlooped-good : (d e : Domain) → unlooped d ≡ good e → ¬ (LoopIn d)
+unfolding unlooped
+unlooped-good d e f =
+    loopfree-iff (length d) (neighbours d) (adj-symmetric d) .0 (unless-good (loopfree (length d) (neighbours d)) (refusal 11 0 0) (good d) e f .0)
+
+good-unlooped : (d : Domain) → ¬ (LoopIn d) → unlooped d ≡ good d
+unfolding unlooped
+good-unlooped d f =
+    good-unless (loopfree (length d) (neighbours d)) (refusal 11 0 0) (good d) (loopfree-iff (length d) (neighbours d) (adj-symmetric d) .1 f)
+
+pub joinedIn-good : (l : List ℕ) (d e : Domain) → joinedIn l d ≡ good e → (d ≡ e) × ((i : ℕ) → In i l → T (joined d i))
+unfolding joinedIn
+joinedIn-good [] d e f = (good-one d e f, λ i h. absurd h)
+joinedIn-good (j ∷ l) d e f = go (joined d j) refl f (joinedIn-good l d e)
+  where
+    go : (b : Bool) → joined d j ≡ b → cond b (joinedIn l d) (refused (refusal 12 j 0)) ≡ good e
+        → (joinedIn l d ≡ good e → (d ≡ e) × ((i : ℕ) → In i l → T (joined d i))) → (d ≡ e) × ((i : ℕ) → In i (j ∷ l) → T (joined d i))
+    go true q o r = let s = r o in (s .0, all-cons (λ v. T (joined d v)) j l (was-true (joined d j) q) (s .1))
+    go false q o r = absurd (not-good (refusal 12 j 0) e o)
+
+pub good-joinedIn : (l : List ℕ) (d : Domain) → ((i : ℕ) → In i l → T (joined d i)) → joinedIn l d ≡ good d
+unfolding joinedIn
+good-joinedIn [] d f = refl
+good-joinedIn (j ∷ l) d f = rw (is-true (joined d j) (f j (inl refl))) (good-joinedIn l d (λ i h. f i (inr h)))
+
+-- a chain joins an expander to expander 0 exactly when the test says so
+pub joined-iff : (d : Domain) (i : ℕ) → i < length d → T (joined d i) ↔ ((l : List ℕ) × ChainIn d 0 i l)
+unfolding joined
+joined-iff d i h = reached-iff (length d) (neighbours d) 0 i (omega arith)
+
+tables-range : (d : Domain) (i p : ℕ) → T (tableToTable d i p) → p < length (expanderAt d i .phys)
+unfolding tableToTable
+tables-range d i p t = phy-range d toExpander i p (search tests) (λ u. u)
+
+linked-links : (d e : Domain) → linkedDomain d ≡ good e → (d ≡ e) × Linked d
+unfolding linkedDomain tableToTable
+linked-links d e f =
+    let a = then-good (unlooped d) _ e f in
+    let b = then-good (joinedIn (upTo (length d)) d) _ e (a .2) in
+    let c = firstOf-good 13 (tableToTable d) d e (tables-range d) (b .2) in (
+      c .0,
+      record {
+        noLoop = unlooped-good d (a .0) (a .1);
+        chained = λ i h. joined-iff d i h .0 (joinedIn-good (upTo (length d)) d (b .0) (b .1) .1 i (in-upTo (length d) i h));
+        noTables = λ i p t u v. c .1 i p (search tests);
+      },
+    )
+
+links-linked : (d : Domain) → Linked d → linkedDomain d ≡ good d
+unfolding linkedDomain tableToTable
+links-linked d r =
+    good-then (unlooped d) _ d d (good-unlooped d (r .noLoop))
+    (good-then (joinedIn (upTo (length d)) d) _ d d
+    (good-joinedIn (upTo (length d)) d (λ i h. let k = numbers-below (length d) i h in joined-iff d i k .1 (r .chained i k)))
+    (good-firstOf 13 (tableToTable d) d (λ i p t. r .noTables i p (search tests) (search tests) (search tests))))
+
+pub linked-iff : (d : Domain) → (linkedDomain d ≡ good d) ↔ Linked d
+linked-iff d = (λ e. linked-links d d e .1, links-linked d)
+
+pub linked-same : (d e : Domain) → linkedDomain d ≡ good e → d ≡ e
+linked-same d e f = linked-links d e f .0

@@ -1,0 +1,67 @@
+-- The outcomes of the checks in order, and of the wiring call.
+use Prim.Native.Nat.{ℕ, _+_, _≤_, _<_}
+use mathlib.Core.Path.{_≡_, refl, sym, _∙_, ap}
+use mathlib.Core.Bool.{true, false}
+use mathlib.Core.List.{List, _++_, map}
+use native.Mathlib.Omega.{arith}
+use lib.ListN.{length, getD, drop, length-append, List·getD-append}
+use lib.Dec.{leb}
+use borrow.Author.Tests.{le-leb, lt-leb}
+use Rattle.frames.specs.Refusals.{Result, refused, good, unless, then, refusal}
+use Rattle.frames.specs.declared.Refusal.{Refusal}
+use Rattle.wiring.specs.declared.Wiring.{Wiring}
+use Rattle.wiring.specs.declared.Wiring.the-variants.{Refused, Bits}
+use Rattle.wiring.specs.Lists.{numbers, upTo}
+use Rattle.wiring.specs.Domain.{Domain}
+use Rattle.wiring.specs.Causes.{firstOf, wiredDomain}
+use Rattle.wiring.specs.Graph.{loopfree}
+use Rattle.wiring.specs.Neighbours.{neighbours, neighbourWord, neighbourWords, bitsIn, wordsFor, wordsAfter, wiringCall, WiringDone}
+use Rattle.wiring.specs.File.{limits, domainRead}
+use Rattle.wiring.specs.Links.{unlooped, joinedIn, tableToTable, linkedDomain}
+use Rattle.wiring.specs.Rounds.{Held}
+use Rattle.wiring.proofs.NeighbourWords.{getD-numbers, length-words}
+
+-- the neighbour words at the front of lent words
+pub held : (d : Domain) (words rest : List ℕ) → words ≡ neighbourWords d ++ rest → Held d words
+unfolding neighbourWords
+held d words rest e =
+    let l : length (neighbourWords d) ≡ length d = length-words d in
+    record {
+      enough = let m = ap length e ∙ length-append (neighbourWords d) rest in omega arith;
+      word = λ v h. ap (λ s. getD s v 0) e ∙ List·getD-append (neighbourWords d) rest 0 v (omega arith) ∙ getD-numbers (neighbourWord d) (length d) v h;
+    }
+
+pub wiring-refused : (room : ℕ) (before : List ℕ) (r : Refusal) (x : Result Domain) → x ≡ refused r → WiringDone (then x (wordsFor room)) (Refused r) before before
+wiring-refused room before r x e = rw e (record { answers = refl; words = refl })
+
+module _ (d : Domain) where
+  -- causes 11 to 13
+  pub links-loop : loopfree (length d) (neighbours d) ≡ false → linkedDomain d ≡ refused (refusal 11 0 0)
+  unfolding linkedDomain unlooped
+  links-loop q = rw q
+
+  pub links-joined : (x : Result Domain) → loopfree (length d) (neighbours d) ≡ true → joinedIn (upTo (length d)) d ≡ x
+      → linkedDomain d ≡ then x (λ _. firstOf 13 (tableToTable d) d)
+  unfolding linkedDomain unlooped
+  links-joined x q e = rw (q, e)
+
+  -- the wiring call past causes 1 to 6
+  module _ (room : ℕ) (before : List ℕ) where
+    pub wiring-short : (x : Result Domain) → x ≡ good d → room < length d → WiringDone (then x (wordsFor room)) (Refused (refusal 16 0 0)) before before
+    wiring-short x e h = rw (e, lt-leb (length d) room h) (record { answers = refl; words = refl })
+
+    pub wiring-done : (x : Result Domain) (n : ℕ) (after : List ℕ) → x ≡ good d → length d ≤ room → n ≡ bitsIn (neighbourWords d)
+        → after ≡ neighbourWords d ++ drop (length d) before → WiringDone (then x (wordsFor room)) (Bits n) before after
+    wiring-done x n after e h q w =
+        rw (e, le-leb (length d) room h)
+        (record { answers = ap good q; words = w ∙ ap (λ (m : ℕ). neighbourWords d ++ drop m before) (sym (length-words d)) })
+
+-- the wiring call on a file
+pub wire-refused : (file before : List ℕ) (r : Refusal) → domainRead limits file ≡ refused r → WiringDone (wiringCall file (length before)) (Refused r) before before
+unfolding wiringCall
+wire-refused file before r e = rw e (record { answers = refl; words = refl })
+
+pub wire-done : (file before after : List ℕ) (d : Domain) (answer : Wiring) → domainRead limits file ≡ good d
+    → WiringDone (then (wiredDomain d) (wordsFor (length before))) answer before after → WiringDone (wiringCall file (length before)) answer before after
+unfolding wiringCall
+wire-done file before after d answer e w = rw e w

@@ -1,0 +1,129 @@
+-- Any words seen as a domain: what stands where.
+use Prim.Native.Nat.{ℕ, zero, suc, _+_, _*_, _/_, _%_, _≤_, _<_, min}
+use mathlib.Core.Path.{_≡_, refl, sym, _∙_, ap, subst}
+use mathlib.Core.List.{List, [], _∷_}
+use native.Mathlib.Omega.{arith}
+use native.Mathlib.Nat.{add-zero}
+use native.Mathlib.Numerals.{add-one}
+use lib.ListN.{length, getD, drop, drop-of-length-le, List·getD-eq-default}
+use lib.Seq.{getD-drop, drop-drop, drop-cons}
+use lib.Dec.{eqb}
+use borrow.Author.Tests.{eq-eqb, ne-eqb}
+use mathlib.Core.Bool.{Bool, true, false, cond}
+use Rattle.wiring.specs.declared.Phy.the-variants.{Vacant}
+use Rattle.wiring.specs.Domain.{Domain, Expander, noExpander, expanderAt, phyAt, numberOf}
+use Rattle.wiring.specs.Rows.{phyIn, physIn, rowIn, rowsIn, domainIn}
+use Rattle.wiring.specs.Checks.{HeadIn}
+
+length-rowsIn : (k : ℕ) (ws : List ℕ) → length (rowsIn k ws) ≡ k
+unfolding rowsIn
+length-rowsIn zero ws = refl
+length-rowsIn (suc k) ws = ap suc (length-rowsIn k (drop 258 ws))
+
+length-physIn : (k : ℕ) (ws : List ℕ) → length (physIn k ws) ≡ k
+unfolding physIn
+length-physIn zero ws = refl
+length-physIn (suc k) ws = ap suc (length-physIn k (drop 2 ws))
+
+expander-in : (k : ℕ) (ws : List ℕ) (i : ℕ) → i < k → getD (rowsIn k ws) i noExpander ≡ rowIn (drop (258 * i) ws)
+unfolding rowsIn
+expander-in zero ws i h = absurd (omega arith)
+expander-in (suc k) ws zero h = refl
+expander-in (suc k) ws (suc i) h =
+    let e : 258 + 258 * i ≡ 258 * suc i = omega arith in
+    expander-in k (drop 258 ws) i (omega arith) ∙ ap rowIn (drop-drop (258 * i) 258 ws ∙ ap (λ (x : ℕ). drop x ws) e)
+
+phy-in : (k : ℕ) (ws : List ℕ) (p : ℕ) → p < k → getD (physIn k ws) p (Vacant 0) ≡ phyIn (getD ws (2 * p) 0) (getD ws (2 * p + 1) 0)
+unfolding physIn
+phy-in zero ws p h = absurd (omega arith)
+phy-in (suc k) ws zero h = refl
+phy-in (suc k) ws (suc p) h =
+    let a : 2 + 2 * p ≡ 2 * suc p = omega arith in
+    let b : 2 + (2 * p + 1) ≡ 2 * suc p + 1 = omega arith in
+    phy-in k (drop 2 ws) p (omega arith) ∙ rw (getD-drop 2 ws (2 * p) 0, getD-drop 2 ws (2 * p + 1) 0, a, b)
+
+pub count-of : (ws : List ℕ) → length (domainIn ws) ≡ min 64 (length ws / 258)
+unfolding domainIn
+count-of ws = length-rowsIn (min 64 (length ws / 258)) ws
+
+module _ (ws : List ℕ) (i : ℕ) where
+  pub no-expander : length (domainIn ws) ≤ i → expanderAt (domainIn ws) i ≡ noExpander
+  no-expander h = List·getD-eq-default (domainIn ws) noExpander h
+
+  row-at : i < length (domainIn ws) → expanderAt (domainIn ws) i ≡ rowIn (drop (258 * i) ws)
+  unfolding domainIn
+  row-at h = expander-in (min 64 (length ws / 258)) ws i (subst (λ (n : ℕ). i < n) (count-of ws) h)
+
+  second : getD (drop (258 * i) ws) 1 0 ≡ getD ws (258 * i + 1) 0
+  second = getD-drop (258 * i) ws 1 0
+
+  pub address-in : i < length (domainIn ws) → expanderAt (domainIn ws) i .address ≡ getD ws (258 * i) 0
+  unfolding rowIn
+  address-in h = ap (λ (e : Expander). e .address) (row-at h) ∙ getD-drop (258 * i) ws 0 0 ∙ rw add-zero
+
+  pub head-in : i < length (domainIn ws) → HeadIn (domainIn ws) i (getD ws (258 * i + 1) 0)
+  unfolding rowIn
+  head-in h =
+      let e = row-at h in
+      record {
+        indexes = sym (ap (λ (x : Expander). x .indexes) e ∙ rw second);
+        phys = sym (ap (λ (x : Expander). length (x .phys)) e ∙ length-physIn _ (drop 2 (drop (258 * i) ws)) ∙ rw second);
+        configurable = sym (ap (λ (x : Expander). x .configurable) e ∙ rw second);
+      }
+
+  pub no-head : length (domainIn ws) ≤ i → HeadIn (domainIn ws) i 0
+  no-head h =
+      let e = no-expander h in
+      record {
+        indexes = sym (ap (λ (x : Expander). x .indexes) e);
+        phys = sym (ap (λ (x : Expander). length (x .phys)) e);
+        configurable = sym (ap (λ (x : Expander). x .configurable) e);
+      }
+
+  pub no-phy : (p : ℕ) → length (expanderAt (domainIn ws) i .phys) ≤ p → phyAt (domainIn ws) i p ≡ Vacant 0
+  no-phy p h = List·getD-eq-default (expanderAt (domainIn ws) i .phys) (Vacant 0) h
+
+  phy-of-row : (p : ℕ) → i < length (domainIn ws) → p < length (expanderAt (domainIn ws) i .phys)
+      → phyAt (domainIn ws) i p ≡ phyIn (getD ws (258 * i + 2 + 2 * p) 0) (getD ws (258 * i + 2 + 2 * p + 1) 0)
+  unfolding rowIn
+  phy-of-row p h l =
+      let r : List ℕ = drop (258 * i) ws in
+      let m : p < min 128 (getD ws (258 * i + 1) 0 / 65536 % 256) = subst (λ (n : ℕ). p < n) (sym (head-in h .phys)) l in
+      let a : 258 * i + (2 + 2 * p) ≡ 258 * i + 2 + 2 * p = omega arith in
+      let b : 258 * i + (2 + (2 * p + 1)) ≡ 258 * i + 2 + 2 * p + 1 = omega arith in
+      ap (λ (e : Expander). getD (e .phys) p (Vacant 0)) (row-at h)
+      ∙ phy-in (min 128 (getD r 1 0 / 65536 % 256)) (drop 2 r) p (rw second m)
+      ∙ rw (getD-drop 2 r (2 * p) 0, getD-drop 2 r (2 * p + 1) 0, getD-drop (258 * i) ws (2 + 2 * p) 0, getD-drop (258 * i) ws (2 + (2 * p + 1)) 0, a, b)
+
+-- an expander with phys is in the domain
+pub in-range : (d : Domain) (i p : ℕ) → p < length (expanderAt d i .phys) → i < length d
+in-range [] i p h = absurd (omega arith)
+in-range (e ∷ d) zero p h = omega arith
+in-range (e ∷ d) (suc i) p h = let l = in-range d i p h in omega arith
+
+pub phy-at-in : (ws : List ℕ) (i p : ℕ) → p < length (expanderAt (domainIn ws) i .phys)
+    → phyAt (domainIn ws) i p ≡ phyIn (getD ws (258 * i + 2 + 2 * p) 0) (getD ws (258 * i + 2 + 2 * p + 1) 0)
+phy-at-in ws i p h = phy-of-row ws i p (in-range (domainIn ws) i p h) h
+
+-- the search for an address
+cons-at : (d : Domain) (i : ℕ) → i < length d → drop i d ≡ expanderAt d i ∷ drop (i + 1) d
+cons-at d i h = rw add-one (drop-cons d i noExpander h)
+
+module _ (d : Domain) (i s : ℕ) {v : ℕ} (inv : i + numberOf (drop i d) s ≡ v) where
+  number-next : (b : Bool) → i < length d → eqb (expanderAt d i .address) s ≡ b → numberOf (drop i d) s ≡ cond b 0 (suc (numberOf (drop (i + 1) d) s))
+  unfolding numberOf
+  number-next b h q = rw (cons-at d i h, q)
+
+  pub number-stop : expanderAt d i .address ≡ s → i < length d → i ≡ v
+  number-stop q h = let e = number-next true h (eq-eqb _ _ q) in omega arith
+
+  pub number-go : (expanderAt d i .address ≡ s → ⊥) → i < length d → i + 1 + numberOf (drop (i + 1) d) s ≡ v
+  number-go q h = let e = number-next false h (ne-eqb _ _ q) in omega arith
+
+  pub number-end : length d ≤ i → i ≡ v
+  unfolding numberOf
+  number-end h = let e : numberOf (drop i d) s ≡ 0 = rw (drop-of-length-le d h) in omega arith
+
+-- any words are a domain of at most 64 expanders
+pub domain-few : (ws : List ℕ) → length (domainIn ws) ≤ 64
+domain-few ws = let e = count-of ws in omega arith

@@ -1,0 +1,149 @@
+-- Reading a file unit by unit: one turn of each loop, and its end.
+use Prim.Native.Nat.{ℕ, suc, _+_, _-_, _≤_, _<_}
+use mathlib.Core.Path.{_≡_, refl, sym, _∙_, ap}
+use mathlib.Core.Bool.{Bool, true, false, _||_}
+use mathlib.Core.List.{List, [], _∷_, _++_}
+use native.Mathlib.Omega.{arith}
+use native.Mathlib.Numerals.{add-one}
+use native.Mathlib.Nat.{zero-add}
+use lib.ListN.{length, getD, take, drop, set, drop-of-length-le}
+use lib.Seq.{drop-cons, take-suc-set}
+use lib.Dec.{eqb}
+use borrow.Author.Tests.{eq-eqb, ne-eqb}
+use Rattle.frames.specs.Refusals.{Result, refused, good, then, refusal}
+use Rattle.frames.specs.declared.Refusal.{Refusal}
+use Rattle.wiring.specs.declared.Limits.{Limits}
+use Rattle.wiring.specs.declared.ExpanderUnit.{ExpanderUnit}
+use Rattle.wiring.specs.declared.Phy.{Phy}
+use Rattle.wiring.specs.Lists.{any, isIn}
+use Rattle.wiring.specs.Domain.{Expander, Domain}
+use Rattle.wiring.specs.File.{Parsed, parsed, phyUnit, phyUnits, expanderUnit, expanderOf, expanders}
+use Rattle.wiring.specs.Rows.{countOf}
+use Rattle.wiring.specs.Units.{physNext, expanderChecked}
+use Rattle.wiring.proofs.Results.{never}
+
+-- a number among those that are left
+module _ (a i : ℕ) (s : List ℕ) where
+  in-next : (b : Bool) → i < length s → eqb a (getD s i 0) ≡ b → isIn a (drop i s) ≡ (b || isIn a (drop (i + 1) s))
+  unfolding isIn any
+  in-next b h q = rw (drop-cons s i 0 h, add-one, q)
+
+  in-none : length s ≤ i → isIn a (drop i s) ≡ false
+  unfolding isIn any
+  in-none h = simp (drop-of-length-le s h)
+
+  -- a turn of the loop that finds it, one that goes on, and the end
+  module _ {v : Bool} (inv : isIn a (drop i s) ≡ v) where
+    pub in-stop : a ≡ getD s i 0 → i < length s → true ≡ v
+    in-stop e h = sym (in-next true h (eq-eqb _ _ e)) ∙ inv
+
+    pub in-go : (a ≡ getD s i 0 → ⊥) → i < length s → isIn a (drop (i + 1) s) ≡ v
+    in-go e h = sym (in-next false h (ne-eqb _ _ e)) ∙ inv
+
+    pub in-end : length s ≤ i → false ≡ v
+    in-end h = sym (in-none h) ∙ inv
+
+next-more : (φ : Phy) (r : Result (Parsed (List Phy))) → physNext (then r (λ us. good (parsed (φ ∷ us .value) (us .next)))) ≡ physNext r
+next-more φ (refused r) = refl
+next-more φ (good us) = refl
+
+-- the phys that are left
+module _ (file : List ℕ) (own i n p at : ℕ) where
+  phys-next : (u : Result (Parsed Phy)) → phyUnit file own i p at ≡ u → p < n
+      → phyUnits file own i (n - p) p at
+      ≡ then u (λ u. then (phyUnits file own i (n - (p + 1)) (p + 1) (u .next)) (λ us. good (parsed (u .value ∷ us .value) (us .next))))
+  unfolding phyUnits
+  phys-next u q h = let e : n - p ≡ suc (n - (p + 1)) = omega arith in simp (e, q)
+
+  phys-none : n ≤ p → phyUnits file own i (n - p) p at ≡ good (parsed [] at)
+  unfolding phyUnits
+  phys-none h = let e : n - p ≡ 0 = omega arith in rw e
+
+  module _ {v : Result ℕ} (inv : physNext (phyUnits file own i (n - p) p at) ≡ v) where
+    pub phys-stop : {r : Refusal} → phyUnit file own i p at ≡ refused r → p < n → refused r ≡ v
+    phys-stop q h = sym (ap physNext (phys-next _ q h)) ∙ inv
+
+    pub phys-go : {φ : Phy} {next : ℕ} → phyUnit file own i p at ≡ good (parsed φ next) → p < n → physNext (phyUnits file own i (n - (p + 1)) (p + 1) next) ≡ v
+    phys-go {φ} {next} q h = sym (ap physNext (phys-next _ q h) ∙ next-more φ (phyUnits file own i (n - (p + 1)) (p + 1) next)) ∙ inv
+
+    pub phys-end : n ≤ p → good at ≡ v
+    phys-end h = sym (ap physNext (phys-none h)) ∙ inv
+
+-- the number of expanders, i of them read before
+abbrev pub countFrom : ℕ → Domain → Result ℕ
+countFrom i d = good (i + length d)
+
+pub count-all : (r : Result Domain) → then r (countFrom 0) ≡ then r countOf
+count-all (refused r) = refl
+count-all (good d) = ap good (zero-add (length d))
+
+count-more : (i : ℕ) (e : Expander) (r : Result Domain) → then (then r (λ d. good (e ∷ d))) (countFrom i) ≡ then r (countFrom (i + 1))
+count-more i e (refused r) = refl
+count-more i e (good d) = ap good (omega arith)
+
+-- one expander and those after it: `after` reads these, from a place and an address on
+module _ (i : ℕ) (after : ℕ → ℕ → Result Domain) where
+  abbrev phys-whole : ExpanderUnit → Result (Parsed (List Phy)) → Result Domain
+  phys-whole u y = then y (λ φs. then (after (φs .next) (u .address)) (λ d. good (expanderOf u (φs .value) ∷ d)))
+
+  stop-phys : (u : ExpanderUnit) (y : Result (Parsed (List Phy))) (r : Refusal) → then (physNext y) (λ next. good (parsed u next)) ≡ refused r
+      → then (phys-whole u y) (countFrom i) ≡ refused r
+  stop-phys u (refused q) r e = cc
+  stop-phys u (good φs) r e = never r (parsed u (φs .next)) (sym e)
+
+  go-phys : (u h : ExpanderUnit) (next : ℕ) (y : Result (Parsed (List Phy))) → then (physNext y) (λ next. good (parsed u next)) ≡ good (parsed h next)
+      → then (phys-whole u y) (countFrom i) ≡ then (after next (h .address)) (countFrom (i + 1))
+  go-phys u h next (refused q) e = never q (parsed h next) e
+  go-phys u h next (good φs) e =
+      let q : parsed u (φs .next) ≡ parsed h next = cc in
+      let a : u ≡ h = ap (λ (z : Parsed ExpanderUnit). z .value) q in
+      let b : φs .next ≡ next = ap (λ (z : Parsed ExpanderUnit). z .next) q in
+      rw (a, b) (count-more i (expanderOf h (φs .value)) (after next (h .address)))
+
+  module _ (phys : Parsed ExpanderUnit → Result (Parsed (List Phy))) where
+    stop-unit : (x : Result (Parsed ExpanderUnit)) (r : Refusal) → then x (λ u. then (physNext (phys u)) (λ next. good (parsed (u .value) next))) ≡ refused r
+        → then (then x (λ u. phys-whole (u .value) (phys u))) (countFrom i) ≡ refused r
+    stop-unit (refused q) r e = cc
+    stop-unit (good u) r e = stop-phys (u .value) (phys u) r e
+
+    go-unit : (x : Result (Parsed ExpanderUnit)) (h : ExpanderUnit) (next : ℕ)
+        → then x (λ u. then (physNext (phys u)) (λ next. good (parsed (u .value) next))) ≡ good (parsed h next)
+        → then (then x (λ u. phys-whole (u .value) (phys u))) (countFrom i) ≡ then (after next (h .address)) (countFrom (i + 1))
+    go-unit (refused q) h next e = never q (parsed h next) e
+    go-unit (good u) h next e = go-phys (u .value) h next (phys u) e
+
+-- the expanders that are left
+module _ (most : Limits) (file : List ℕ) (n i at : ℕ) (seen : List ℕ) where
+  module _ {v : Result ℕ} (inv : then (expanders most file (n - i) i at seen) (countFrom i) ≡ v) where
+    pub expander-stop : {r : Refusal} → expanderChecked most file seen i at ≡ refused r → i < n → refused r ≡ v
+    unfolding expanders expanderChecked
+    expander-stop {r} q h =
+        let e : n - i ≡ suc (n - (i + 1)) = omega arith in
+        let inv′ = rw e at inv in
+        sym (stop-unit i (λ next own. expanders most file (n - (i + 1)) (i + 1) next (seen ++ (own ∷ [])))
+        (λ u. phyUnits file (u .value .address) i (u .value .phys) 0 (u .next)) (expanderUnit most file seen i at) r q) ∙ inv′
+
+    pub expander-go : {h : ExpanderUnit} {next : ℕ} → expanderChecked most file seen i at ≡ good (parsed h next) → i < n
+        → then (expanders most file (n - (i + 1)) (i + 1) next (seen ++ (h .address ∷ []))) (countFrom (i + 1)) ≡ v
+    unfolding expanders expanderChecked
+    expander-go {h} {next} q l =
+        let e : n - i ≡ suc (n - (i + 1)) = omega arith in
+        let inv′ = rw e at inv in
+        sym (go-unit i (λ next own. expanders most file (n - (i + 1)) (i + 1) next (seen ++ (own ∷ [])))
+        (λ u. phyUnits file (u .value .address) i (u .value .phys) 0 (u .next)) (expanderUnit most file seen i at) h next q) ∙ inv′
+
+    pub expanders-end : n ≡ i → at ≡ length file → good n ≡ v
+    unfolding expanders
+    expanders-end e a =
+        let z : n - i ≡ 0 = omega arith in
+        let k : i + 0 ≡ n = omega arith in
+        sym (simp (z, eq-eqb _ _ a, k)) ∙ inv
+
+    pub expanders-more : n ≡ i → (at ≡ length file → ⊥) → refused (refusal 1 n 0) ≡ v
+    unfolding expanders
+    expanders-more e a =
+        let z : n - i ≡ 0 = omega arith in
+        sym (simp (z, ne-eqb _ _ a) (ap (λ (k : ℕ). refused (refusal 1 k 0)) (sym e))) ∙ inv
+
+pub take-next : (s : List ℕ) (i a : ℕ) → i < length s → take (i + 1) (set s i a) ≡ take i s ++ (a ∷ [])
+take-next s i a h = rw (add-one, take-suc-set s i a h)

@@ -1,0 +1,36 @@
+-- What holds of all that a call yields, where it is not refused.
+use Prim.Native.Nat.{ℕ}
+use mathlib.Core.Path.{_≡_, refl, subst}
+use mathlib.Core.Bool.{Bool, true, false, _&&_}
+use native.Mathlib.Omega.{arith}
+use Rattle.frames.specs.Refusals.{Result, refused, good, unless, then}
+use Rattle.frames.specs.declared.Refusal.{Refusal}
+
+-- nothing is both refused and good
+pub never : {A B : Type 0} (r : Refusal) (a : A) → refused r ≡ good a → B
+never r a q = let z : _≡_ {A = ℕ} 0 1 = cc in absurd (omega arith)
+
+module _ {A : Type 0} where
+  abbrev pub Holds : (A → Type 0) → Result A → Type 0
+  Holds P (refused r) = Unit {0}
+  Holds P (good a) = P a
+
+  pub held : (P : A → Type 0) (x : Result A) (a : A) → Holds P x → x ≡ good a → P a
+  held P x a h q = subst (Holds P) q h
+
+  pub yields : (P : A → Type 0) (x : Result A) → ((a : A) → x ≡ good a → P a) → Holds P x
+  yields P (refused r) h = tt
+  yields P (good a) h = h a refl
+
+  pub unless-holds : (P : A → Type 0) (b : Bool) (r : Refusal) (x : Result A) → (b ≡ true → Holds P x) → Holds P (unless b r x)
+  unless-holds P true r x h = h refl
+  unless-holds P false r x h = tt
+
+pub then-holds : {A B : Type 0} (P : B → Type 0) (x : Result A) (k : A → Result B) → ((a : A) → x ≡ good a → Holds P (k a)) → Holds P (then x k)
+then-holds P (refused r) k h = tt
+then-holds P (good a) k h = h a refl
+
+-- both tests hold
+pub both : (a b : Bool) → (a && b) ≡ true → (a ≡ true) × (b ≡ true)
+both true b q = (refl, q)
+both false b q = let z : _≡_ {A = ℕ} 0 1 = cc in absurd (omega arith)

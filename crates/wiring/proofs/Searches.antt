@@ -1,0 +1,115 @@
+-- Searches, turn by turn: a test over a list, and the first place at which a test holds. `inv` is the loop's invariant.
+use Prim.Native.Nat.{ℕ, zero, suc, _+_, _-_, _≤_, _<_}
+use mathlib.Core.Path.{_≡_, refl, sym, _∙_, ap}
+use mathlib.Core.Bool.{Bool, true, false, cond, _||_, _&&_}
+use mathlib.Core.List.{List, [], _∷_, _++_}
+use native.Mathlib.Omega.{arith}
+use native.Mathlib.Numerals.{add-one}
+use lib.ListN.{length, getD, drop, drop-of-length-le}
+use lib.Seq.{drop-cons}
+use Rattle.frames.specs.Refusals.{Result, refused, good, then, refusal}
+use Rattle.wiring.specs.declared.Check.{Check}
+use Rattle.wiring.specs.declared.Phy.{Phy}
+use Rattle.wiring.specs.declared.Phy.the-variants.{Vacant}
+use Rattle.wiring.specs.Lists.{any}
+use Rattle.wiring.specs.Domain.{Domain, noExpander, expanderAt, attached}
+use Rattle.wiring.specs.Causes.{endAt, clash, Place, phyPlaces, placesFrom, firstIn, firstOf, wiredDomain}
+use Rattle.wiring.specs.Checks.{checkAnswer, causeOf}
+
+-- one turn of `any`, also past the end, where the default fails the test
+module _ {A : Type 0} (f : A → Bool) (e : A) where
+  any-next : (xs : List A) (p : ℕ) → f e ≡ false → any f (drop p xs) ≡ (f (getD xs p e) || any f (drop (suc p) xs))
+  unfolding any
+  any-next [] zero q = rw q
+  any-next [] (suc p) q = rw q
+  any-next (x ∷ xs) zero q = refl
+  any-next (x ∷ xs) (suc p) q = any-next xs p q
+
+  any-skip : (xs : List A) (p : ℕ) → f (getD xs p e) ≡ false → any f (drop p xs) ≡ any f (drop (suc p) xs)
+  unfolding any
+  any-skip [] zero q = refl
+  any-skip [] (suc p) q = refl
+  any-skip (x ∷ xs) zero q = rw q
+  any-skip (x ∷ xs) (suc p) q = any-skip xs p q
+
+module _ {A : Type 0} (f : A → Bool) (e : A) (xs : List A) (p : ℕ) {v : Bool} (inv : any f (drop p xs) ≡ v) where
+  pub any-stop : f (getD xs p e) ≡ true → f e ≡ false → true ≡ v
+  any-stop q n = sym (any-next f e xs p n ∙ rw q) ∙ inv
+
+  pub any-go : f (getD xs p e) ≡ false → any f (drop (p + 1) xs) ≡ v
+  any-go q = rw add-one (sym (any-skip f e xs p q) ∙ inv)
+
+  pub any-end : length xs ≤ p → false ≡ v
+  unfolding any
+  any-end h = sym (ap (any f) (drop-of-length-le xs h)) ∙ inv
+
+-- what a search answered, once its answer is known
+pub told : (d : Domain) {r a : Check} {v : Result Domain} → checkAnswer d r ≡ v → r ≡ a → v ≡ checkAnswer d a
+told d e q = sym e ∙ ap (checkAnswer d) q
+
+module _ (k : ℕ) (test : ℕ → ℕ → Bool) (d : Domain) where
+  first-append : (xs ys : List Place) → firstIn k test (xs ++ ys) d ≡ then (firstIn k test xs d) (λ _. firstIn k test ys d)
+  unfolding firstIn
+  first-append [] ys = refl
+  first-append (q ∷ xs) ys = by (test (q .expander) (q .phy)) (first-append xs ys)
+    where
+      by : (b : Bool) → firstIn k test (xs ++ ys) d ≡ then (firstIn k test xs d) (λ _. firstIn k test ys d)
+          → cond b (refused (refusal k (q .expander) (q .phy))) (firstIn k test (xs ++ ys) d)
+          ≡ then (cond b (refused (refusal k (q .expander) (q .phy))) (firstIn k test xs d)) (λ _. firstIn k test ys d)
+      by true h = refl
+      by false h = h
+
+  -- the phys of expander i from p on
+  module _ (i n p : ℕ) {v : Result Domain} (inv : firstIn k test (phyPlaces i p (n - p)) d ≡ v) where
+    phy-next : p < n → firstIn k test (phyPlaces i p (n - p)) d
+        ≡ cond (test i p) (refused (refusal k i p)) (firstIn k test (phyPlaces i (p + 1) (n - (p + 1))) d)
+    unfolding firstIn phyPlaces
+    phy-next h = let e : n - p ≡ suc (n - (p + 1)) = omega arith in rw e
+
+    pub phy-stop : test i p ≡ true → p < n → refused (refusal k i p) ≡ v
+    phy-stop q h = sym (phy-next h ∙ rw q) ∙ inv
+
+    pub phy-go : test i p ≡ false → p < n → firstIn k test (phyPlaces i (p + 1) (n - (p + 1))) d ≡ v
+    phy-go q h = sym (phy-next h ∙ rw q) ∙ inv
+
+    pub phy-end : n ≤ p → good d ≡ v
+    unfolding firstIn phyPlaces
+    phy-end h = let e : n - p ≡ 0 = omega arith in sym (rw e) ∙ inv
+
+  -- the phys of the expanders from i on
+  module _ (i : ℕ) {v : Result Domain} (inv : firstIn k test (placesFrom i (drop i d)) d ≡ v) where
+    pub from-next : {r a : Check} → checkAnswer d r ≡ firstIn k test (phyPlaces i 0 (length (expanderAt d i .phys))) d → r ≡ a → i < length d
+        → then (checkAnswer d a) (λ _. firstIn k test (placesFrom (i + 1) (drop (i + 1) d)) d) ≡ v
+    unfolding placesFrom
+    from-next h q l =
+        let e : drop i d ≡ expanderAt d i ∷ drop (i + 1) d = rw add-one (drop-cons d i noExpander l) in
+        let n = first-append (phyPlaces i 0 (length (expanderAt d i .phys))) (placesFrom (i + 1) (drop (i + 1) d)) in
+        rw (told d h q) at (sym n ∙ (rw e at inv))
+
+    pub from-end : length d ≤ i → good d ≡ v
+    unfolding firstIn placesFrom
+    from-end h = sym (ap (λ (x : Domain). firstIn k test (placesFrom i x) d) (drop-of-length-le d h)) ∙ inv
+
+-- a vacant phy clashes with none
+pub no-clash : (φ : Phy) → clash φ (Vacant 0) ≡ false
+unfolding clash
+no-clash φ = and-false (attached φ)
+  where
+    and-false : (b : Bool) → (b && false) ≡ false
+    and-false true = refl
+    and-false false = refl
+
+-- an expander without phys has no end device
+pub no-end : (s : ℕ) → endAt s noExpander ≡ false
+unfolding endAt any
+no-end s = refl
+
+-- causes 7 to 10 in order, by what each search answers
+in-order : {w x y z a b c e : Result Domain} → w ≡ a → x ≡ b → y ≡ c → z ≡ e
+    → then w (λ _. then x (λ _. then y (λ _. z))) ≡ then a (λ _. then b (λ _. then c (λ _. e)))
+in-order p q r s = simp (p, q, r, s)
+
+pub wired-by : (d : Domain) {a b c e : Result Domain} → firstOf 7 (causeOf 7 d) d ≡ a → firstOf 8 (causeOf 8 d) d ≡ b → firstOf 9 (causeOf 9 d) d ≡ c
+    → firstOf 10 (causeOf 10 d) d ≡ e → then a (λ _. then b (λ _. then c (λ _. e))) ≡ wiredDomain d
+unfolding wiredDomain causeOf
+wired-by d p q r s = sym (in-order p q r s)

@@ -1,0 +1,208 @@
+-- What a domain past causes 1 to 10 has: where each phy leads, and how neighbours go with it.
+use mathlib.Core.Path.{_≡_, refl, sym, ap, subst, _∙_}
+use mathlib.Core.Logic.{_⊎_, inl, inr, _≢_, ⊎-elim, by-cases}
+use mathlib.Core.List.{List, [], _∷_}
+use mathlib.Core.Bool.{Bool, true, false, cond, _&&_}
+use Prim.Native.Nat.{ℕ, zero, suc, _+_, _≤_, _<_}
+use native.Mathlib.Decide.{ℕ-discrete, decLt}
+use native.Mathlib.Omega.{arith}
+use lib.ListN.{length, List·getD-eq-default}
+use lib.Dec.{T, eqb, eqb→eq, not-T, T-not, leb→le, le→leb}
+use Rattle.wiring.specs.declared.Phy.{Phy}
+use Rattle.wiring.specs.declared.Phy.the-variants.{Vacant, Present}
+use Rattle.wiring.specs.Lists.{In}
+use Rattle.wiring.specs.Domain.{Expander, Domain, noExpander, expanderAt, phyAt, typeOf, addressOf, farOf, attributeOf, routes, attached, toEnd, toExpander, numberOf}
+use Rattle.wiring.specs.Causes.{farPhy, place, phyPlaces, placesFrom, places}
+use Rattle.wiring.specs.Graph.{Loop, Chain, Tail, Symmetric}
+use Rattle.wiring.specs.Neighbours.{cabled, neighbours}
+use Rattle.wiring.proofs.Members.{tests, or-cases, or-left, or-right, any-of, of-any, in-getD, getD-in, in-left, in-right, eq→eqb}
+
+-- loops and chains of expanders; a way is a chain without its first
+abbrev pub LoopIn : Domain → Type 0
+LoopIn d = Loop (length d) (neighbours d)
+
+abbrev pub ChainIn : Domain → ℕ → ℕ → List ℕ → Type 0
+ChainIn d = Chain (length d) (neighbours d)
+
+abbrev pub Way : Domain → ℕ → ℕ → List ℕ → Type 0
+Way d = Tail (length d) (neighbours d)
+
+-- phy p of expander i is attached to expander j
+pub record To (d : Domain) (i p j : ℕ) : Type 0 where
+  pub expander : T (toExpander (phyAt d i p))
+  pub address : addressOf (phyAt d i p) ≡ expanderAt d j .address
+
+-- cause 6 leaves types up to 3 and attributes up to 2
+abbrev pub Plain : Phy → Type 0
+Plain (Vacant r) = Unit {0}
+Plain (Present f) = (f .device ≤ 3) × (f .attribute ≤ 2)
+
+-- past causes 1 to 10
+pub record Wired (d : Domain) : Type 0 where
+  -- addresses of expanders differ, and none is 0
+  pub number : (j : ℕ) → j < length d → numberOf d (expanderAt d j .address) ≡ j
+  pub borne : (j : ℕ) → j < length d → expanderAt d j .address ≢ 0
+  -- 255 is no phy
+  pub few : (i p : ℕ) → T (attached (phyAt d i p)) → p < 255
+  pub plain : (i p : ℕ) → Plain (phyAt d i p)
+  pub attachedBorne : (i p : ℕ) → T (attached (phyAt d i p)) → addressOf (phyAt d i p) ≢ 0
+  -- 7: subtractive or table; the far end leads back here, and its far end is this phy
+  pub routing : (i p : ℕ) → T (toExpander (phyAt d i p)) → T (routes 1 (phyAt d i p)) ⊎ T (routes 2 (phyAt d i p))
+  pub answer : (i p : ℕ) → T (toExpander (phyAt d i p)) → To d (numberOf d (addressOf (phyAt d i p))) (farOf (phyAt d i p)) i
+  pub back : (i p : ℕ) → T (toExpander (phyAt d i p)) → farOf (farPhy d (phyAt d i p)) ≡ p
+  -- 8: an end device is no expander, and is at one expander
+  pub apart : (i p j : ℕ) → T (toEnd (phyAt d i p)) → j < length d → addressOf (phyAt d i p) ≢ expanderAt d j .address
+  pub onePlace : (i p j q : ℕ) → T (toEnd (phyAt d i p)) → T (toEnd (phyAt d j q)) → addressOf (phyAt d i p) ≡ addressOf (phyAt d j q) → i ≡ j
+  -- 9: one attribute for each address at an expander, and one subtractive address
+  pub kind : (i p q : ℕ) → T (attached (phyAt d i p)) → T (attached (phyAt d i q)) → addressOf (phyAt d i p) ≡ addressOf (phyAt d i q)
+      → attributeOf (phyAt d i p) ≡ attributeOf (phyAt d i q)
+  pub oneWay : (i p q : ℕ) → T (attached (phyAt d i p)) → T (attached (phyAt d i q)) → T (routes 1 (phyAt d i p)) → T (routes 1 (phyAt d i q))
+      → addressOf (phyAt d i p) ≡ addressOf (phyAt d i q)
+  -- 10
+  pub configured : (i p : ℕ) → T (routes 2 (phyAt d i p)) → expanderAt d i .configurable ≢ 0
+
+-- expander m bears s, or an end device with s is attached to it
+abbrev pub Home : Domain → ℕ → ℕ → Type 0
+Home d s m = (expanderAt d m .address ≡ s) ⊎ ((p : ℕ) × T (toEnd (phyAt d m p)) × (addressOf (phyAt d m p) ≡ s))
+
+-- types and attributes
+pub end-attached : (φ : Phy) → T (toEnd φ) → T (attached φ)
+end-attached φ t = not-T (eqb (typeOf φ) 0) (λ u. let e = eqb→eq (typeOf φ) 1 t in let f = eqb→eq (typeOf φ) 0 u in omega arith)
+
+pub expander-attached : (φ : Phy) → T (toExpander φ) → T (attached φ)
+expander-attached φ t = not-T (eqb (typeOf φ) 0) (λ u. let e = leb→le 2 (typeOf φ) t in let f = eqb→eq (typeOf φ) 0 u in omega arith)
+
+pub attached-cases : (φ : Phy) → T (attached φ) → T (toEnd φ) ⊎ T (toExpander φ)
+attached-cases φ t =
+    by-cases (ℕ-discrete (typeOf φ) 1) (λ e. inl (eq→eqb (typeOf φ) 1 e))
+    (λ k. inr (le→leb 2 (typeOf φ) (go (typeOf φ) k (λ e. T-not (eqb (typeOf φ) 0) t (eq→eqb (typeOf φ) 0 e)))))
+  where
+    go : (m : ℕ) → m ≢ 1 → m ≢ 0 → 2 ≤ m
+    go m a b = omega arith
+
+pub end-no-expander : (φ : Phy) → T (toEnd φ) → T (toExpander φ) → ⊥
+end-no-expander φ t u = let e = eqb→eq (typeOf φ) 1 t in let f = leb→le 2 (typeOf φ) u in omega arith
+
+pub routes-one : (a b : ℕ) (φ : Phy) → T (routes a φ) → T (routes b φ) → a ≡ b
+routes-one a b φ t u = sym (eqb→eq (attributeOf φ) a t) ∙ eqb→eq (attributeOf φ) b u
+
+pub plain-type : (φ : Phy) → Plain φ → typeOf φ ≤ 3
+plain-type (Vacant r) h = omega arith
+plain-type (Present f) h = h .0
+
+pub plain-attribute : (φ : Phy) → Plain φ → T (attached φ) → attributeOf φ ≤ 2
+plain-attribute (Vacant r) h t = absurd t
+plain-attribute (Present f) h t = h .1
+
+-- the number of an address
+pub numberOf-is : (d : Domain) (s : ℕ) → numberOf d s < length d → expanderAt d (numberOf d s) .address ≡ s
+unfolding numberOf
+numberOf-is [] s h = absurd (omega arith)
+numberOf-is (e ∷ d) s h = go (eqb (e .address) s) refl h (numberOf-is d s)
+  where
+    go : (b : Bool) → eqb (e .address) s ≡ b → cond b 0 (suc (numberOf d s)) < suc (length d)
+        → (numberOf d s < length d → expanderAt d (numberOf d s) .address ≡ s) → expanderAt (e ∷ d) (cond b 0 (suc (numberOf d s))) .address ≡ s
+    go true q k r = eqb→eq (e .address) s (subst T (sym q) tt)
+    go false q k r = r (omega arith)
+
+-- what is not past the end
+pub expander-range : (d : Domain) (i p : ℕ) → p < length (expanderAt d i .phys) → i < length d
+expander-range d i p h =
+    by-cases (decLt i (length d)) (λ k. k)
+    (λ k. let e : expanderAt d i ≡ noExpander = List·getD-eq-default d noExpander (omega arith) in
+    let z = subst (λ (x : Expander). p < length (x .phys)) e h in absurd (omega arith))
+
+-- a test that fails of the vacant phy past the end
+pub phy-range : (d : Domain) (test : Phy → Bool) (i p : ℕ) → T (test (phyAt d i p)) → ¬ (T (test (Vacant 0))) → p < length (expanderAt d i .phys)
+phy-range d test i p t n =
+    by-cases (decLt p (length (expanderAt d i .phys))) (λ h. h)
+    (λ k. absurd (n (subst (λ φ. T (test φ)) (List·getD-eq-default (expanderAt d i .phys) (Vacant 0) (omega arith)) t)))
+
+pub in-range : (d : Domain) (i p : ℕ) → T (attached (phyAt d i p)) → (i < length d) × (p < length (expanderAt d i .phys))
+in-range d i p t = let h = phy-range d attached i p t (λ u. u) in (expander-range d i p h, h)
+
+pub routes-range : (d : Domain) (k i p : ℕ) → T (routes k (phyAt d i p)) → k ≤ 2 → p < length (expanderAt d i .phys)
+routes-range d k i p t h = phy-range d (routes k) i p t (λ u. let e = eqb→eq 3 k u in omega arith)
+
+-- every phy is among the places
+in-phyPlaces : (i p count q : ℕ) → p ≤ q → q < p + count → In (place i q) (phyPlaces i p count)
+unfolding phyPlaces
+in-phyPlaces i p zero q h k = absurd (omega arith)
+in-phyPlaces i p (suc count) q h k =
+    by-cases (ℕ-discrete q p) (λ e. inl (ap (place i) e)) (λ n. inr (in-phyPlaces i (p + 1) count q (omega arith) (omega arith)))
+
+in-placesFrom : (d : Domain) (k i p : ℕ) → p < length (expanderAt d i .phys) → In (place (k + i) p) (placesFrom k d)
+unfolding placesFrom
+in-placesFrom [] k i p h = absurd (omega arith)
+in-placesFrom (e ∷ d) k zero p h =
+    in-left (phyPlaces k 0 (length (e .phys))) (placesFrom (k + 1) d) (place (k + 0) p)
+    (subst (λ v. In (place v p) (phyPlaces k 0 (length (e .phys)))) (omega arith) (in-phyPlaces k 0 (length (e .phys)) p (omega arith) (omega arith)))
+in-placesFrom (e ∷ d) k (suc i) p h =
+    in-right (phyPlaces k 0 (length (e .phys))) (placesFrom (k + 1) d) (place (k + suc i) p)
+    (subst (λ v. In (place v p) (placesFrom (k + 1) d)) (omega arith) (in-placesFrom d (k + 1) i p h))
+
+pub in-places : (d : Domain) (i p : ℕ) → p < length (expanderAt d i .phys) → In (place i p) (places d)
+in-places d i p h = subst (λ v. In (place v p) (places d)) (omega arith) (in-placesFrom d 0 i p h)
+
+module _ (d : Domain) (w : Wired d) where
+  pub differ : (i j : ℕ) → i < length d → j < length d → expanderAt d i .address ≡ expanderAt d j .address → i ≡ j
+  differ i j h k e = sym (w .number i h) ∙ ap (numberOf d) e ∙ w .number j k
+
+  pub to-start : (i p j : ℕ) → To d i p j → i < length d
+  to-start i p j t = in-range d i p (expander-attached (phyAt d i p) (t .expander)) .0
+
+  -- the far end of a phy that is attached to an expander
+  pub far-below : (i p : ℕ) → T (toExpander (phyAt d i p)) → numberOf d (addressOf (phyAt d i p)) < length d
+  far-below i p t = to-start (numberOf d (addressOf (phyAt d i p))) (farOf (phyAt d i p)) i (w .answer i p t)
+
+  pub far-is : (i p : ℕ) → T (toExpander (phyAt d i p)) → To d i p (numberOf d (addressOf (phyAt d i p)))
+  far-is i p t = record { expander = t; address = sym (numberOf-is d (addressOf (phyAt d i p)) (far-below i p t)) }
+
+  pub to-number : (i p j : ℕ) → j < length d → To d i p j → numberOf d (addressOf (phyAt d i p)) ≡ j
+  to-number i p j h t = ap (numberOf d) (t .address) ∙ w .number j h
+
+  pub to-back : (i p j : ℕ) → j < length d → To d i p j → To d j (farOf (phyAt d i p)) i
+  to-back i p j h t = subst (λ v. To d v (farOf (phyAt d i p)) i) (to-number i p j h t) (w .answer i p (t .expander))
+
+  -- the far end of the far end
+  pub far-far : (i p : ℕ) → T (toExpander (phyAt d i p)) → farPhy d (farPhy d (phyAt d i p)) ≡ phyAt d i p
+  far-far i p t =
+      let k = numberOf d (addressOf (phyAt d i p)) in
+      let n = to-number k (farOf (phyAt d i p)) i (to-start i p k (far-is i p t)) (w .answer i p t) in
+      rw (n, w .back i p t) refl
+
+  -- table and subtractive at one address
+  pub alike : (i p q : ℕ) → T (attached (phyAt d i p)) → T (attached (phyAt d i q)) → addressOf (phyAt d i p) ≡ addressOf (phyAt d i q)
+      → T (routes 1 (phyAt d i p)) → T (routes 2 (phyAt d i q)) → ⊥
+  alike i p q t u e x y = let z : _≡_ {A = ℕ} 1 2 = routes-one 1 2 (phyAt d i q) (subst (λ v. T (eqb v 1)) (w .kind i p q t u e) x) y in omega arith
+
+  to-cabled : (i p j : ℕ) → To d i p j → T (cabled d i j)
+  unfolding cabled
+  to-cabled i p j t =
+      any-of (λ φ. toExpander φ && eqb (addressOf φ) (expanderAt d j .address)) (expanderAt d i .phys) (phyAt d i p)
+      (in-getD (expanderAt d i .phys) (Vacant 0) p (in-range d i p (expander-attached (phyAt d i p) (t .expander)) .1))
+      (search tests)
+
+  cabled-to : (i j : ℕ) → T (cabled d i j) → (p : ℕ) × To d i p j
+  unfolding cabled
+  cabled-to i j t =
+      let r = of-any (λ φ. toExpander φ && eqb (addressOf φ) (expanderAt d j .address)) (expanderAt d i .phys) t in
+      let g = getD-in (expanderAt d i .phys) (Vacant 0) (r .0) (r .1) in
+      let u = subst (λ φ. T (toExpander φ && eqb (addressOf φ) (expanderAt d j .address))) (sym (g .2)) (r .2) in
+      (g .0, record { expander = search tests; address = search tests })
+
+  -- neighbours are those to which a phy leads
+  pub adj-to : (i j : ℕ) → i < length d → T (neighbours d i j) → (p : ℕ) × To d i p j
+  unfolding neighbours
+  adj-to i j h t =
+      ⊎-elim (cabled-to i j) (λ u. let r = cabled-to j i u in (farOf (phyAt d j (r .0)), to-back j (r .0) i h (r .1)))
+      (or-cases (cabled d i j) (cabled d j i) t)
+
+  pub to-adj : (i p j : ℕ) → To d i p j → T (neighbours d i j)
+  unfolding neighbours
+  to-adj i p j t = or-left (cabled d i j) (cabled d j i) (to-cabled i p j t)
+
+pub adj-symmetric : (d : Domain) → Symmetric (neighbours d)
+unfolding neighbours
+adj-symmetric d i j t =
+    ⊎-elim (or-right (cabled d j i) (cabled d i j)) (or-left (cabled d j i) (cabled d i j)) (or-cases (cabled d i j) (cabled d j i) t)

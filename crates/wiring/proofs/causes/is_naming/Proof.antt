@@ -1,0 +1,34 @@
+use native.Mathlib.Omega.{arith}
+use borrow.Author.Needs.{needs}
+use borrow.Author.Tests.{eq-eqb, ne-eqb, le-leb, lt-leb}
+use Rattle.wiring.specs.Domain.{typeOf, addressOf}
+use Rattle.wiring.proofs.causes.is_naming.Statement.{statement}
+use Rattle.wiring.proofs.causes.is_naming.Tie as tie
+
+phy-type-requires : tie.Need-phy-type-requires
+phy-type-requires c κs = search needs
+
+returns : tie.Need-returns
+returns c = let a = c .before .before .args in simp (lt-leb 2 (typeOf (a .f)) (omega arith))
+
+phy-address-requires : tie.Need-phy-address-requires
+phy-address-requires c κs = search needs
+
+returns-2 : tie.Need-returns-2
+returns-2 c =
+    let a = c .before .before .before .before .args in
+    simp (le-leb 2 (typeOf (a .f)) (omega arith), ne-eqb (addressOf (a .f)) (a .s) (λ e. omega arith))
+
+phy-far-requires : tie.Need-phy-far-requires
+phy-far-requires c κs = search needs
+
+returns-3 : tie.Need-returns-3
+returns-3 c =
+    let a = c .before .before .before .before .before .before .before .args in
+    let phy-far = c .before .before .phy-far in
+    simp (le-leb 2 (typeOf (a .f)) (omega arith), eq-eqb (addressOf (a .f)) (a .s) (omega arith), phy-far .ensures)
+
+pub is-naming-spec : {M : Type 1} → statement M
+is-naming-spec =
+    tie.close
+    (tie.spec phy-type-requires returns phy-address-requires returns-2 phy-far-requires returns-3)

@@ -1,0 +1,69 @@
+use mathlib.Core.Path.{_≡_, sym, _∙_, ap}
+use borrow.Author.Needs.{needs}
+use borrow.Author.Tests.{not-true, not-false, eq-eqb}
+use Rattle.wiring.proofs.Calls.{held, links-loop, links-joined}
+use Rattle.wiring.proofs.InRows.{domain-few}
+use Rattle.wiring.specs.Checks.{checkAnswer, causeOf}
+use Rattle.wiring.proofs.links.check_links.Statement.{statement}
+use Rattle.wiring.proofs.links.check_links.Tie as tie
+
+slice-aggregate-put-neighbours : tie.Need-slice-aggregate-put-neighbours
+slice-aggregate-put-neighbours c = search needs
+
+put-neighbours-requires : tie.Need-put-neighbours-requires
+put-neighbours-requires c κs = domain-few (c .before .before .args .rows .now)
+
+slice-aggregate-is-loopfree : tie.Need-slice-aggregate-is-loopfree
+slice-aggregate-is-loopfree c = search needs
+
+is-loopfree-requires : tie.Need-is-loopfree-requires
+is-loopfree-requires c κs = held _ _ _ (c .before .before .put-neighbours .ensures .1)
+
+returns : tie.Need-returns
+returns c = sym (links-loop _ (sym (c .before .is-loopfree .ensures) ∙ not-true _ (c .if1 .taken)))
+
+slice-aggregate-check-joined : tie.Need-slice-aggregate-check-joined
+slice-aggregate-check-joined c = search needs
+
+check-joined-requires : tie.Need-check-joined-requires
+check-joined-requires c κs = held _ _ _ (c .before .before .before .before .before .put-neighbours .ensures .1)
+
+enum-known-joined : tie.Need-enum-known-joined
+enum-known-joined c = search needs
+
+enum-told : tie.Need-enum-told
+enum-told c = search needs
+
+first-of-requires : tie.Need-first-of-requires
+first-of-requires c κs = search needs
+
+returns-2 : tie.Need-returns-2
+returns-2 c =
+    let f = c .before .before .before in
+    sym (links-joined _ _ (sym (f .before .before .before .is-loopfree .ensures) ∙ not-false _ (f .before .before .if1 .left))
+    (sym (f .check-joined .ensures) ∙ ap (checkAnswer _) (c .before .joined .given .1)))
+
+returns-3 : tie.Need-returns-3
+unfolding causeOf
+returns-3 c =
+    let f = c .before .before .before in
+    c .first-of .ensures
+    ∙ sym (links-joined _ _ (sym (f .before .before .before .is-loopfree .ensures) ∙ not-false _ (f .before .before .if1 .left))
+    (sym (f .check-joined .ensures) ∙ ap (checkAnswer _) (c .before .enum-told .given .1)))
+
+pub check-links-spec : {M : Type 1} → statement M
+check-links-spec =
+    tie.close
+    (tie.spec
+    slice-aggregate-put-neighbours
+    put-neighbours-requires
+    slice-aggregate-is-loopfree
+    is-loopfree-requires
+    returns
+    slice-aggregate-check-joined
+    check-joined-requires
+    enum-known-joined
+    enum-told
+    first-of-requires
+    returns-2
+    returns-3)

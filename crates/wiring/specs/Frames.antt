@@ -1,0 +1,2 @@
+-- What the layers above use of frames.
+pub use Rattle.frames.specs.Refusals.{Result, refused, good, unless, then, refusal}

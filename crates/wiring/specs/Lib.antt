@@ -1,0 +1,13 @@
+pub mod Frames
+pub mod Lists
+pub mod Domain
+pub mod File
+pub mod Units
+pub mod Rows
+pub mod Fill
+pub mod Causes
+pub mod Checks
+pub mod Graph
+pub mod Neighbours
+pub mod Rounds
+pub mod Links

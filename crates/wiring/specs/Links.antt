@@ -1,0 +1,35 @@
+-- Causes 11 to 13: loops, chains to expander 0, and links that are table at both ends.
+use Prim.Native.Nat.{ℕ}
+use mathlib.Core.Bool.{Bool, true, false, cond, not, _&&_}
+use mathlib.Core.List.{List, [], _∷_}
+use lib.ListN.{length}
+use Rattle.frames.specs.Refusals.{Result, refused, good, unless, then, refusal}
+use Rattle.wiring.specs.Lists.{upTo}
+use Rattle.wiring.specs.Domain.{Domain, phyAt, routes, toExpander}
+use Rattle.wiring.specs.Causes.{farPhy, firstOf}
+use Rattle.wiring.specs.Graph.{loopfree, reached}
+use Rattle.wiring.specs.Neighbours.{neighbours}
+
+-- 11: loop
+unfoldable pub unlooped : Domain → Result Domain
+unlooped d = unless (loopfree (length d) (neighbours d)) (refusal 11 0 0) (good d)
+
+-- a chain joins expander 0 to expander i
+unfoldable pub joined : Domain → ℕ → Bool
+joined d i = reached (length d) (neighbours d) 0 i
+
+-- 12: the lowest of these expanders without a chain to expander 0
+unfoldable pub joinedIn : List ℕ → Domain → Result Domain
+joinedIn [] d = good d
+joinedIn (i ∷ is) d = cond (joined d i) (joinedIn is d) (refused (refusal 12 i 0))
+
+-- 13: table phy attached to a table phy
+unfoldable pub tableToTable : Domain → ℕ → ℕ → Bool
+tableToTable d i p = toExpander (phyAt d i p) && (routes 2 (phyAt d i p) && routes 2 (farPhy d (phyAt d i p)))
+
+-- causes 11 to 13 in order
+unfoldable pub linkedDomain : Domain → Result Domain
+linkedDomain d =
+    then (unlooped d) (λ _.
+    then (joinedIn (upTo (length d)) d) (λ _.
+    firstOf 13 (tableToTable d) d))

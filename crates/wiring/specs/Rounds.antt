@@ -1,0 +1,55 @@
+-- Rounds over sets of expanders held as 64-bit words: how causes 11 and 12 are decided.
+use Prim.Native.Nat.{ℕ, zero, suc, _/_, _%_, _^_, _≤_, _<_}
+use mathlib.Core.Path.{_≡_}
+use mathlib.Core.Bool.{Bool, cond, _||_, _&&_}
+use mathlib.Core.List.{List}
+use lib.ListN.{length, getD}
+use lib.Dec.{eqb, leb}
+use lib.Bits.{bitAnd}
+use lib.Count.{ones}
+use Rattle.wiring.specs.Lists.{upTo, keep, isIn}
+use Rattle.wiring.specs.Domain.{Domain}
+use Rattle.wiring.specs.Graph.{stays, near}
+use Rattle.wiring.specs.Neighbours.{neighbours, setOf, neighbourWord}
+
+-- bit j of a word is set
+abbrev pub hasBit : ℕ → ℕ → Bool
+hasBit w j = eqb (w / 2 ^ j % 2) 1
+
+-- the numbers below n in a set
+unfoldable pub members : ℕ → ℕ → List ℕ
+members n w = keep (hasBit w) (upTo n)
+
+-- a word that holds numbers below n only
+abbrev pub SetBelow : ℕ → ℕ → Type 0
+SetBelow n w = w ≡ setOf (members n w)
+
+-- one neighbour word for each expander
+pub record Held (d : Domain) (words : List ℕ) : Type 0 where
+  pub enough : length d ≤ length words
+  pub word : (v : ℕ) → v < length d → getD words v 0 ≡ neighbourWord d v
+
+-- does v belong to the next set, in a round of cause 11 (an expander that stays) or 12 (one that is seen)?
+unfoldable pub roundTest : ℕ → ℕ → (ℕ → ℕ → Bool) → List ℕ → ℕ → Bool
+roundTest k n adj l v = cond (eqb k 11) (isIn v l && stays n adj l v) (near n adj l v)
+
+-- the same of v's neighbour word and the set as words
+unfoldable pub nextTest : ℕ → ℕ → ℕ → ℕ → Bool
+nextTest k word set v =
+    cond (eqb k 11)
+    (hasBit set v && (hasBit word v || leb 2 (ones (bitAnd set word))))
+    (hasBit set v || leb 1 (ones (bitAnd set word)))
+
+-- the next set
+abbrev pub nextSet : ℕ → ℕ → (ℕ → ℕ → Bool) → List ℕ → List ℕ
+nextSet k n adj l = keep (roundTest k n adj l) (upTo n)
+
+-- so many rounds
+unfoldable pub rounds : ℕ → ℕ → (ℕ → ℕ → Bool) → ℕ → List ℕ → List ℕ
+rounds k n adj zero l = l
+rounds k n adj (suc count) l = rounds k n adj count (nextSet k n adj l)
+
+-- a set after as many rounds as there are expanders
+pub record RoundsRun (d : Domain) (k set after : ℕ) : Type 0 where
+  pub below : SetBelow (length d) after
+  pub run : members (length d) after ≡ rounds k (length d) (neighbours d) (length d) (members (length d) set)

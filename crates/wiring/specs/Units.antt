@@ -1,0 +1,53 @@
+-- What the answers of the unit readers say in document 01's terms.
+use Prim.Native.Nat.{ℕ}
+use mathlib.Core.Bool.{Bool, _&&_}
+use mathlib.Core.List.{List}
+use lib.Dec.{leb}
+use Rattle.frames.specs.Refusals.{Result, refused, good, unless, then, refusal}
+use Rattle.frames.specs.declared.General.{General}
+use Rattle.wiring.specs.declared.Limits.{Limits}
+use Rattle.wiring.specs.declared.ExpanderUnit.{ExpanderUnit}
+use Rattle.wiring.specs.declared.Phy.{Phy}
+use Rattle.wiring.specs.declared.PhyRead.{PhyRead}
+use Rattle.wiring.specs.declared.PhyRead.the-variants.{Refused as NoPhy, Read as PhyIs}
+use Rattle.wiring.specs.declared.ExpanderRead.{ExpanderRead}
+use Rattle.wiring.specs.declared.ExpanderRead.the-variants.{Refused as NoExpander, Read as ExpanderIs}
+use Rattle.wiring.specs.declared.PhysCheck.{PhysCheck}
+use Rattle.wiring.specs.declared.PhysCheck.the-variants.{Refused as NoPhys, Passed}
+use Rattle.wiring.specs.File.{Parsed, parsed, phyUnits, expanderUnit}
+
+abbrev pub phyAnswer : PhyRead → Result (Parsed Phy)
+phyAnswer (NoPhy r) = refused r
+phyAnswer (PhyIs φ next) = good (parsed φ next)
+
+abbrev pub expanderAnswer : ExpanderRead → Result (Parsed ExpanderUnit)
+expanderAnswer (NoExpander r) = refused r
+expanderAnswer (ExpanderIs u next) = good (parsed u next)
+
+abbrev pub physAnswer : PhysCheck → Result ℕ
+physAnswer (NoPhys r) = refused r
+physAnswer (Passed next) = good next
+
+-- the place after the phys
+abbrev pub physNext : Result (Parsed (List Phy)) → Result ℕ
+physNext (refused r) = refused r
+physNext (good φs) = good (φs .next)
+
+module _ {A : Type 0} where
+  -- read, with the place after it
+  abbrev pub endsAt : ℕ → A → Result (Parsed A)
+  endsAt next a = good (parsed a next)
+
+-- 3: number of phys out of range; 4: the address is not free
+abbrev pub unitOf : Limits → General → ℕ → Bool → ℕ → ℕ → Result (Parsed ExpanderUnit)
+unitOf most g own free i next =
+    unless (leb 1 (g .phys) && leb (g .phys) (most .phys)) (refusal 3 i 0)
+    (unless free (refusal 4 i 0)
+    (good (parsed (record { address = own; indexes = g .indexes; phys = g .phys; configurable = g .configurable }) next)))
+
+-- an expander's unit, and the place after its phys
+unfoldable pub expanderChecked : Limits → List ℕ → List ℕ → ℕ → ℕ → Result (Parsed ExpanderUnit)
+expanderChecked most file seen i at =
+    then (expanderUnit most file seen i at) (λ u.
+    then (physNext (phyUnits file (u .value .address) i (u .value .phys) 0 (u .next))) (λ next.
+    good (parsed (u .value) next)))

@@ -1,0 +1,252 @@
+// Causes 7 to 10 and 13: what is wrong with one phy, and the lowest phy with which it is.
+use crate::Check;
+use crate::Phy;
+use crate::view;
+use frames::ExpanderNumber;
+use frames::PhyId;
+use frames::Refusal;
+ghost use mathlib.Core.Path.{_≡_};
+ghost use lib.ListN.{take};
+ghost use Rattle.wiring.specs.Lists.{any};
+ghost use Rattle.wiring.specs.Domain.{expanderAt};
+ghost use Rattle.wiring.specs.Rows.{domainIn};
+ghost use Rattle.wiring.specs.Causes.{farPhy, names, unanswered, endAt, claimed, clash, clashing, fixed, firstOf, wiredDomain};
+ghost use Rattle.wiring.specs.Links.{tableToTable};
+ghost use Rattle.wiring.specs.Checks.{checkAnswer, causeOf, firstAt, toEndWith};
+
+// The far end of a phy: a vacant phy where it is missing.
+fn far_phy(rows: &[u64], f: Phy) -> Phy
+    ensures { λ r. ⌜ r ≡ farPhy (domainIn (now (rows .entry))) f ⌝ }
+{
+    let j = view::number_of(rows, view::phy_address(f));
+    view::phy_at(rows, j, view::phy_far(f))
+}
+
+// Whether f names phy p of the expander with this address.
+fn is_naming(s: u64, p: PhyId, f: Phy) -> bool
+    ensures { λ r. ⌜ r ≡ names s (p .0) f ⌝ }
+{
+    if view::phy_type(f) < 2 {
+        return false;
+    }
+    if view::phy_address(f) != s {
+        return false;
+    }
+    view::phy_far(f).0 == p.0
+}
+
+// Cause 7.
+fn is_unanswered(rows: &[u64], i: ExpanderNumber, p: PhyId) -> bool
+    ensures { λ r. ⌜ r ≡ unanswered (domainIn (now (rows .entry))) (i .0) (p .0) ⌝ }
+{
+    let f = view::phy_at(rows, i, p);
+    if view::phy_type(f) < 2 {
+        return false;
+    }
+    if view::phy_attribute(f) == 0 {
+        return true;
+    }
+    let g = far_phy(rows, f);
+    !is_naming(view::expander_address(rows, i), p, g)
+}
+
+// Whether f is attached to the end device with this address.
+fn is_end(s: u64, f: Phy) -> bool
+    ensures { λ r. ⌜ r ≡ toEndWith s f ⌝ }
+{
+    if view::phy_type(f) != 1 {
+        return false;
+    }
+    view::phy_address(f) == s
+}
+
+// Whether expander j has an end device with this address.
+fn is_end_at(rows: &[u64], s: u64, j: ExpanderNumber) -> bool
+    ensures { λ r. ⌜ r ≡ endAt s (expanderAt (domainIn (now (rows .entry))) (j .0)) ⌝ }
+{
+    let n = view::phy_count(rows, j);
+    let mut p: u8 = 0;
+    while p < n {
+        if is_end(s, view::phy_at(rows, j, PhyId(p))) {
+            return true;
+        }
+        p += 1;
+    }
+    false
+}
+
+// Whether an expander before i has an end device with this address.
+fn is_end_before(rows: &[u64], s: u64, i: ExpanderNumber) -> bool
+    ensures { λ r. ⌜ r ≡ any (endAt s) (take (i .0) (domainIn (now (rows .entry)))) ⌝ }
+{
+    let n = i.0;
+    let mut j: u8 = 0;
+    while j < n {
+        if is_end_at(rows, s, ExpanderNumber(j)) {
+            return true;
+        }
+        j += 1;
+    }
+    false
+}
+
+// Cause 8.
+fn is_claimed(rows: &[u64], i: ExpanderNumber, p: PhyId) -> bool
+    ensures { λ r. ⌜ r ≡ claimed (domainIn (now (rows .entry))) (i .0) (p .0) ⌝ }
+{
+    let f = view::phy_at(rows, i, p);
+    if view::phy_type(f) != 1 {
+        return false;
+    }
+    let s = view::phy_address(f);
+    let j = view::number_of(rows, s);
+    if j.0 < view::expander_count(rows) {
+        return true;
+    }
+    is_end_before(rows, s, i)
+}
+
+// Whether two phys cannot both stand at one expander.
+fn are_clashing(f: Phy, g: Phy) -> bool
+    ensures { λ r. ⌜ r ≡ clash f g ⌝ }
+{
+    if view::phy_type(f) == 0 {
+        return false;
+    }
+    if view::phy_type(g) == 0 {
+        return false;
+    }
+    let a = view::phy_attribute(f);
+    let b = view::phy_attribute(g);
+    if view::phy_address(f) == view::phy_address(g) {
+        return a != b;
+    }
+    if a != 1 {
+        return false;
+    }
+    b == 1
+}
+
+// Cause 9.
+fn is_clashing(rows: &[u64], i: ExpanderNumber, p: PhyId) -> bool
+    ensures { λ r. ⌜ r ≡ clashing (domainIn (now (rows .entry))) (i .0) (p .0) ⌝ }
+{
+    let f = view::phy_at(rows, i, p);
+    let n = p.0;
+    let mut q: u8 = 0;
+    while q < n {
+        if are_clashing(f, view::phy_at(rows, i, PhyId(q))) {
+            return true;
+        }
+        q += 1;
+    }
+    false
+}
+
+// Cause 10.
+fn is_fixed(rows: &[u64], i: ExpanderNumber, p: PhyId) -> bool
+    ensures { λ r. ⌜ r ≡ fixed (domainIn (now (rows .entry))) (i .0) (p .0) ⌝ }
+{
+    if view::phy_attribute(view::phy_at(rows, i, p)) != 2 {
+        return false;
+    }
+    view::configurable_bit(rows, i) == 0
+}
+
+// Cause 13.
+fn is_table_to_table(rows: &[u64], i: ExpanderNumber, p: PhyId) -> bool
+    ensures { λ r. ⌜ r ≡ tableToTable (domainIn (now (rows .entry))) (i .0) (p .0) ⌝ }
+{
+    let f = view::phy_at(rows, i, p);
+    if view::phy_type(f) < 2 {
+        return false;
+    }
+    if view::phy_attribute(f) != 2 {
+        return false;
+    }
+    view::phy_attribute(far_phy(rows, f)) == 2
+}
+
+// Whether cause k holds at phy p of expander i.
+fn cause_holds(rows: &[u64], k: u8, i: ExpanderNumber, p: PhyId) -> bool
+    ensures { λ r. ⌜ r ≡ causeOf k (domainIn (now (rows .entry))) (i .0) (p .0) ⌝ }
+{
+    if k == 7 {
+        return is_unanswered(rows, i, p);
+    }
+    if k == 8 {
+        return is_claimed(rows, i, p);
+    }
+    if k == 9 {
+        return is_clashing(rows, i, p);
+    }
+    if k == 10 {
+        return is_fixed(rows, i, p);
+    }
+    if k == 13 {
+        return is_table_to_table(rows, i, p);
+    }
+    false
+}
+
+// The lowest phy of expander i at which cause k holds.
+fn first_phy(rows: &[u64], k: u8, i: ExpanderNumber) -> Check
+    ensures { λ r. ⌜ checkAnswer (domainIn (now (rows .entry))) r ≡ firstAt k (domainIn (now (rows .entry))) (i .0) ⌝ }
+{
+    let n = view::phy_count(rows, i);
+    let mut p: u8 = 0;
+    while p < n {
+        if cause_holds(rows, k, i, PhyId(p)) {
+            return Check::Refused(Refusal {
+                number: k,
+                expander: i,
+                phy: PhyId(p),
+            });
+        }
+        p += 1;
+    }
+    Check::Passed
+}
+
+// The lowest phy, by expander and then phy, at which cause k holds.
+pub(crate) fn first_of(rows: &[u64], k: u8) -> Check
+    ensures { λ r. ⌜ checkAnswer (domainIn (now (rows .entry))) r ≡ firstOf k (causeOf k (domainIn (now (rows .entry)))) (domainIn (now (rows .entry))) ⌝ }
+{
+    let n = view::expander_count(rows);
+    let mut i: u8 = 0;
+    while i < n {
+        let f = first_phy(rows, k, ExpanderNumber(i));
+        match f {
+            Check::Refused(r) => {
+                return Check::Refused(r);
+            }
+            Check::Passed => {
+                i += 1;
+            }
+        }
+    }
+    Check::Passed
+}
+
+// Causes 7 to 10 in order, each over all rows.
+pub fn check_wiring(rows: &[u64]) -> Check
+    ensures { λ r. ⌜ checkAnswer (domainIn (now (rows .entry))) r ≡ wiredDomain (domainIn (now (rows .entry))) ⌝ }
+{
+    let unanswered = first_of(rows, 7);
+    match unanswered {
+        Check::Refused(r) => Check::Refused(r),
+        Check::Passed => {
+            let claimed = first_of(rows, 8);
+            match claimed {
+                Check::Refused(r) => Check::Refused(r),
+                Check::Passed => {
+                    let clashing = first_of(rows, 9);
+                    match clashing {
+                        Check::Refused(r) => Check::Refused(r),
+                        Check::Passed => first_of(rows, 10),
+                    }
+                }
+            }
+        }
+    }
+}

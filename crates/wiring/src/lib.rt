@@ -1,0 +1,91 @@
+// Reads a domain file into rows, and judges its wiring.
+mod causes;
+mod file;
+mod links;
+mod neighbours;
+mod rounds;
+mod rows;
+mod units;
+mod view;
+mod wiring_call;
+
+pub use causes::check_wiring;
+use frames::PhyId;
+use frames::Refusal;
+pub use links::check_links;
+pub use rows::read_domain;
+pub use view::configurable_bit;
+pub use view::expander_address;
+pub use view::expander_count;
+pub use view::index_count;
+pub use view::number_of;
+pub use view::phy_address;
+pub use view::phy_at;
+pub use view::phy_attribute;
+pub use view::phy_count;
+pub use view::phy_far;
+pub use view::phy_type;
+pub use wiring_call::wire;
+// The limits of cause 3: the most expanders of a domain, and the most phys of an expander.
+pub struct Limits {
+    pub expanders: u8,
+    pub phys: u8,
+}
+
+// The fields of a phy that is not vacant: attached device type, routing attribute, attached
+// address, attached phy identifier.
+pub struct PhyFields {
+    pub device: u8,
+    pub attribute: u8,
+    pub address: u64,
+    pub far: PhyId,
+}
+
+// A vacant phy keeps its function result.
+pub enum Phy {
+    Vacant(u8),
+    Present(PhyFields),
+}
+
+// An expander's unit of 36 bytes: address, route indexes R, number of phys, configurable bit.
+pub struct ExpanderUnit {
+    pub address: u64,
+    pub indexes: u16,
+    pub phys: u8,
+    pub configurable: u8,
+}
+
+// The number of expanders, or why the file is refused.
+pub enum DomainRead {
+    Refused(Refusal),
+    Expanders(u8),
+}
+
+// What a unit reads as, and the place after it.
+pub enum PhyRead {
+    Refused(Refusal),
+    Read(Phy, usize),
+}
+
+pub enum ExpanderRead {
+    Refused(Refusal),
+    Read(ExpanderUnit, usize),
+}
+
+// What testing the phys of an expander answers: the place after them.
+pub enum PhysCheck {
+    Refused(Refusal),
+    Passed(usize),
+}
+
+// What testing a domain for some causes answers.
+pub enum Check {
+    Refused(Refusal),
+    Passed,
+}
+
+// What the wiring call answers: how many bits are set in all.
+pub enum Wiring {
+    Refused(Refusal),
+    Bits(u64),
+}

@@ -1,0 +1,71 @@
+// Causes 11 to 13: loops, chains to expander 0, and links that are table at both ends.
+use crate::Check;
+use crate::causes;
+use crate::neighbours;
+use crate::rounds;
+use crate::view;
+use frames::ExpanderNumber;
+use frames::PhyId;
+use frames::Refusal;
+ghost use mathlib.Core.Path.{_≡_};
+ghost use lib.ListN.{length};
+ghost use Rattle.wiring.specs.Lists.{upTo};
+ghost use Rattle.wiring.specs.Rows.{domainIn};
+ghost use Rattle.wiring.specs.Graph.{loopfree};
+ghost use Rattle.wiring.specs.Neighbours.{neighbours};
+ghost use Rattle.wiring.specs.Links.{joinedIn, linkedDomain};
+ghost use Rattle.wiring.specs.Checks.{checkAnswer};
+ghost use Rattle.wiring.specs.Rounds.{Held};
+
+// Whether nothing is left when expanders with at most one neighbour are taken away again and again.
+fn is_loopfree(rows: &[u64], words: &[u64]) -> bool
+    requires { ⌜ Held (domainIn (now rows)) (now words) ⌝ }
+    ensures { λ r. ⌜ r ≡ loopfree (length (domainIn (now (rows .entry)))) (neighbours (domainIn (now (rows .entry)))) ⌝ }
+{
+    let all = rounds::all_of(view::expander_count(rows));
+    rounds::run_rounds(rows, words, 11, all) == 0
+}
+
+// Cause 12: the lowest expander that is not reached from expander 0.
+fn check_joined(rows: &[u64], words: &[u64]) -> Check
+    requires { ⌜ Held (domainIn (now rows)) (now words) ⌝ }
+    ensures { λ r. ⌜ checkAnswer (domainIn (now (rows .entry))) r ≡ joinedIn (upTo (length (domainIn (now (rows .entry))))) (domainIn (now (rows .entry))) ⌝ }
+{
+    let n = view::expander_count(rows);
+    if n == 0 {
+        return Check::Passed;
+    }
+    let seen = rounds::run_rounds(rows, words, 12, 1);
+    let mut i: u8 = 0;
+    while i < n {
+        if !rounds::has(seen, i) {
+            return Check::Refused(Refusal {
+                number: 12,
+                expander: ExpanderNumber(i),
+                phy: PhyId(0),
+            });
+        }
+        i += 1;
+    }
+    Check::Passed
+}
+
+// Causes 11 to 13 in order.
+pub fn check_links(rows: &[u64]) -> Check
+    ensures { λ r. ⌜ checkAnswer (domainIn (now (rows .entry))) r ≡ linkedDomain (domainIn (now (rows .entry))) ⌝ }
+{
+    let mut words = [0u64; 64];
+    neighbours::put_neighbours(rows, &mut words[..]);
+    if !is_loopfree(rows, &words[..]) {
+        return Check::Refused(Refusal {
+            number: 11,
+            expander: ExpanderNumber(0),
+            phy: PhyId(0),
+        });
+    }
+    let joined = check_joined(rows, &words[..]);
+    match joined {
+        Check::Refused(r) => Check::Refused(r),
+        Check::Passed => causes::first_of(rows, 13),
+    }
+}

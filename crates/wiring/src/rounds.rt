@@ -1,0 +1,82 @@
+// Rounds over sets of expanders, held as 64-bit words with a bit for each expander.
+use crate::view;
+ghost use mathlib.Core.Path.{_≡_};
+ghost use Prim.Native.Nat.{_≤_, _<_};
+ghost use lib.ListN.{length};
+ghost use Rattle.wiring.specs.Lists.{upTo};
+ghost use Rattle.wiring.specs.Rows.{domainIn};
+ghost use Rattle.wiring.specs.Neighbours.{neighbours, setOf};
+ghost use Rattle.wiring.specs.Rounds.{hasBit, members, SetBelow, Held, nextTest, nextSet, RoundsRun};
+
+// Whether bit j of a set is set.
+pub(crate) fn has(set: u64, j: u8) -> bool
+    requires { ⌜ j < 64 ⌝ }
+    ensures { λ r. ⌜ r ≡ hasBit set j ⌝ }
+{
+    (set >> j) & 1 == 1
+}
+
+// The set of all n expanders.
+pub(crate) fn all_of(n: u8) -> u64
+    requires { ⌜ n ≤ 64 ⌝ }
+    ensures { λ r. ⌜ r ≡ setOf (upTo n) ⌝ }
+{
+    if n == 0 {
+        return 0;
+    }
+    0xffff_ffff_ffff_ffff >> (64 - n)
+}
+
+// Whether expander v belongs to the next set, in a round of cause k. `word` has its neighbours.
+fn is_next(k: u8, word: u64, set: u64, v: u8) -> bool
+    requires { ⌜ v < 64 ⌝ }
+    ensures { λ r. ⌜ r ≡ nextTest k word set v ⌝ }
+{
+    let near = u64::count_ones(set & word);
+    if k == 11 {
+        if !has(set, v) {
+            return false;
+        }
+        if has(word, v) {
+            return true;
+        }
+        return near >= 2;
+    }
+    if has(set, v) {
+        return true;
+    }
+    near >= 1
+}
+
+// The next set, in a round of cause k.
+fn round(rows: &[u64], words: &[u64], k: u8, set: u64) -> u64
+    requires { ⌜ Held (domainIn (now rows)) (now words) × SetBelow (length (domainIn (now rows))) set ⌝ }
+    ensures { λ r. ⌜ r ≡ setOf (nextSet k (length (domainIn (now (rows .entry)))) (neighbours (domainIn (now (rows .entry)))) (members (length (domainIn (now (rows .entry)))) set)) ⌝ }
+{
+    let n = view::expander_count(rows);
+    let mut next: u64 = 0;
+    let mut v: u8 = 0;
+    while v < n {
+        let at = v as usize;
+        if is_next(k, words[at], set, v) {
+            next = next | (1u64 << v);
+        }
+        v += 1;
+    }
+    next
+}
+
+// The set after a round of cause k for each expander.
+pub(crate) fn run_rounds(rows: &[u64], words: &[u64], k: u8, set: u64) -> u64
+    requires { ⌜ Held (domainIn (now rows)) (now words) × SetBelow (length (domainIn (now rows))) set ⌝ }
+    ensures { λ r. ⌜ RoundsRun (domainIn (now (rows .entry))) k set r ⌝ }
+{
+    let n = view::expander_count(rows);
+    let mut next = set;
+    let mut i: u8 = 0;
+    while i < n {
+        next = round(rows, words, k, next);
+        i += 1;
+    }
+    next
+}

@@ -1,0 +1,214 @@
+// The units of a domain file: an expander's 36 bytes, and a phy's 52.
+use crate::ExpanderRead;
+use crate::ExpanderUnit;
+use crate::Limits;
+use crate::Phy;
+use crate::PhyFields;
+use crate::PhyRead;
+use frames::Discover;
+use frames::DiscoverRead;
+use frames::ExpanderNumber;
+use frames::General;
+use frames::GeneralRead;
+use frames::PhyId;
+use frames::Refusal;
+ghost use mathlib.Core.Path.{_≡_};
+ghost use mathlib.Core.Bool.{not, _||_, _&&_};
+ghost use lib.Dec.{eqb, leb};
+ghost use Rattle.frames.specs.Refusals.{then};
+ghost use Rattle.frames.specs.Discovery.{fields};
+ghost use Rattle.wiring.specs.Lists.{isIn};
+ghost use Rattle.wiring.specs.File.{phyOf, phyUnit, expanderUnit};
+ghost use Rattle.wiring.specs.Units.{phyAnswer, expanderAnswer, endsAt, unitOf};
+
+// Whether the phy identifier and the own address are those of phy p of this expander.
+fn is_placed(f: Discover, own: u64, p: PhyId) -> bool
+    ensures { λ r. ⌜ r ≡ (eqb (f .identifier .0) (p .0) && eqb (f .own) own) ⌝ }
+{
+    if f.identifier.0 != p.0 {
+        return false;
+    }
+    f.own == own
+}
+
+// Whether type, attribute and attached address are ones that a phy can have.
+fn is_ranged(f: Discover) -> bool
+    ensures { λ r. ⌜ r ≡ (leb (f .device) 3 && (leb (f .attribute) 2 && (eqb (f .device) 0 || not (eqb (f .attached) 0)))) ⌝ }
+{
+    if f.device > 3 {
+        return false;
+    }
+    if f.attribute > 2 {
+        return false;
+    }
+    if f.device == 0 {
+        return true;
+    }
+    f.attached != 0
+}
+
+// Causes 5 and 6 of a phy that is not vacant.
+fn phy_of(f: Discover, own: u64, i: ExpanderNumber, p: PhyId, next: usize) -> PhyRead
+    ensures { λ r. ⌜ phyAnswer r ≡ then (phyOf own (i .0) (p .0) (fields f)) (endsAt next) ⌝ }
+{
+    if !is_placed(f, own, p) {
+        return PhyRead::Refused(Refusal {
+            number: 5,
+            expander: i,
+            phy: p,
+        });
+    }
+    if !is_ranged(f) {
+        return PhyRead::Refused(Refusal {
+            number: 6,
+            expander: i,
+            phy: p,
+        });
+    }
+    let far = f.far;
+    let phy = PhyFields {
+        device: f.device,
+        attribute: f.attribute,
+        address: f.attached,
+        far: far,
+    };
+    PhyRead::Read(Phy::Present(phy), next)
+}
+
+// The unit of phy p of expander i, whose address is `own`.
+pub(crate) fn phy_unit(file: &[u8], own: u64, i: ExpanderNumber, p: PhyId, at: usize) -> PhyRead
+    ensures { λ r. ⌜ phyAnswer r ≡ phyUnit (now (file .entry)) own (i .0) (p .0) at ⌝ }
+{
+    if file.len() < at {
+        return PhyRead::Refused(Refusal {
+            number: 1,
+            expander: i,
+            phy: p,
+        });
+    }
+    if file.len() - at < 52 {
+        return PhyRead::Refused(Refusal {
+            number: 1,
+            expander: i,
+            phy: p,
+        });
+    }
+    let next = at + 52;
+    let frame = frames::read_discover(&file[at..next]);
+    match frame {
+        DiscoverRead::Refused(r) => PhyRead::Refused(Refusal {
+            number: r.number,
+            expander: i,
+            phy: p,
+        }),
+        DiscoverRead::Vacant(result) => PhyRead::Read(Phy::Vacant(result), next),
+        DiscoverRead::Read(f) => phy_of(f, own, i, p, next),
+    }
+}
+
+// Whether the address is among those seen.
+pub(crate) fn is_in(seen: &[u64], a: u64) -> bool
+    ensures { λ r. ⌜ r ≡ isIn a (now (seen .entry)) ⌝ }
+{
+    let mut i: usize = 0;
+    while i < seen.len() {
+        if a == seen[i] {
+            return true;
+        }
+        i += 1;
+    }
+    false
+}
+
+// Whether the address is not zero and not among those seen.
+fn is_free(seen: &[u64], own: u64) -> bool
+    ensures { λ r. ⌜ r ≡ (not (eqb own 0) && not (isIn own (now (seen .entry)))) ⌝ }
+{
+    if own == 0 {
+        return false;
+    }
+    !is_in(seen, own)
+}
+
+// Whether n is 1 to `most`.
+pub(crate) fn is_within(n: u8, most: u8) -> bool
+    ensures { λ r. ⌜ r ≡ (leb 1 n && leb n most) ⌝ }
+{
+    if n < 1 {
+        return false;
+    }
+    n <= most
+}
+
+// Causes 3 and 4 of an expander's unit.
+fn unit_of(
+    most: Limits,
+    g: General,
+    own: u64,
+    free: bool,
+    i: ExpanderNumber,
+    next: usize,
+) -> ExpanderRead
+    ensures { λ r. ⌜ expanderAnswer r ≡ unitOf most g own free (i .0) next ⌝ }
+{
+    if !is_within(g.phys, most.phys) {
+        return ExpanderRead::Refused(Refusal {
+            number: 3,
+            expander: i,
+            phy: PhyId(0),
+        });
+    }
+    if !free {
+        return ExpanderRead::Refused(Refusal {
+            number: 4,
+            expander: i,
+            phy: PhyId(0),
+        });
+    }
+    let unit = ExpanderUnit {
+        address: own,
+        indexes: g.indexes,
+        phys: g.phys,
+        configurable: g.configurable,
+    };
+    ExpanderRead::Read(unit, next)
+}
+
+// The unit of expander i, where `seen` are the addresses of the expanders before it.
+pub(crate) fn expander_unit(
+    most: Limits,
+    file: &[u8],
+    seen: &[u64],
+    i: ExpanderNumber,
+    at: usize,
+) -> ExpanderRead
+    ensures { λ r. ⌜ expanderAnswer r ≡ expanderUnit most (now (file .entry)) (now (seen .entry)) (i .0) at ⌝ }
+{
+    if file.len() < at {
+        return ExpanderRead::Refused(Refusal {
+            number: 1,
+            expander: i,
+            phy: PhyId(0),
+        });
+    }
+    if file.len() - at < 36 {
+        return ExpanderRead::Refused(Refusal {
+            number: 1,
+            expander: i,
+            phy: PhyId(0),
+        });
+    }
+    let own = frames::address_at(file, at);
+    let free = is_free(seen, own);
+    let from = at + 8;
+    let next = at + 36;
+    let frame = frames::read_general(&file[from..next]);
+    match frame {
+        GeneralRead::Refused(r) => ExpanderRead::Refused(Refusal {
+            number: r.number,
+            expander: i,
+            phy: PhyId(0),
+        }),
+        GeneralRead::Read(g) => unit_of(most, g, own, free, i, next),
+    }
+}
