@@ -1,0 +1,14 @@
+pub mod Wiring
+pub mod Opened
+pub mod Once
+pub mod Beyond
+pub mod Few
+pub mod Listed
+pub mod Tables
+pub mod Given
+pub mod Growing
+pub mod Queues
+pub mod Fills
+pub mod Puts
+pub mod Over
+pub mod Judging

@@ -1,0 +1,204 @@
+-- All tables: places one after the other, how many words and tables they have, and tables put in words one after the other.
+-- A turn takes `piece` from the places left, `rest ≡ piece ++ rest'`.
+use Prim.Native.Nat.{ℕ, suc, _+_, _-_, _≤_, _<_}
+use mathlib.Core.Path.{_≡_, refl, sym, _∙_, ap}
+use mathlib.Core.Bool.{Bool, true, false, cond}
+use mathlib.Core.List.{List, [], _∷_, _++_, flatMap, append-nil, append-assoc}
+use native.Mathlib.Omega.{arith}
+use native.Mathlib.Nat.{add-zero}
+use native.Mathlib.Numerals.{add-one}
+use lib.ListN.{length, take, drop, replicate, length-append, length-drop, take-append-drop, drop-of-length-le}
+use lib.Seq.{take-at, drop-at, drop-cons, drop-drop, length-take-le}
+use Rattle.wiring.specs.Lists.{keep}
+use Rattle.wiring.specs.Domain.{Domain, noExpander, expanderAt, phyAt, routes}
+use Rattle.wiring.specs.Causes.{Place, place, phyPlaces, placesFrom, places}
+use Rattle.wiring.proofs.Members.{keep-append}
+use Rattle.tables.specs.Tables.{levelList, table, tablePlaces, tables, size, sizes, needed}
+use Rattle.tables.specs.Filling.{TableFilled, placesAt, withTables, tablesOf, overlay, Put}
+use Rattle.tables.proofs.Growing.{flat-append}
+use Rattle.tables.proofs.Fills.{length-filled, length-table}
+
+-- the places left
+module _ (i n p : ℕ) where
+  pub phys-next : p < n → phyPlaces i p (n - p) ≡ (place i p ∷ []) ++ phyPlaces i (p + 1) (n - (p + 1))
+  unfolding phyPlaces
+  phys-next h = let e : n - p ≡ suc (n - (p + 1)) = omega arith in rw e
+
+  pub phys-last : n ≤ p → phyPlaces i p (n - p) ≡ []
+  unfolding phyPlaces
+  phys-last h = let e : n - p ≡ 0 = omega arith in rw e
+
+module _ (d : Domain) (i : ℕ) where
+  pub from-next : i < length d → placesFrom i (drop i d) ≡ placesAt d i ++ placesFrom (i + 1) (drop (i + 1) d)
+  unfolding placesFrom
+  from-next h = let e : drop i d ≡ expanderAt d i ∷ drop (i + 1) d = rw add-one (drop-cons d i noExpander h) in rw e
+
+  pub from-last : length d ≤ i → placesFrom i (drop i d) ≡ []
+  unfolding placesFrom
+  from-last h = rw (drop-of-length-le d h)
+
+module _ (d : Domain) where
+  sizes-append : (qs rs : List Place) → sizes d (qs ++ rs) ≡ sizes d qs + sizes d rs
+  unfolding sizes
+  sizes-append [] rs = omega arith
+  sizes-append (q ∷ qs) rs = omega (arith, sizes-append qs rs)
+
+  sizes-next : (rest piece rest' : List Place) → rest ≡ piece ++ rest' → sizes d rest ≡ sizes d piece + sizes d rest'
+  sizes-next rest piece rest' q = ap (sizes d) q ∙ sizes-append piece rest'
+
+  pub sizes-none : (rest : List Place) → rest ≡ [] → sizes d rest ≡ 0
+  unfolding sizes
+  sizes-none rest q = ap (sizes d) q
+
+  pub phys-sizes : (i n p : ℕ) → p < n → sizes d (phyPlaces i p (n - p)) ≡ size d (place i p) + sizes d (phyPlaces i (p + 1) (n - (p + 1)))
+  unfolding sizes
+  phys-sizes i n p h = ap (sizes d) (phys-next i n p h)
+
+  pub from-sizes : (i : ℕ) → i < length d
+      → sizes d (placesFrom i (drop i d)) ≡ sizes d (placesAt d i) + sizes d (placesFrom (i + 1) (drop (i + 1) d))
+  from-sizes i h = sizes-next (placesFrom i (drop i d)) (placesAt d i) (placesFrom (i + 1) (drop (i + 1) d)) (from-next d i h)
+
+  pub size-by : (i p : ℕ) {b : Bool} → routes 2 (phyAt d i p) ≡ b → size d (place i p) ≡ cond b (expanderAt d i .indexes) 0
+  unfolding size
+  size-by i p q = rw q
+
+  count-next : (rest piece rest' : List Place) → rest ≡ piece ++ rest'
+      → length (withTables d rest) ≡ length (withTables d piece) + length (withTables d rest')
+  count-next rest piece rest' q =
+      ap (λ (v : List Place). length (withTables d v)) q ∙ ap length (keep-append (λ q. routes 2 (phyAt d (q .expander) (q .phy))) piece rest')
+      ∙ length-append (withTables d piece) (withTables d rest')
+
+  pub phys-count : (i n p : ℕ) → p < n → length (withTables d (phyPlaces i p (n - p)))
+      ≡ length (withTables d (place i p ∷ [])) + length (withTables d (phyPlaces i (p + 1) (n - (p + 1))))
+  phys-count i n p h = count-next (phyPlaces i p (n - p)) (place i p ∷ []) (phyPlaces i (p + 1) (n - (p + 1))) (phys-next i n p h)
+
+  pub from-count : (i : ℕ) → i < length d → length (withTables d (placesFrom i (drop i d)))
+      ≡ length (withTables d (placesAt d i)) + length (withTables d (placesFrom (i + 1) (drop (i + 1) d)))
+  from-count i h = count-next (placesFrom i (drop i d)) (placesAt d i) (placesFrom (i + 1) (drop (i + 1) d)) (from-next d i h)
+
+  pub count-none : (rest : List Place) → rest ≡ [] → length (withTables d rest) ≡ 0
+  unfolding keep
+  count-none rest q = ap (λ (v : List Place). length (withTables d v)) q
+
+  pub count-by : (i p : ℕ) {b : Bool} → routes 2 (phyAt d i p) ≡ b → length (withTables d (place i p ∷ [])) ≡ cond b 1 0
+  unfolding keep
+  count-by i p {b} q = rw q (go b)
+    where
+      go : (c : Bool) → length (cond c (place i p ∷ []) []) ≡ cond c 1 0
+      go true = refl
+      go false = refl
+
+  pub count-all : length (withTables d (places d)) ≡ length (tablePlaces d)
+  unfolding tablePlaces
+  count-all = refl
+
+  tables-append : (qs rs : List Place) → tablesOf d (qs ++ rs) ≡ tablesOf d qs ++ tablesOf d rs
+  unfolding tablesOf
+  tables-append qs rs =
+      ap (flatMap (λ q. table d (q .expander) (q .phy))) (keep-append (λ q. routes 2 (phyAt d (q .expander) (q .phy))) qs rs)
+      ∙ flat-append (λ q. table d (q .expander) (q .phy)) (withTables d qs) (withTables d rs)
+
+  tables-next : (rest piece rest' : List Place) → rest ≡ piece ++ rest' → tablesOf d rest ≡ tablesOf d piece ++ tablesOf d rest'
+  tables-next rest piece rest' q = ap (tablesOf d) q ∙ tables-append piece rest'
+
+  tables-none : (rest : List Place) → rest ≡ [] → tablesOf d rest ≡ []
+  unfolding tablesOf keep flatMap
+  tables-none rest q = ap (tablesOf d) q
+
+  tables-by : (i p : ℕ) {b : Bool} → routes 2 (phyAt d i p) ≡ b → tablesOf d (place i p ∷ []) ≡ cond b (table d i p) []
+  unfolding tablesOf keep flatMap
+  tables-by i p {b} q = rw q (go b)
+    where
+      go : (c : Bool) → flatMap (λ q. table d (q .expander) (q .phy)) (cond c (place i p ∷ []) []) ≡ cond c (table d i p) []
+      go true = append-nil (table d i p)
+      go false = refl
+
+  length-one : (q : Place) → length (tablesOf d (q ∷ [])) ≡ size d q
+  unfolding size
+  length-one q = ap length (tables-by (q .expander) (q .phy) refl) ∙ go (routes 2 (phyAt d (q .expander) (q .phy)))
+    where
+      go : (c : Bool) → length (cond c (table d (q .expander) (q .phy)) []) ≡ cond c (expanderAt d (q .expander) .indexes) 0
+      go true = length-table d (q .expander) (q .phy)
+      go false = refl
+
+  pub length-tables : (qs : List Place) → length (tablesOf d qs) ≡ sizes d qs
+  unfolding sizes
+  length-tables [] = ap length (tables-none [] refl)
+  length-tables (q ∷ qs) =
+      ap length (tables-append (q ∷ []) qs) ∙ length-append (tablesOf d (q ∷ [])) (tablesOf d qs)
+      ∙ omega (arith, length-one q, length-tables qs)
+
+-- words put one after the other
+overlay-none : (ws : List ℕ) (at : ℕ) → overlay ws at [] ≡ ws
+unfolding overlay
+overlay-none ws at = let e : at + 0 ≡ at = add-zero at in rw e (take-append-drop at ws)
+
+overlay-next : (ws : List ℕ) (at : ℕ) (r new : List ℕ) → at + length r ≤ length ws → overlay (overlay ws at r) (at + length r) new ≡ overlay ws at (r ++ new)
+unfolding overlay
+overlay-next ws at r new h =
+    let f : List ℕ = take at ws ++ r in
+    let g : List ℕ = drop (at + length r) ws in
+    let lf : length f ≡ at + length r = length-append (take at ws) r ∙ omega (arith, length-take-le at ws (omega arith)) in
+    let s : take at ws ++ (r ++ g) ≡ f ++ g = sym (append-assoc (take at ws) r g) in
+    let n : at + length r + length new ≡ at + length (r ++ new) = omega (arith, length-append r new) in
+    let t₁ : take (at + length r) (f ++ g) ≡ f = take-at f g _ lf in
+    let t₂ : drop (at + length r + length new) (f ++ g) ≡ drop (at + length (r ++ new)) ws =
+    sym (drop-drop (length new) (at + length r) (f ++ g)) ∙ ap (drop (length new)) (drop-at f g _ lf)
+    ∙ drop-drop (length new) (at + length r) ws ∙ ap (λ (x : ℕ). drop x ws) n in
+    rw (s, t₁, t₂) (append-assoc (take at ws) r (new ++ drop (at + length (r ++ new)) ws) ∙ rw (append-assoc r))
+
+length-overlay : (ws : List ℕ) (at : ℕ) (r : List ℕ) → at + length r ≤ length ws → length (overlay ws at r) ≡ length ws
+unfolding overlay
+length-overlay ws at r h =
+    let a = length-append (take at ws) (r ++ drop (at + length r) ws) in
+    let b = length-append r (drop (at + length r) ws) in
+    let c = length-drop (at + length r) ws in
+    omega (arith, length-take-le at ws (omega arith))
+
+put-part : (ws : List ℕ) (at k : ℕ) (r : List ℕ) → length r ≡ k → take at ws ++ (r ++ drop k (drop at ws)) ≡ overlay ws at r
+unfolding overlay
+put-part ws at k r q = rw (drop-drop k at ws, q)
+
+module _ (d : Domain) (i p : ℕ) (ws : List ℕ) (at : ℕ) where
+  -- no table phy
+  pub put-none : routes 2 (phyAt d i p) ≡ false → Put ws ws at at (tablesOf d (place i p ∷ []))
+  put-none b =
+      let q = tables-by d i p b in
+      record { same = refl; next = omega (arith, ap length q); words = sym (ap (overlay ws at) q ∙ overlay-none ws at) }
+
+  -- a part of the words, lent and filled
+  pub put-one : {part r : List ℕ} {n : ℕ} → TableFilled d i p part r n → routes 2 (phyAt d i p) ≡ true → (k : ℕ) → length part ≡ k
+      → k ≡ expanderAt d i .indexes → (e : ℕ) → e ≡ at + k → e ≤ length ws
+      → Put ws (take at ws ++ (r ++ drop k (drop at ws))) at e (tablesOf d (place i p ∷ []))
+  unfolding table
+  put-one {part} {r} t b k q z e qe h =
+      let new : List ℕ = tablesOf d (place i p ∷ []) in
+      let s : r ≡ new = t .words ∙ ap (λ (n : ℕ). take n (levelList d i p ++ replicate n 0)) (q ∙ z) ∙ sym (tables-by d i p b) in
+      let lr : length r ≡ k = ap length (t .words) ∙ length-filled (length part) (levelList d i p) ∙ q in
+      let w : take at ws ++ (r ++ drop k (drop at ws)) ≡ overlay ws at new = put-part ws at k r lr ∙ ap (overlay ws at) s in
+      let ln : length new ≡ k = sym (ap length s) ∙ lr in
+      record { same = ap length w ∙ length-overlay ws at new (omega arith); next = omega arith; words = w }
+
+-- a turn, and the end
+module _ (d : Domain) (ws : List ℕ) (at : ℕ) (rest : List Place) {v : List ℕ} (inv : overlay ws at (tablesOf d rest) ≡ v) where
+  pub put-go : (piece rest' : List Place) {ws' : List ℕ} {to : ℕ} → Put ws ws' at to (tablesOf d piece) → rest ≡ piece ++ rest'
+      → at + sizes d rest ≤ length ws → overlay ws' to (tablesOf d rest') ≡ v
+  put-go piece rest' {ws'} {to} u q h =
+      let s = sizes-next d rest piece rest' q in
+      ap (λ (x : List ℕ). overlay x to (tablesOf d rest')) (u .words)
+      ∙ ap (λ (x : ℕ). overlay (overlay ws at (tablesOf d piece)) x (tablesOf d rest')) (u .next)
+      ∙ overlay-next ws at (tablesOf d piece) (tablesOf d rest') (omega (arith, length-tables d piece))
+      ∙ sym (ap (overlay ws at) (tables-next d rest piece rest' q)) ∙ inv
+
+  pub put-end : rest ≡ [] → ws ≡ v
+  put-end q = sym (ap (overlay ws at) (tables-none d rest q) ∙ overlay-none ws at) ∙ inv
+
+pub put-long : (d : Domain) (at : ℕ) (rest piece rest' : List Place) {to : ℕ} → to ≡ at + length (tablesOf d piece) → rest ≡ piece ++ rest'
+    → to + sizes d rest' ≡ at + sizes d rest
+put-long d at rest piece rest' e q = omega (arith, sizes-next d rest piece rest' q, length-tables d piece)
+
+pub put-all : (d : Domain) (ws : List ℕ) → overlay ws 0 (tablesOf d (places d)) ≡ tables d ++ drop (needed d) ws
+unfolding overlay tables tablePlaces tablesOf
+put-all d ws =
+    let e : 0 + length (tablesOf d (places d)) ≡ needed d = omega (arith, length-tables d (places d)) in
+    ap (λ (x : ℕ). tablesOf d (places d) ++ drop x ws) e

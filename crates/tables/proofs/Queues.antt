@@ -1,0 +1,156 @@
+-- A level made in a queue of 65 places is the whole level: its numbers differ, and are at most 64.
+use Prim.Native.Nat.{ℕ, suc, _+_, _-_, _≤_, _<_, zero-le}
+use mathlib.Core.Path.{_≡_, refl, sym, _∙_, ap, subst}
+use mathlib.Core.Bool.{Bool, true, false, cond, not, _||_}
+use mathlib.Core.List.{List, [], _∷_, _++_, map, flatMap, append-nil, append-assoc, map-append}
+use mathlib.Core.Logic.{inl, inr}
+use native.Mathlib.Omega.{arith}
+use lib.ListN.{length, getD, drop, length-append, drop-of-length-le}
+use lib.Dec.{T, eqb, leb}
+use borrow.Author.Tests.{lt-leb}
+use Rattle.wiring.specs.declared.Phy.{Phy}
+use Rattle.wiring.specs.declared.Phy.the-variants.{Vacant}
+use Rattle.wiring.specs.Lists.{any, keep, isIn, Distinct, Below}
+use Rattle.wiring.specs.Domain.{Domain, expanderAt, phyAt, addressOf, numberOf}
+use Rattle.wiring.proofs.Members.{was-false, isIn-of, in-map, in-flatMap, all-cons, keep-append, at-most}
+use Rattle.tables.specs.Levels.{once, down, belowPhys, below, nextLevel, levelsFrom, levels}
+use Rattle.tables.specs.Tables.{giveAll, levelList}
+use Rattle.tables.specs.Filling.{add, addAll, physOf}
+use Rattle.tables.proofs.Growing.{drop-next, flat-append}
+
+-- the expanders below some phys
+module _ (d : Domain) where
+  pub below-none : (φ : Phy) → down d φ ≡ false → belowPhys d (φ ∷ []) ≡ []
+  unfolding belowPhys keep
+  below-none φ q = rw q
+
+  pub below-one : (φ : Phy) → down d φ ≡ true → belowPhys d (φ ∷ []) ≡ numberOf d (addressOf φ) ∷ []
+  unfolding belowPhys keep
+  below-one φ q = rw q
+
+  below-append : (l m : List Phy) → belowPhys d (l ++ m) ≡ belowPhys d l ++ belowPhys d m
+  unfolding belowPhys
+  below-append l m = ap (map (λ φ. numberOf d (addressOf φ))) (keep-append (down d) l m) ∙ map-append _ (keep (down d) l) (keep (down d) m)
+
+  pub below-start : (i : ℕ) → belowPhys d (expanderAt d i .phys) ≡ below d i
+  unfolding below
+  below-start i = refl
+
+  pub below-next : (φs : List Phy) (p : ℕ) → p < length φs
+      → belowPhys d (drop p φs) ≡ belowPhys d (getD φs p (Vacant 0) ∷ []) ++ belowPhys d (drop (p + 1) φs)
+  below-next φs p h = ap (belowPhys d) (drop-next (Vacant 0) φs p h) ∙ below-append (getD φs p (Vacant 0) ∷ []) (drop (p + 1) φs)
+
+  pub below-last : (φs : List Phy) (p : ℕ) → length φs ≤ p → belowPhys d (drop p φs) ≡ []
+  unfolding belowPhys keep
+  below-last φs p h = rw (drop-of-length-le φs h)
+
+number-le : (d : Domain) (s : ℕ) → numberOf d s ≤ length d
+unfolding numberOf
+number-le [] s = zero-le
+number-le (e ∷ d) s = go (eqb (e .address) s) (number-le d s)
+  where
+    go : (b : Bool) → numberOf d s ≤ length d → cond b 0 (suc (numberOf d s)) ≤ suc (length d)
+    go true h = omega arith
+    go false h = omega arith
+
+phys-under : (d : Domain) (n : ℕ) → length d < n → (φs : List Phy) → Below n (belowPhys d φs)
+unfolding belowPhys
+phys-under d n h φs w i =
+    let m = in-map (λ φ. numberOf d (addressOf φ)) (keep (down d) φs) w i in
+    let e = m .2 in
+    omega (arith, number-le d (addressOf (m .0)))
+
+level-under : (d : Domain) (n : ℕ) → length d < n → (level : List ℕ) → Below n (flatMap (below d) level)
+unfolding below
+level-under d n h level w i =
+    let m = in-flatMap (below d) level w i in
+    phys-under d n h (expanderAt d (m .0) .phys) w (m .2)
+
+isIn-snoc : (w x : ℕ) (l : List ℕ) → isIn w (l ++ (x ∷ [])) ≡ (eqb w x || isIn w l)
+unfolding isIn any
+isIn-snoc w x [] = refl
+isIn-snoc w x (y ∷ l) = ap (λ b. eqb w y || b) (isIn-snoc w x l) ∙ swap (eqb w y) (eqb w x) (isIn w l)
+  where
+    swap : (a b c : Bool) → (a || (b || c)) ≡ (b || (a || c))
+    swap true true c = refl
+    swap true false c = refl
+    swap false b c = refl
+
+-- l is `seen` in another order: all different, below n
+record Kept (n : ℕ) (l seen : List ℕ) : Type 0 where
+  same : (w : ℕ) → isIn w l ≡ isIn w seen
+  long : length l ≡ length seen
+  distinct : Distinct seen
+  under : Below n seen
+
+module _ (n : ℕ) where
+  kept-more : (l seen : List ℕ) (x : ℕ) → Kept n l seen → isIn x l ≡ false → x < n → Kept n (l ++ (x ∷ [])) (x ∷ seen)
+  unfolding isIn any
+  kept-more l seen x k q h = record {
+    same = λ w. isIn-snoc w x l ∙ ap (λ b. eqb w x || b) (k .same w);
+    long = length-append l (x ∷ []) ∙ omega (arith, k .long);
+    distinct = (λ i. was-false (isIn x l) q (subst T (sym (k .same x)) (isIn-of x seen i)), k .distinct);
+    under = all-cons (λ w. w < n) x seen h (k .under);
+  }
+
+  once-skip : (seen : List ℕ) (x : ℕ) (xs : List ℕ) → isIn x seen ≡ true → once seen (x ∷ xs) ≡ once seen xs
+  unfolding once
+  once-skip seen x xs q = rw q
+
+  once-take : (seen : List ℕ) (x : ℕ) (xs : List ℕ) → isIn x seen ≡ false → once seen (x ∷ xs) ≡ x ∷ once (x ∷ seen) xs
+  unfolding once
+  once-take seen x xs q = rw q
+
+  module _ (last : List ℕ) where
+    abbrev new : List ℕ → List ℕ
+    new js = keep (λ i. not (isIn i last)) js
+
+    -- nothing is left out for want of room
+    all-added : (js l seen : List ℕ) → Kept n l seen → Below n js → addAll n last l js ≡ l ++ once seen (new js)
+    unfolding addAll add keep once
+    all-added [] l seen k a = sym (append-nil l)
+    all-added (x ∷ js) l seen k a = go (isIn x last) (isIn x l) refl (λ m s r. all-added js m s r (λ w i. a w (inr i)))
+      where
+        go : (b₁ b₂ : Bool) → isIn x l ≡ b₂ → ((m s : List ℕ) → Kept n m s → addAll n last m js ≡ m ++ once s (new js))
+            → addAll n last (cond (b₁ || (b₂ || leb n (length l))) l (l ++ (x ∷ []))) js ≡ l ++ once seen (cond (not b₁) (x ∷ new js) (new js))
+        go true b₂ q r = r l seen k
+        go false true q r = r l seen k ∙ ap (λ (m : List ℕ). l ++ m) (sym (once-skip seen x (new js) (sym (k .same x) ∙ q)))
+        go false false q r =
+            let m = kept-more l seen x k q (a x (inl refl)) in
+            let s : length l < n = omega (arith, k .long, at-most n (x ∷ seen) (m .under) (m .distinct)) in
+            ap (λ (b : Bool). addAll n last (cond b l (l ++ (x ∷ []))) js) (lt-leb n (length l) s)
+            ∙ r (l ++ (x ∷ [])) (x ∷ seen) m
+            ∙ append-assoc l (x ∷ []) (once (x ∷ seen) (new js))
+            ∙ ap (λ (m : List ℕ). l ++ m) (sym (once-take seen x (new js) (sym (k .same x) ∙ q)))
+
+pub next-level : (d : Domain) (last level : List ℕ) → length d ≤ 64 → addAll 65 last [] (flatMap (below d) level) ≡ nextLevel d last level
+unfolding nextLevel
+next-level d last level h =
+    let k : Kept 65 [] [] = record { same = λ w. refl; long = refl; distinct = tt; under = λ w i. absurd i } in
+    all-added 65 last (flatMap (below d) level) [] [] k (level-under d 65 (omega arith) level)
+
+pub first-level : (d : Domain) (φ : Phy) → addAll 65 [] [] (belowPhys d (φ ∷ [])) ≡ belowPhys d (φ ∷ [])
+unfolding addAll add belowPhys keep isIn any
+first-level d φ = go (down d φ)
+  where
+    go : (b : Bool) → addAll 65 [] [] (map (λ φ. numberOf d (addressOf φ)) (cond b (φ ∷ []) [])) ≡ map (λ φ. numberOf d (addressOf φ)) (cond b (φ ∷ []) [])
+    go true = refl
+    go false = refl
+
+-- the phys of the levels left
+pub levels-start : (d : Domain) (x p n : ℕ) (last level : List ℕ) → n ≡ length d → last ≡ x ∷ [] → level ≡ belowPhys d (phyAt d x p ∷ [])
+    → giveAll d x [] (physOf d (levelsFrom (n - 0) d last level)) ≡ levelList d x p
+unfolding levelList levels
+levels-start d x p n last level q e f = let z : n - 0 ≡ length d = omega arith in rw (z, e, f)
+
+module _ (d : Domain) (n k : ℕ) (last level : List ℕ) where
+  pub levels-next : {next : List ℕ} → next ≡ nextLevel d last level → k < n
+      → physOf d (levelsFrom (n - k) d last level) ≡ physOf d level ++ physOf d (levelsFrom (n - (k + 1)) d level next)
+  unfolding levelsFrom
+  levels-next q h =
+      let e : n - k ≡ suc (n - (k + 1)) = omega arith in
+      rw (e, q) (flat-append (λ i. expanderAt d i .phys) level (levelsFrom (n - (k + 1)) d level (nextLevel d last level)))
+
+  pub levels-last : n ≤ k → physOf d (levelsFrom (n - k) d last level) ≡ []
+  unfolding levelsFrom flatMap
+  levels-last h = let e : n - k ≡ 0 = omega arith in rw e

@@ -1,0 +1,69 @@
+use Prim.Native.Nat.{ℕ, _+_, _-_, _*_, _≤_}
+use mathlib.Core.Path.{_≡_, ap}
+use native.Mathlib.Omega.{arith}
+use native.Mathlib.Nat.{sub-zero, zero-add}
+use Rattle.wiring.specs.Domain.{Domain}
+use Rattle.wiring.specs.Causes.{phyPlaces}
+use Rattle.wiring.specs.Rows.{domainIn}
+use Rattle.tables.specs.Tables.{sizes}
+use Rattle.tables.proofs.Puts.{phys-last, phys-sizes, sizes-none}
+use borrow.Author.Needs.{needs}
+use Rattle.tables.proofs.all_tables.sizes_at.Statement.{statement}
+use Rattle.tables.proofs.all_tables.sizes_at.Tie as tie
+
+abbrev Inv-loop : tie.InvT-loop
+Inv-loop rows i n sum₀ p₀ sum p =
+    (p ≤ n) × ((sum ≤ 65536 * p) × (sum + sizes (domainIn rows) (phyPlaces (i .0) p (n - p)) ≡ sizes (domainIn rows) (phyPlaces (i .0) 0 n)))
+
+abbrev μ-loop : tie.MeasureT-loop
+μ-loop rows i n sum₀ p₀ sum p = n - p
+
+phy-count-requires : tie.Need-phy-count-requires Inv-loop μ-loop
+phy-count-requires c κs = search needs
+
+loop-holds : tie.Need-loop-holds Inv-loop μ-loop
+loop-holds c = (omega arith, (omega arith, rw (sub-zero (c .phy-count .result)) (zero-add _)))
+
+size-at-requires : tie.Need-size-at-requires Inv-loop μ-loop
+size-at-requires c κs = search needs
+
+add-sum : tie.Need-add-sum Inv-loop μ-loop
+add-sum c = omega arith
+
+add-p : tie.Need-add-p Inv-loop μ-loop
+add-p c = omega arith
+
+loop-less : tie.Need-loop-less Inv-loop μ-loop
+loop-less c = omega arith
+
+loop-again : tie.Need-loop-again Inv-loop μ-loop
+loop-again c =
+    let a = c .before .before .before .before .before .args in
+    let l = c .before .before .loop in
+    let d : Domain = domainIn (a .rows .now) in
+    let n : ℕ = c .before .before .before .phy-count .result in
+    omega (arith, phys-sizes d (a .i .0) n (l .p) (omega arith))
+
+returns : tie.Need-returns Inv-loop μ-loop
+returns c =
+    let a = c .before .before .before .before .args in
+    let l = c .before .loop in
+    let d : Domain = domainIn (a .rows .now) in
+    let n : ℕ = c .before .before .phy-count .result in
+    let e = ap (λ (k : ℕ). sizes d (phyPlaces (a .i .0) 0 k)) (c .before .before .phy-count .ensures .0) in
+    omega (arith, sizes-none d _ (phys-last (a .i .0) n (l .p) (omega arith)))
+
+pub sizes-at-spec : {M : Type 1} → statement M
+sizes-at-spec =
+    tie.close
+    (tie.spec
+    Inv-loop
+    μ-loop
+    phy-count-requires
+    loop-holds
+    size-at-requires
+    add-sum
+    add-p
+    loop-less
+    loop-again
+    returns)

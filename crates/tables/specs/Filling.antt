@@ -1,0 +1,71 @@
+-- What the functions that fill tables make: a level with room for so many, a list with room for so many words, words put at a place.
+use Prim.Native.Nat.{ℕ, _+_, _≤_, min}
+use mathlib.Core.Path.{_≡_}
+use mathlib.Core.Bool.{cond, _||_}
+use mathlib.Core.List.{List, [], _∷_, _++_, flatMap}
+use lib.ListN.{length, take, drop, replicate}
+use lib.Dec.{leb}
+use Rattle.wiring.specs.declared.Phy.{Phy}
+use Rattle.wiring.specs.Lists.{keep, isIn}
+use Rattle.wiring.specs.Domain.{Domain, expanderAt, phyAt, routes}
+use Rattle.wiring.specs.Causes.{Place, phyPlaces}
+use Rattle.tables.specs.Tables.{giveAll, levelList, table}
+
+-- a level so far, and one number more: none of the level before it, none twice, at most `room`
+unfoldable pub add : ℕ → List ℕ → List ℕ → ℕ → List ℕ
+add room last l j = cond (isIn j last || (isIn j l || leb room (length l))) l (l ++ (j ∷ []))
+
+unfoldable pub addAll : ℕ → List ℕ → List ℕ → List ℕ → List ℕ
+addAll room last l [] = l
+addAll room last l (j ∷ js) = addAll room last (add room last l j) js
+
+-- the first r of the words after a call are l
+pub record Grown (before after : List ℕ) (r : ℕ) (l : List ℕ) : Type 0 where
+  pub same : length after ≡ length before
+  pub fits : r ≤ length before
+  pub whole : take r after ≡ l
+
+-- n numbers, and these after them, as far as they are new
+abbrev pub Added : List ℕ → List ℕ → List ℕ → ℕ → ℕ → List ℕ → Type 0
+Added last before after n r js = Grown before after r (addAll (length before) last (take n before) js)
+
+-- as much of l as has room, and its length, or one more than there is room for
+pub record Given (before after : List ℕ) (r : ℕ) (l : List ℕ) : Type 0 where
+  pub same : length after ≡ length before
+  pub count : r ≡ min (length l) (length before + 1)
+  pub whole : take r after ≡ take (length before) l
+
+-- n words of expander x's list, and what these phys give after them
+abbrev pub Gave : Domain → ℕ → List ℕ → List ℕ → ℕ → ℕ → List Phy → Type 0
+Gave d x before after n r φs = Given before after r (giveAll d x (take n before) φs)
+
+-- the phys of these expanders
+abbrev pub physOf : Domain → List ℕ → List Phy
+physOf d is = flatMap (λ i. expanderAt d i .phys) is
+
+-- one table: the list and zeros after it, as many words as were lent; and the list's length, or one more than were lent
+pub record TableFilled (d : Domain) (x p : ℕ) (before after : List ℕ) (r : ℕ) : Type 0 where
+  pub words : after ≡ take (length before) (levelList d x p ++ replicate (length before) 0)
+  pub count : r ≡ min (length (levelList d x p)) (length before + 1)
+
+-- the phys of expander i, as places
+abbrev pub placesAt : Domain → ℕ → List Place
+placesAt d i = phyPlaces i 0 (length (expanderAt d i .phys))
+
+-- the table phys among these
+abbrev pub withTables : Domain → List Place → List Place
+withTables d qs = keep (λ q. routes 2 (phyAt d (q .expander) (q .phy))) qs
+
+-- their tables, one after the other
+unfoldable pub tablesOf : Domain → List Place → List ℕ
+tablesOf d qs = flatMap (λ q. table d (q .expander) (q .phy)) (withTables d qs)
+
+-- words with new ones from a place on
+unfoldable pub overlay : List ℕ → ℕ → List ℕ → List ℕ
+overlay ws at new = take at ws ++ (new ++ drop (at + length new) ws)
+
+-- words put at a place, and the place after them
+pub record Put (before after : List ℕ) (at r : ℕ) (new : List ℕ) : Type 0 where
+  pub same : length after ≡ length before
+  pub next : r ≡ at + length new
+  pub words : after ≡ overlay before at new

@@ -1,0 +1,71 @@
+-- Cause 14, the judging call and the table call.
+use Prim.Native.Nat.{ℕ}
+use mathlib.Core.Path.{_≡_}
+use mathlib.Core.Bool.{Bool, _&&_}
+use mathlib.Core.List.{List, _++_}
+use lib.ListN.{length, drop}
+use lib.Dec.{ltb, leb}
+use Rattle.wiring.specs.Frames.{Result, refused, good, unless, then, refusal}
+use Rattle.wiring.specs.Domain.{Domain, expanderAt, phyAt, routes}
+use Rattle.wiring.specs.File.{limits, domainRead}
+use Rattle.wiring.specs.Causes.{firstOf, wiredDomain}
+use Rattle.wiring.specs.Links.{linkedDomain}
+use Rattle.tables.specs.Tables.{levelList, tablePlaces, tables, needed}
+use Rattle.tables.specs.declared.Judgement.{Judgement}
+use Rattle.tables.specs.declared.Judgement.the-variants.{Refused, Expanders}
+use Rattle.tables.specs.declared.TablesGiven.{TablesGiven}
+use Rattle.tables.specs.declared.TablesGiven.the-variants.{Refused as NotGiven, Counts}
+
+-- 14: level list longer than R
+unfoldable pub overlong : Domain → ℕ → ℕ → Bool
+overlong d i p = routes 2 (phyAt d i p) && ltb (expanderAt d i .indexes) (length (levelList d i p))
+
+-- causes 7 to 14 in order
+unfoldable pub judgedDomain : Domain → Result Domain
+judgedDomain d =
+    then (wiredDomain d) (λ _.
+    then (linkedDomain d) (λ _.
+    firstOf 14 (overlong d) d))
+
+-- a domain file past causes 1 to 14: an accepted file
+abbrev pub judged : List ℕ → Result Domain
+judged file = then (domainRead limits file) judgedDomain
+
+-- what the judging call answers in document 01's terms: the number of expanders
+abbrev pub judgeAnswer : Judgement → Result ℕ
+judgeAnswer (Refused r) = refused r
+judgeAnswer (Expanders n) = good n
+
+abbrev pub expandersIn : Domain → Result ℕ
+expandersIn d = good (length d)
+
+-- 16 where the words are fewer than the tables need
+abbrev pub tablesFor : ℕ → Domain → Result Domain
+tablesFor room d = unless (leb (needed d) room) (refusal 16 0 0) (good d)
+
+-- the table call on a file, with room for so many words
+unfoldable pub tableCall : List ℕ → ℕ → Result Domain
+tableCall file room = then (judged file) (tablesFor room)
+
+-- the number of tables and of words
+pub record Counted : Type 0 where
+  pub tableCount : ℕ
+  pub wordCount : ℕ
+
+abbrev pub countsIn : Domain → Result Counted
+countsIn d = good (record { tableCount = length (tablePlaces d); wordCount = needed d })
+
+-- what the table call answers in document 01's terms
+abbrev pub tablesAnswer : TablesGiven → Result Counted
+tablesAnswer (NotGiven r) = refused r
+tablesAnswer (Counts t w) = good (record { tableCount = t; wordCount = w })
+
+-- the words after the call: the tables, and the words after them as they were; all as they were where refused
+abbrev pub wordsAfter : Result Domain → List ℕ → List ℕ
+wordsAfter (refused r) before = before
+wordsAfter (good d) before = tables d ++ drop (needed d) before
+
+-- all that a table call with this outcome promises: the answer, and the words after
+pub record TablesDone (outcome : Result Domain) (answer : TablesGiven) (before after : List ℕ) : Type 0 where
+  pub answers : tablesAnswer answer ≡ then outcome countsIn
+  pub words : after ≡ wordsAfter outcome before

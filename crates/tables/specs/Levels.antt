@@ -1,0 +1,38 @@
+-- The levels of a table phy, by 07-300r1: which expanders lie beyond it, level by level.
+use Prim.Native.Nat.{ℕ, zero, suc}
+use mathlib.Core.Bool.{Bool, cond, not, _&&_}
+use mathlib.Core.List.{List, [], _∷_, _++_, map, flatMap}
+use lib.ListN.{length}
+use Rattle.wiring.specs.declared.Phy.{Phy}
+use Rattle.wiring.specs.Lists.{keep, isIn}
+use Rattle.wiring.specs.Domain.{Domain, expanderAt, phyAt, addressOf, routes, toExpander, numberOf}
+
+-- each number once, where it first stands, without those seen
+unfoldable pub once : List ℕ → List ℕ → List ℕ
+once seen [] = []
+once seen (x ∷ xs) = cond (isIn x seen) (once seen xs) (x ∷ once (x ∷ seen) xs)
+
+-- the levels go on at a table phy attached to an expander
+abbrev pub down : Domain → Phy → Bool
+down d φ = toExpander φ && routes 2 φ
+
+-- the expanders attached to table phys among these phys, in their order
+unfoldable pub belowPhys : Domain → List Phy → List ℕ
+belowPhys d φs = map (λ φ. numberOf d (addressOf φ)) (keep (down d) φs)
+
+-- the expanders attached to table phys of expander i, lowest phy first
+unfoldable pub below : Domain → ℕ → List ℕ
+below d i = belowPhys d (expanderAt d i .phys)
+
+-- the level after `level`: ordered by the expander of that level and then lowest phy, without the level before it, each once
+unfoldable pub nextLevel : Domain → List ℕ → List ℕ → List ℕ
+nextLevel d last level = once [] (keep (λ i. not (isIn i last)) (flatMap (below d) level))
+
+-- the expanders of so many levels, level by level, from `level` on
+unfoldable pub levelsFrom : ℕ → Domain → List ℕ → List ℕ → List ℕ
+levelsFrom zero d last level = []
+levelsFrom (suc count) d last level = level ++ levelsFrom count d level (nextLevel d last level)
+
+-- the expanders of the levels of phy p of expander x; none where it is attached to no expander
+unfoldable pub levels : Domain → ℕ → ℕ → List ℕ
+levels d x p = levelsFrom (length d) d (x ∷ []) (belowPhys d (phyAt d x p ∷ []))

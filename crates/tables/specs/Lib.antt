@@ -1,0 +1,5 @@
+pub mod Wiring
+pub mod Levels
+pub mod Tables
+pub mod Judge
+pub mod Filling

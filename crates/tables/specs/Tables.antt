@@ -1,0 +1,59 @@
+-- Level lists, and the routing tables that they fill.
+use Prim.Native.Nat.{ℕ, _+_}
+use mathlib.Core.Bool.{Bool, cond, not, _||_, _&&_}
+use mathlib.Core.List.{List, [], _∷_, _++_, flatMap}
+use lib.ListN.{length, take, replicate}
+use lib.Dec.{eqb}
+use Rattle.wiring.specs.declared.Phy.{Phy}
+use Rattle.wiring.specs.Lists.{any, keep, isIn}
+use Rattle.wiring.specs.Domain.{Domain, expanderAt, phyAt, addressOf, routes, attached, bears}
+use Rattle.wiring.specs.Causes.{Place, places}
+use Rattle.tables.specs.Levels.{levels}
+
+-- a phy's word: its attached address, or 0 if nothing is attached
+abbrev pub word : Phy → ℕ
+word φ = cond (attached φ) (addressOf φ) 0
+
+-- the address is expander x's, or is attached at x
+unfoldable pub heldBy : Domain → ℕ → ℕ → Bool
+heldBy d x s = eqb s (expanderAt d x .address) || any (bears s) (expanderAt d x .phys)
+
+-- a phy gives its word after the list so far: a direct phy always; a subtractive or table phy unless nothing is attached, or the
+-- address is x's, or is attached at x, or is in the list already
+unfoldable pub gives : Domain → ℕ → List ℕ → Phy → Bool
+gives d x l φ = routes 0 φ || (attached φ && (not (heldBy d x (addressOf φ)) && not (isIn (addressOf φ) l)))
+
+unfoldable pub give : Domain → ℕ → List ℕ → Phy → List ℕ
+give d x l φ = cond (gives d x l φ) (l ++ (word φ ∷ [])) l
+
+-- phy after phy
+unfoldable pub giveAll : Domain → ℕ → List ℕ → List Phy → List ℕ
+giveAll d x l [] = l
+giveAll d x l (φ ∷ φs) = giveAll d x (give d x l φ) φs
+
+-- the level list of phy p of expander x: through the levels, and each expander's phys upward
+unfoldable pub levelList : Domain → ℕ → ℕ → List ℕ
+levelList d x p = giveAll d x [] (flatMap (λ i. expanderAt d i .phys) (levels d x p))
+
+-- its table: the list followed by zeros, R words
+unfoldable pub table : Domain → ℕ → ℕ → List ℕ
+table d x p = take (expanderAt d x .indexes) (levelList d x p ++ replicate (expanderAt d x .indexes) 0)
+
+-- each non-vacant table phy has one table, by expander and then phy
+unfoldable pub tablePlaces : Domain → List Place
+tablePlaces d = keep (λ q. routes 2 (phyAt d (q .expander) (q .phy))) (places d)
+
+unfoldable pub tables : Domain → List ℕ
+tables d = flatMap (λ q. table d (q .expander) (q .phy)) (tablePlaces d)
+
+-- the words of the table at a place: none where there is no table phy
+unfoldable pub size : Domain → Place → ℕ
+size d q = cond (routes 2 (phyAt d (q .expander) (q .phy))) (expanderAt d (q .expander) .indexes) 0
+
+unfoldable pub sizes : Domain → List Place → ℕ
+sizes d [] = 0
+sizes d (q ∷ qs) = size d q + sizes d qs
+
+-- the sum of R over non-vacant table phys
+abbrev pub needed : Domain → ℕ
+needed d = sizes d (places d)

@@ -1,0 +1,140 @@
+// All tables, one after the other in lent words: by expander and then phy.
+use crate::filling;
+use frames::ExpanderNumber;
+use frames::PhyId;
+ghost use mathlib.Core.Path.{_≡_};
+ghost use mathlib.Core.List.{[], _∷_, _++_};
+ghost use Prim.Native.Nat.{_+_, _≤_, _<_};
+ghost use lib.ListN.{length, drop};
+ghost use Rattle.wiring.specs.Domain.{phyAt, routes};
+ghost use Rattle.wiring.specs.Causes.{place};
+ghost use Rattle.wiring.specs.Rows.{domainIn};
+ghost use Rattle.tables.specs.Tables.{tablePlaces, tables, size, sizes, needed};
+ghost use Rattle.tables.specs.Filling.{placesAt, withTables, tablesOf, Put};
+
+// Is phy p of expander i a table phy?
+pub(crate) fn is_table(rows: &[u64], i: ExpanderNumber, p: PhyId) -> bool
+    ensures { λ r. ⌜ r ≡ routes 2 (phyAt (domainIn (now (rows .entry))) (i .0) (p .0)) ⌝ }
+{
+    wiring::phy_attribute(wiring::phy_at(rows, i, p)) == 2
+}
+
+// The words of phy p's table: none where it is no table phy.
+fn size_at(rows: &[u64], i: ExpanderNumber, p: PhyId) -> usize
+    ensures { λ r. ⌜ (r ≡ size (domainIn (now (rows .entry))) (place (i .0) (p .0))) × (r < 65536) ⌝ }
+{
+    if !is_table(rows, i, p) {
+        return 0;
+    }
+    wiring::index_count(rows, i) as usize
+}
+
+// The words of the tables of expander i.
+fn sizes_at(rows: &[u64], i: ExpanderNumber) -> usize
+    ensures { λ r. ⌜ (r ≡ sizes (domainIn (now (rows .entry))) (placesAt (domainIn (now (rows .entry))) (i .0))) × (r ≤ 8388608) ⌝ }
+{
+    let n = wiring::phy_count(rows, i);
+    let mut sum: usize = 0;
+    let mut p: u8 = 0;
+    while p < n {
+        sum += size_at(rows, i, PhyId(p));
+        p += 1;
+    }
+    sum
+}
+
+// The words that all tables need.
+pub fn needed_words(rows: &[u64]) -> usize
+    ensures { λ r. ⌜ r ≡ needed (domainIn (now (rows .entry))) ⌝ }
+{
+    let n = wiring::expander_count(rows);
+    let mut sum: usize = 0;
+    let mut i: u8 = 0;
+    while i < n {
+        sum += sizes_at(rows, ExpanderNumber(i));
+        i += 1;
+    }
+    sum
+}
+
+// One where phy p of expander i is a table phy, none where it is not.
+fn one_at(rows: &[u64], i: ExpanderNumber, p: PhyId) -> usize
+    ensures { λ r. ⌜ (r ≡ length (withTables (domainIn (now (rows .entry))) (place (i .0) (p .0) ∷ []))) × (r ≤ 1) ⌝ }
+{
+    if !is_table(rows, i, p) {
+        return 0;
+    }
+    1
+}
+
+// How many tables expander i has.
+fn count_at(rows: &[u64], i: ExpanderNumber) -> usize
+    ensures { λ r. ⌜ (r ≡ length (withTables (domainIn (now (rows .entry))) (placesAt (domainIn (now (rows .entry))) (i .0)))) × (r ≤ 128) ⌝ }
+{
+    let n = wiring::phy_count(rows, i);
+    let mut sum: usize = 0;
+    let mut p: u8 = 0;
+    while p < n {
+        sum += one_at(rows, i, PhyId(p));
+        p += 1;
+    }
+    sum
+}
+
+// How many tables there are.
+pub fn table_count(rows: &[u64]) -> usize
+    ensures { λ r. ⌜ r ≡ length (tablePlaces (domainIn (now (rows .entry)))) ⌝ }
+{
+    let n = wiring::expander_count(rows);
+    let mut sum: usize = 0;
+    let mut i: u8 = 0;
+    while i < n {
+        sum += count_at(rows, ExpanderNumber(i));
+        i += 1;
+    }
+    sum
+}
+
+// The table of phy p from `at` on, and the place after it.
+fn put_table(rows: &[u64], i: ExpanderNumber, p: PhyId, words: &mut [u64], at: usize) -> usize
+    requires { ⌜ at + size (domainIn (now rows)) (place (i .0) (p .0)) ≤ length (now words) ⌝ }
+    ensures { λ r. ⌜ Put (now (words .entry)) (now (words .exit)) at r
+        (tablesOf (domainIn (now (rows .entry))) (place (i .0) (p .0) ∷ [])) ⌝ }
+{
+    if !is_table(rows, i, p) {
+        return at;
+    }
+    let e = at + wiring::index_count(rows, i) as usize;
+    filling::fill_table(rows, i, p, &mut words[at..e]);
+    e
+}
+
+// The tables of expander i from `at` on, and the place after them.
+fn put_tables(rows: &[u64], i: ExpanderNumber, words: &mut [u64], at: usize) -> usize
+    requires { ⌜ at + sizes (domainIn (now rows)) (placesAt (domainIn (now rows)) (i .0)) ≤ length (now words) ⌝ }
+    ensures { λ r. ⌜ Put (now (words .entry)) (now (words .exit)) at r
+        (tablesOf (domainIn (now (rows .entry))) (placesAt (domainIn (now (rows .entry))) (i .0))) ⌝ }
+{
+    let n = wiring::phy_count(rows, i);
+    let mut to = at;
+    let mut p: u8 = 0;
+    while p < n {
+        to = put_table(rows, i, PhyId(p), words, to);
+        p += 1;
+    }
+    to
+}
+
+// All tables from the front on; the words after them stay.
+pub(crate) fn put_all(rows: &[u64], words: &mut [u64])
+    requires { ⌜ needed (domainIn (now rows)) ≤ length (now words) ⌝ }
+    ensures { λ _. ⌜ now (words .exit) ≡ tables (domainIn (now (rows .entry))) ++ drop (needed (domainIn (now (rows .entry)))) (now (words .entry)) ⌝ }
+{
+    let n = wiring::expander_count(rows);
+    let mut to: usize = 0;
+    let mut i: u8 = 0;
+    while i < n {
+        to = put_tables(rows, ExpanderNumber(i), words, to);
+        i += 1;
+    }
+}

@@ -1,0 +1,43 @@
+// Level lists, routing tables, the judging call and the table call.
+mod all_tables;
+mod calls;
+mod filling;
+mod levels;
+mod overlong;
+
+pub use all_tables::needed_words;
+pub use all_tables::table_count;
+pub use calls::give_tables;
+pub use calls::judge;
+pub use calls::judge_rows;
+pub use filling::fill_table;
+use frames::Refusal;
+pub use overlong::first_overlong;
+
+// What the layer above uses of the layers below.
+pub use wiring::Check;
+pub use wiring::DomainRead;
+pub use wiring::Phy;
+pub use wiring::expander_address;
+pub use wiring::expander_count;
+pub use wiring::index_count;
+pub use wiring::number_of;
+pub use wiring::phy_address;
+pub use wiring::phy_at;
+pub use wiring::phy_attribute;
+pub use wiring::phy_count;
+pub use wiring::phy_far;
+pub use wiring::phy_type;
+pub use wiring::read_domain;
+
+// What the judging call answers: the number of expanders.
+pub enum Judgement {
+    Refused(Refusal),
+    Expanders(u8),
+}
+
+// What the table call answers: the number of tables, and of words.
+pub enum TablesGiven {
+    Refused(Refusal),
+    Counts(u64, u64),
+}
