@@ -1,0 +1,10 @@
+pub mod Offsets
+pub mod Picks
+pub mod Turns
+pub mod Asked
+pub mod Stepping
+pub mod Passing
+pub mod OwnStretch
+pub mod Arrives
+pub mod Demand
+pub mod Pair

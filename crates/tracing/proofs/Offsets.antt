@@ -1,0 +1,152 @@
+-- The offset of a stretch: the words of the expanders before its own, and of the phys below its own.
+use Prim.Native.Nat.{ℕ, zero, suc, _+_, _-_, _≤_, _<_}
+use mathlib.Core.Path.{_≡_, refl, sym, _∙_, ap}
+use mathlib.Core.Bool.{Bool, true, false, cond, _||_, _&&_}
+use mathlib.Core.List.{List, [], _∷_, _++_, append-nil}
+use mathlib.Core.Logic.{by-cases}
+use native.Mathlib.Decide.{ℕ-discrete}
+use native.Mathlib.Omega.{arith}
+use native.Mathlib.Nat.{add-zero, zero-add}
+use native.Mathlib.Numerals.{add-one}
+use lib.ListN.{length, getD, take, drop, drop-of-length-le}
+use lib.Seq.{drop-cons}
+use lib.Dec.{eqb}
+use borrow.Author.Tests.{eq-eqb, ne-eqb}
+use Rattle.tables.specs.Wiring.{Domain, Expander, noExpander, expanderAt, phyAt, attributeOf}
+use Rattle.tables.specs.Wiring.{any, isIn}
+use Rattle.tables.specs.Wiring.{Place, place, places, phyPlaces, placesFrom}
+use Rattle.tables.specs.Tables.{size, sizes}
+use Rattle.tracing.specs.Steps.{offset}
+use Rattle.tracing.specs.Answers.{ownWords, wordsBefore}
+
+pub size-by : (d : Domain) (i p : ℕ) {b : Bool} → eqb (attributeOf (phyAt d i p)) 2 ≡ b
+    → size d (place i p) ≡ cond b (expanderAt d i .indexes) 0
+unfolding size
+size-by d i p q = rw q
+
+sizes-append : (d : Domain) (l m : List Place) → sizes d (l ++ m) ≡ sizes d l + sizes d m
+unfolding sizes
+sizes-append d [] m = omega arith
+sizes-append d (q ∷ l) m = omega (arith, sizes-append d l m)
+
+-- the words of the phys of expander i below a phy, one more at a time
+phys-last : (d : Domain) (i q p : ℕ) → sizes d (phyPlaces i q (suc p)) ≡ sizes d (phyPlaces i q p) + size d (place i (q + p))
+unfolding sizes phyPlaces
+phys-last d i q zero = rw (add-zero q) (omega arith)
+phys-last d i q (suc p) =
+    let e : q + 1 + p ≡ q + suc p = omega arith in
+    let h = rw e at (phys-last d i (q + 1) p) in
+    omega arith
+
+pub phys-next : (d : Domain) (i p : ℕ) → sizes d (phyPlaces i 0 (p + 1)) ≡ sizes d (phyPlaces i 0 p) + size d (place i p)
+phys-next d i p = rw add-one (phys-last d i 0 p ∙ ap (λ (x : ℕ). sizes d (phyPlaces i 0 p) + size d (place i x)) (zero-add p))
+
+-- the words of the expanders before an expander, one more at a time; past the end there are none more
+before-last : (d : Domain) (k : ℕ) (l : List Expander) (j : ℕ)
+    → sizes d (placesFrom k (take (suc j) l)) ≡ sizes d (placesFrom k (take j l)) + sizes d (phyPlaces (k + j) 0 (length (getD l j noExpander .phys)))
+unfolding sizes placesFrom phyPlaces
+before-last d k [] zero = refl
+before-last d k [] (suc j) = refl
+before-last d k (e ∷ l) zero = rw (append-nil, add-zero k) (omega arith)
+before-last d k (e ∷ l) (suc j) =
+    let m : List Place = phyPlaces k 0 (length (e .phys)) in
+    let z : k + 1 + j ≡ k + suc j = omega arith in
+    let h = rw z at (before-last d (k + 1) l j) in
+    let a = sizes-append d m (placesFrom (k + 1) (take (suc j) l)) in
+    let b = sizes-append d m (placesFrom (k + 1) (take j l)) in
+    omega arith
+
+pub before-next : (d : Domain) (j : ℕ) → wordsBefore d (j + 1) ≡ wordsBefore d j + ownWords d j
+before-next d j =
+    rw add-one
+    (before-last d 0 d j ∙ ap (λ (x : ℕ). wordsBefore d j + sizes d (phyPlaces x 0 (length (expanderAt d j .phys)))) (zero-add j))
+
+pub before-none : (d : Domain) → wordsBefore d 0 ≡ 0
+unfolding sizes placesFrom
+before-none d = refl
+
+pub phys-none : (d : Domain) (i : ℕ) → sizes d (phyPlaces i 0 0) ≡ 0
+unfolding sizes phyPlaces
+phys-none d i = refl
+
+-- the offset of the table of phy p of expander i
+module _ (d : Domain) (i p : ℕ) where
+  offset-by : (q : Place) (l : List Place) {a b : Bool} → eqb (q .expander) i ≡ a → eqb (q .phy) p ≡ b
+      → offset d i p (q ∷ l) ≡ cond (a && b) 0 (size d q + offset d i p l)
+  unfolding offset
+  offset-by q l e f = rw (e, f)
+
+  -- the phys of another expander
+  offset-past : (k q n : ℕ) (l : List Place) → (k ≡ i → ⊥) → offset d i p (phyPlaces k q n ++ l) ≡ sizes d (phyPlaces k q n) + offset d i p l
+  unfolding sizes phyPlaces
+  offset-past k q zero l f = omega arith
+  offset-past k q (suc n) l f =
+      let h = offset-past k (q + 1) n l f in
+      let e = offset-by (place k q) (phyPlaces k (q + 1) n ++ l) (ne-eqb k i f) refl in
+      omega arith
+
+  -- its own expander's phys, from q on
+  offset-among : (q n : ℕ) (l : List Place) → q ≤ p → p < q + n → offset d i p (phyPlaces i q n ++ l) ≡ sizes d (phyPlaces i q (p - q))
+  unfolding sizes phyPlaces
+  offset-among q zero l h k = absurd (omega arith)
+  offset-among q (suc n) l h k = by-cases (ℕ-discrete q p) found (λ f. further f (offset-among (q + 1) n l (omega arith) (omega arith)))
+    where
+      found : q ≡ p → offset d i p (phyPlaces i q (suc n) ++ l) ≡ sizes d (phyPlaces i q (p - q))
+      found e =
+          let z : p - q ≡ 0 = omega arith in
+          offset-by (place i q) (phyPlaces i (q + 1) n ++ l) (eq-eqb i i refl) (eq-eqb q p e) ∙ rw z
+
+      further : (q ≡ p → ⊥) → offset d i p (phyPlaces i (q + 1) n ++ l) ≡ sizes d (phyPlaces i (q + 1) (p - (q + 1)))
+          → offset d i p (phyPlaces i q (suc n) ++ l) ≡ sizes d (phyPlaces i q (p - q))
+      further f r =
+          let z : p - q ≡ suc (p - (q + 1)) = omega arith in
+          offset-by (place i q) (phyPlaces i (q + 1) n ++ l) (eq-eqb i i refl) (ne-eqb q p f) ∙ ap (λ (x : ℕ). size d (place i q) + x) r ∙ rw z
+
+  offset-from : (k : ℕ) (l : List Expander) (j : ℕ) → k + j ≡ i → p < length (getD l j noExpander .phys)
+      → offset d i p (placesFrom k l) ≡ sizes d (placesFrom k (take j l)) + sizes d (phyPlaces i 0 p)
+  unfolding sizes placesFrom
+  offset-from k [] zero e h = absurd (omega arith)
+  offset-from k [] (suc j) e h = absurd (omega arith)
+  offset-from k (x ∷ l) zero e h =
+      let z : k ≡ i = omega arith in
+      let g = offset-among 0 (length (x .phys)) (placesFrom (i + 1) l) (omega arith) (omega arith) in
+      let s : p - 0 ≡ p = omega arith in
+      let f = rw s at g in
+      rw z (omega arith)
+  offset-from k (x ∷ l) (suc j) e h =
+      let m : List Place = phyPlaces k 0 (length (x .phys)) in
+      let f : k ≡ i → ⊥ = λ z. omega arith in
+      let a = offset-past k 0 (length (x .phys)) (placesFrom (k + 1) l) f in
+      let b = offset-from (k + 1) l j (omega arith) h in
+      let c = sizes-append d m (placesFrom (k + 1) (take j l)) in
+      omega arith
+
+  pub offset-is : p < length (expanderAt d i .phys) → offset d i p (places d) ≡ wordsBefore d i + sizes d (phyPlaces i 0 p)
+  offset-is h = offset-from 0 d i (zero-add i) h
+
+-- is s among so many words from k on: `inv` is the loop's invariant
+module _ (s left k : ℕ) (l : List ℕ) {v : Bool} (inv : isIn s (take left (drop k l)) ≡ v) where
+  pub lists-out : length l ≤ k → false ≡ v
+  unfolding isIn any
+  lists-out h = sym (rw (drop-of-length-le l h) (none left)) ∙ inv
+    where
+      none : (n : ℕ) → any (eqb s) (take n []) ≡ false
+      none zero = refl
+      none (suc n) = refl
+
+  lists-next : 0 < left → k < length l → isIn s (take left (drop k l)) ≡ (eqb s (getD l k 0) || isIn s (take (left - 1) (drop (k + 1) l)))
+  unfolding isIn any
+  lists-next h g =
+      let e : left ≡ suc (left - 1) = omega arith in
+      let f : drop k l ≡ getD l k 0 ∷ drop (k + 1) l = rw add-one (drop-cons l k 0 g) in
+      ap (λ (n : ℕ). isIn s (take n (drop k l))) e ∙ ap (λ (m : List ℕ). isIn s (take (suc (left - 1)) m)) f
+
+  pub lists-stop : getD l k 0 ≡ s → 0 < left → k < length l → true ≡ v
+  lists-stop e h g = sym (lists-next h g ∙ rw (eq-eqb s (getD l k 0) (sym e))) ∙ inv
+
+  pub lists-go : (getD l k 0 ≡ s → ⊥) → 0 < left → k < length l → isIn s (take (left - 1) (drop (k + 1) l)) ≡ v
+  lists-go f h g = sym (lists-next h g ∙ rw (ne-eqb s (getD l k 0) (λ e. f (sym e)))) ∙ inv
+
+  pub lists-end : left ≤ 0 → false ≡ v
+  unfolding isIn any
+  lists-end h = let e : left ≡ 0 = omega arith in sym (rw e) ∙ inv

@@ -1,0 +1,95 @@
+use mathlib.Core.Path.{refl, sym, _∙_, ap}
+use native.Mathlib.Omega.{arith}
+use lib.ListN.{length}
+use borrow.Author.Tests.{eq-eqb, ne-eqb, le-leb, lt-leb, not-true, not-false}
+use Rattle.tables.specs.Wiring.{Domain}
+use Rattle.tables.specs.Wiring.{domainIn}
+use Rattle.tables.specs.Wiring.{checkAnswer}
+use Rattle.tables.specs.Tables.{needed}
+use Rattle.tracing.proofs.Asked.{requested-by}
+use borrow.Author.Needs.{needs}
+use Rattle.tracing.proofs.requests.check_request.Statement.{statement}
+use Rattle.tracing.proofs.requests.check_request.Tie as tie
+
+is-allowed-requires : tie.Need-is-allowed-requires
+is-allowed-requires c κs = search needs
+
+refuse-requires : tie.Need-refuse-requires
+refuse-requires c κs = search needs
+
+returns : tie.Need-returns
+returns c =
+    let a = c .before .before .before .before .args in
+    let d : Domain = domainIn (a .rows .now) in
+    let e = sym (c .before .before .is-allowed .ensures) ∙ not-true _ (c .before .if1 .taken) in
+    ap (checkAnswer d) (c .refuse .ensures)
+    ∙ sym (requested-by (a .words) (a .bytes) (a .start .0) (a .arrival .0) (a .s) d e refl refl refl)
+
+refuse-requires-2 : tie.Need-refuse-requires-2
+refuse-requires-2 c κs = search needs
+
+returns-2 : tie.Need-returns-2
+returns-2 c =
+    let a = c .before .before .before .before .before .args in
+    let d : Domain = domainIn (a .rows .now) in
+    let e = sym (c .before .before .before .is-allowed .ensures) ∙ not-false _ (c .before .before .if1 .left) in
+    ap (checkAnswer d) (c .refuse2 .ensures)
+    ∙ sym (requested-by (a .words) (a .bytes) (a .start .0) (a .arrival .0) (a .s) d e (lt-leb (needed d) (a .words) (omega arith)) refl refl)
+
+expander-count-requires : tie.Need-expander-count-requires
+expander-count-requires c κs = search needs
+
+cast-if3 : tie.Need-cast-if3
+cast-if3 c = search needs
+
+refuse-requires-3 : tie.Need-refuse-requires-3
+refuse-requires-3 c κs = search needs
+
+returns-3 : tie.Need-returns-3
+returns-3 c =
+    let a = c .before .before .before .before .before .before .before .args in
+    let d : Domain = domainIn (a .rows .now) in
+    let e = sym (c .before .before .before .before .before .is-allowed .ensures)
+    ∙ not-false _ (c .before .before .before .before .if1 .left) in
+    ap (checkAnswer d) (c .refuse3 .ensures)
+    ∙ sym (requested-by (a .words) (a .bytes) (a .start .0) (a .arrival .0) (a .s) d e
+    (le-leb (needed d) (a .words) (omega arith)) (lt-leb (length d) (a .bytes) (omega arith)) refl)
+
+refuse-requires-4 : tie.Need-refuse-requires-4
+refuse-requires-4 c κs = search needs
+
+returns-4 : tie.Need-returns-4
+returns-4 c =
+    let a = c .before .before .before .before .before .before .before .before .args in
+    let d : Domain = domainIn (a .rows .now) in
+    let e = sym (c .before .before .before .before .before .before .is-allowed .ensures)
+    ∙ not-false _ (c .before .before .before .before .before .if1 .left) in
+    ap (checkAnswer d) (c .refuse4 .ensures)
+    ∙ sym (requested-by (a .words) (a .bytes) (a .start .0) (a .arrival .0) (a .s) d e
+    (le-leb (needed d) (a .words) (omega arith)) (le-leb (length d) (a .bytes) (omega arith)) (eq-eqb (a .s) 0 (omega arith)))
+
+returns-5 : tie.Need-returns-5
+returns-5 c =
+    let a = c .before .before .before .before .before .before .before .args in
+    let d : Domain = domainIn (a .rows .now) in
+    let e = sym (c .before .before .before .before .before .is-allowed .ensures)
+    ∙ not-false _ (c .before .before .before .before .if1 .left) in
+    sym (requested-by (a .words) (a .bytes) (a .start .0) (a .arrival .0) (a .s) d e
+    (le-leb (needed d) (a .words) (omega arith)) (le-leb (length d) (a .bytes) (omega arith)) (ne-eqb (a .s) 0 (λ e. omega arith)))
+
+pub check-request-spec : {M : Type 1} → statement M
+check-request-spec =
+    tie.close
+    (tie.spec
+    is-allowed-requires
+    refuse-requires
+    returns
+    refuse-requires-2
+    returns-2
+    expander-count-requires
+    cast-if3
+    refuse-requires-3
+    returns-3
+    refuse-requires-4
+    returns-4
+    returns-5)

@@ -1,0 +1,55 @@
+use mathlib.Core.Path.{sym, _∙_, ap}
+use lib.ListN.{length}
+use Rattle.tables.specs.Wiring.{Domain}
+use Rattle.tables.specs.Wiring.{domainIn}
+use Rattle.tables.specs.Wiring.{checkAnswer}
+use Rattle.tracing.proofs.Asked.{room, answer-no, answer-yes}
+use borrow.Author.Needs.{needs}
+use Rattle.tracing.proofs.requests.trace_rows.Statement.{statement}
+use Rattle.tracing.proofs.requests.trace_rows.Tie as tie
+
+check-request-requires : tie.Need-check-request-requires
+check-request-requires c κs = search needs
+
+enum-known-r : tie.Need-enum-known-r
+enum-known-r c = search needs
+
+enum-told : tie.Need-enum-told
+enum-told c = search needs
+
+walk-requires : tie.Need-walk-requires
+walk-requires c κs =
+    let a = c .before .before .before .before .before .before .before .args in
+    let d : Domain = domainIn (a .rows .now) in
+    room (length (a .words .now)) (length (a .passed .now)) (a .start .0) (a .arrival .0) (a .s) d
+    (ap (checkAnswer d) (sym (c .before .enum-told .given .1)) ∙ c .before .before .before .check-request .ensures)
+
+returns : tie.Need-returns
+returns c =
+    let a = c .before .before .before .before .before .before .before .args in
+    let d : Domain = domainIn (a .rows .now) in
+    answer-no d (a .words .now) (a .start .0) (a .arrival .0) (a .s) (a .passed .now)
+    (ap (checkAnswer d) (sym (c .before .r .given .1)) ∙ c .before .before .before .check-request .ensures)
+
+same-length : tie.Need-same-length
+same-length c = search needs
+
+returns-2 : tie.Need-returns-2
+returns-2 c =
+    let a = c .before .before .before .before .before .before .before .before .before .before .args in
+    let d : Domain = domainIn (a .rows .now) in
+    let e = c .before .before .before .before .before .before .check-request .ensures in
+    answer-yes d (a .words .now) (a .start .0) (a .arrival .0) (a .s) (a .passed .now)
+    (ap (checkAnswer d) (sym (c .before .before .before .before .enum-told .given .1)) ∙ e) (c .before .before .walk .ensures)
+
+pub trace-rows-spec : {M : Type 1} → statement M
+trace-rows-spec =
+    tie.close
+    (tie.spec
+    check-request-requires
+    enum-known-r
+    enum-told
+    walk-requires
+    returns
+    same-length
+    returns-2)

@@ -1,0 +1,217 @@
+use Prim.Native.Nat.{ℕ, _-_, _≤_}
+use mathlib.Core.Path.{_≡_, refl, sym, _∙_, ap}
+use native.Mathlib.Omega.{arith}
+use native.Mathlib.Nat.{sub-zero}
+use lib.ListN.{length, take, drop, length-set}
+use Rattle.tables.specs.Wiring.{Domain}
+use Rattle.tables.specs.Wiring.{domainIn}
+use Rattle.tracing.specs.declared.Outcome.the-variants.{Arrived, NoDestination, BadDestination}
+use Rattle.tracing.specs.Trace.{after, afterStep, traceFrom, traced}
+use Rattle.tracing.specs.Answers.{stepAnswer}
+use Rattle.tracing.proofs.Turns.{kept, walk-stop, walk-go, walk-end}
+use borrow.Author.Needs.{needs}
+use Rattle.tracing.proofs.walks.walk.Statement.{statement}
+use Rattle.tracing.proofs.walks.walk.Tie as tie
+
+abbrev Inv-loop : tie.InvT-loop
+Inv-loop rows words s passed₀ n i₀ q₀ k₀ passed i q k =
+    (k ≤ n)
+    × (length passed ≡ length passed₀)
+    × (drop k passed ≡ drop k passed₀)
+    × (after (take k passed) (traceFrom (n - k) (domainIn rows) words (i .0) (q .0) s) ≡ traced (domainIn rows) words (i₀ .0) (q₀ .0) s)
+
+abbrev μ-loop : tie.MeasureT-loop
+μ-loop rows words s passed₀ n i₀ q₀ k₀ passed i q k = n - k
+
+expander-count-requires : tie.Need-expander-count-requires Inv-loop μ-loop
+expander-count-requires c κs = search needs
+
+loop-holds : tie.Need-loop-holds Inv-loop μ-loop
+unfolding traced
+loop-holds c =
+    let a = c .before .before .before .before .args in
+    let d : Domain = domainIn (a .rows .now) in
+    let n = c .expander-count in (
+      omega arith,
+      refl,
+      refl,
+      ap (λ (m : ℕ). traceFrom m d (a .words .now) (a .start .0) (a .arrival .0) (a .s)) (sub-zero (n .result) ∙ n .ensures .0),
+    )
+
+cast-passed : tie.Need-cast-passed Inv-loop μ-loop
+cast-passed c = omega arith
+
+slice-write-passed : tie.Need-slice-write-passed Inv-loop μ-loop
+slice-write-passed c = omega arith
+
+take-step-requires : tie.Need-take-step-requires Inv-loop μ-loop
+take-step-requires c κs = search needs
+
+enum-told : tie.Need-enum-told Inv-loop μ-loop
+enum-told c = search needs
+
+add-ended : tie.Need-add-ended Inv-loop μ-loop
+add-ended c = omega arith
+
+ended-requires : tie.Need-ended-requires Inv-loop μ-loop
+ended-requires c κs = search needs
+
+same-length : tie.Need-same-length Inv-loop μ-loop
+same-length c = simp length-set (c .before .before .before .before .before .loop .inv .1)
+
+returns : tie.Need-returns Inv-loop μ-loop
+unfolding afterStep
+returns c =
+    let a = c .before .before .before .before .before .before .before .before .before .before .args in
+    let l = c .before .before .before .before .before .loop in
+    let n : ℕ = c .before .before .before .before .before .before .expander-count .result in
+    let e = ap stepAnswer (sym (c .before .enum-told .given .1)) ∙ c .before .before .before .take-step .ensures in
+    rw (c .ended .ensures)
+    (walk-stop (domainIn (a .rows .now)) (a .words .now) (a .s) n (l .k) (l .i .0) (l .q .0) (l .passed) (a .passed .now)
+    (l .inv .3) (l .inv .2) Arrived 255 e refl (omega arith) (omega arith))
+
+enum-known-t : tie.Need-enum-known-t Inv-loop μ-loop
+enum-known-t c = search needs
+
+add-ended-2 : tie.Need-add-ended-2 Inv-loop μ-loop
+add-ended-2 c = omega arith
+
+ended-requires-2 : tie.Need-ended-requires-2 Inv-loop μ-loop
+ended-requires-2 c κs = search needs
+
+same-length-2 : tie.Need-same-length-2 Inv-loop μ-loop
+same-length-2 c = simp length-set (c .before .before .before .before .before .before .loop .inv .1)
+
+returns-2 : tie.Need-returns-2 Inv-loop μ-loop
+unfolding afterStep
+returns-2 c =
+    let a = c .before .before .before .before .before .before .before .before .before .before .before .args in
+    let l = c .before .before .before .before .before .before .loop in
+    let n : ℕ = c .before .before .before .before .before .before .before .expander-count .result in
+    let e = ap stepAnswer (sym (c .before .before .t .given .1)) ∙ c .before .before .before .before .take-step .ensures in
+    rw (c .ended2 .ensures)
+    (walk-stop (domainIn (a .rows .now)) (a .words .now) (a .s) n (l .k) (l .i .0) (l .q .0) (l .passed) (a .passed .now)
+    (l .inv .3) (l .inv .2) Arrived _ e refl (omega arith) (omega arith))
+
+enum-told-2 : tie.Need-enum-told-2 Inv-loop μ-loop
+enum-told-2 c = search needs
+
+add-ended-3 : tie.Need-add-ended-3 Inv-loop μ-loop
+add-ended-3 c = omega arith
+
+ended-requires-3 : tie.Need-ended-requires-3 Inv-loop μ-loop
+ended-requires-3 c κs = search needs
+
+same-length-3 : tie.Need-same-length-3 Inv-loop μ-loop
+same-length-3 c = simp length-set (c .before .before .before .before .before .loop .inv .1)
+
+returns-3 : tie.Need-returns-3 Inv-loop μ-loop
+unfolding afterStep
+returns-3 c =
+    let a = c .before .before .before .before .before .before .before .before .before .before .args in
+    let l = c .before .before .before .before .before .loop in
+    let n : ℕ = c .before .before .before .before .before .before .expander-count .result in
+    let e = ap stepAnswer (sym (c .before .enum-told2 .given .1)) ∙ c .before .before .before .take-step .ensures in
+    rw (c .ended3 .ensures)
+    (walk-stop (domainIn (a .rows .now)) (a .words .now) (a .s) n (l .k) (l .i .0) (l .q .0) (l .passed) (a .passed .now)
+    (l .inv .3) (l .inv .2) BadDestination 255 e refl (omega arith) (omega arith))
+
+enum-told-3 : tie.Need-enum-told-3 Inv-loop μ-loop
+enum-told-3 c = search needs
+
+add-ended-4 : tie.Need-add-ended-4 Inv-loop μ-loop
+add-ended-4 c = omega arith
+
+ended-requires-4 : tie.Need-ended-requires-4 Inv-loop μ-loop
+ended-requires-4 c κs = search needs
+
+same-length-4 : tie.Need-same-length-4 Inv-loop μ-loop
+same-length-4 c = simp length-set (c .before .before .before .before .before .loop .inv .1)
+
+returns-4 : tie.Need-returns-4 Inv-loop μ-loop
+unfolding afterStep
+returns-4 c =
+    let a = c .before .before .before .before .before .before .before .before .before .before .args in
+    let l = c .before .before .before .before .before .loop in
+    let n : ℕ = c .before .before .before .before .before .before .expander-count .result in
+    let e = ap stepAnswer (sym (c .before .enum-told3 .given .1)) ∙ c .before .before .before .take-step .ensures in
+    rw (c .ended4 .ensures)
+    (walk-stop (domainIn (a .rows .now)) (a .words .now) (a .s) n (l .k) (l .i .0) (l .q .0) (l .passed) (a .passed .now)
+    (l .inv .3) (l .inv .2) NoDestination 255 e refl (omega arith) (omega arith))
+
+enum-known-t-2 : tie.Need-enum-known-t-2 Inv-loop μ-loop
+enum-known-t-2 c = search needs
+
+add-k : tie.Need-add-k Inv-loop μ-loop
+add-k c = omega arith
+
+loop-less : tie.Need-loop-less Inv-loop μ-loop
+loop-less c = omega arith
+
+loop-again : tie.Need-loop-again Inv-loop μ-loop
+loop-again c =
+    let a = c .before .before .before .before .before .before .before .before .before .before .args in
+    let d : Domain = domainIn (a .rows .now) in
+    let l = c .before .before .before .before .before .loop in
+    let n : ℕ = c .before .before .before .before .before .before .expander-count .result in
+    let e = ap stepAnswer (sym (c .before .t2 .given .1)) ∙ c .before .before .before .take-step .ensures in (
+      omega arith,
+      simp length-set (l .inv .1),
+      kept (l .k) (l .i .0) (l .passed) (a .passed .now) (l .inv .2) (omega arith),
+      walk-go d (a .words .now) (a .s) n (l .k) (l .i .0) (l .q .0) (l .passed) (a .passed .now) (l .inv .3) (l .inv .2)
+          e (omega arith) (omega arith),
+    )
+
+ended-requires-5 : tie.Need-ended-requires-5 Inv-loop μ-loop
+ended-requires-5 c κs = search needs
+
+same-length-5 : tie.Need-same-length-5 Inv-loop μ-loop
+same-length-5 c = c .before .before .loop .inv .1
+
+returns-5 : tie.Need-returns-5 Inv-loop μ-loop
+returns-5 c =
+    let a = c .before .before .before .before .before .before .before .args in
+    let l = c .before .before .loop in
+    let n : ℕ = c .before .before .before .expander-count .result in
+    rw (c .ended5 .ensures)
+    (walk-end (domainIn (a .rows .now)) (a .words .now) (a .s) n (l .k) (l .i .0) (l .q .0) (l .passed) (a .passed .now)
+    (l .inv .3) (l .inv .2) (omega arith) (omega arith))
+
+pub walk-spec : {M : Type 1} → statement M
+walk-spec =
+    tie.close
+    (tie.spec
+    Inv-loop
+    μ-loop
+    expander-count-requires
+    loop-holds
+    cast-passed
+    slice-write-passed
+    take-step-requires
+    enum-told
+    add-ended
+    ended-requires
+    same-length
+    returns
+    enum-known-t
+    add-ended-2
+    ended-requires-2
+    same-length-2
+    returns-2
+    enum-told-2
+    add-ended-3
+    ended-requires-3
+    same-length-3
+    returns-3
+    enum-told-3
+    add-ended-4
+    ended-requires-4
+    same-length-4
+    returns-4
+    enum-known-t-2
+    add-k
+    loop-less
+    loop-again
+    ended-requires-5
+    same-length-5
+    returns-5)

@@ -1,0 +1,88 @@
+-- What the code's answers say, and what its parts promise.
+use Prim.Native.Nat.{ℕ}
+use mathlib.Core.Path.{_≡_}
+use mathlib.Core.List.{List, _++_}
+use lib.ListN.{length, take, drop}
+use Rattle.tables.specs.Wiring.{Phy}
+use Rattle.tables.specs.Wiring.{phyPlaces, placesFrom}
+use Rattle.tables.specs.Wiring.{Result, good, then, Domain, expanderAt, addressOf, farOf, numberOf}
+use Rattle.tables.specs.Tables.{sizes}
+use Rattle.tables.specs.Judge.{judgedDomain}
+use Rattle.tracing.specs.Steps.{Step as Stepped, here, endDevice, bad, lost, onward, Pick as Picked, at, nowhere, pick, phyNumbers}
+use Rattle.tracing.specs.Steps.{bearing, listing, subtracting, subtractively, byTable, directly}
+use Rattle.tracing.specs.Trace.{Traced, traced, requested, report, traceAnswer, bytesAfter}
+use Rattle.tracing.specs.declared.Step.{Step}
+use Rattle.tracing.specs.declared.Step.the-variants.{Here, EndDevice, Bad, Lost, Onward}
+use Rattle.tracing.specs.declared.steps.Pick.{Pick}
+use Rattle.tracing.specs.declared.steps.Pick.the-variants.{At, Nowhere}
+use Rattle.tracing.specs.declared.Outcome.{Outcome}
+use Rattle.tracing.specs.declared.End.{End}
+use Rattle.tracing.specs.declared.TraceAnswer.{TraceAnswer}
+use Rattle.tracing.specs.declared.TraceAnswer.the-variants.{Ended}
+
+-- what a step says in document 01's terms
+abbrev pub stepAnswer : Step → Stepped
+stepAnswer Here = here
+stepAnswer (EndDevice p) = endDevice (p .0)
+stepAnswer Bad = bad
+stepAnswer Lost = lost
+stepAnswer (Onward j q) = onward (j .0) (q .0)
+
+abbrev pub pickAnswer : Pick → Picked
+pickAnswer (At p) = at (p .0)
+pickAnswer Nowhere = nowhere
+
+-- the phys that (ii), (iii) and (iv) pick
+abbrev pub bearingPick : Domain → ℕ → ℕ → Picked
+bearingPick d i s = pick (bearing d i s) (phyNumbers d i)
+
+abbrev pub listingPick : Domain → List ℕ → ℕ → ℕ → Picked
+listingPick d words i s = pick (listing d words i s) (phyNumbers d i)
+
+abbrev pub subtractingPick : Domain → ℕ → Picked
+subtractingPick d i = pick (subtracting d i) (phyNumbers d i)
+
+-- on over a phy
+abbrev pub moveOver : Domain → Phy → Stepped
+moveOver d φ = onward (numberOf d (addressOf φ)) (farOf φ)
+
+-- (iv), (iii) and (ii), each with what comes after it
+abbrev pub subtractiveStep : Domain → ℕ → ℕ → Stepped
+subtractiveStep d i came = subtractively d i came (subtractingPick d i)
+
+abbrev pub tableStep : Domain → List ℕ → ℕ → ℕ → ℕ → Stepped
+tableStep d words i came s = byTable d i came (listingPick d words i s) (subtractiveStep d i came)
+
+abbrev pub directStep : Domain → List ℕ → ℕ → ℕ → ℕ → Stepped
+directStep d words i came s = directly d i came (bearingPick d i s) (tableStep d words i came s)
+
+-- the words of the tables of expander i, and of the expanders before it
+abbrev pub ownWords : Domain → ℕ → ℕ
+ownWords d i = sizes d (phyPlaces i 0 (length (expanderAt d i .phys)))
+
+abbrev pub wordsBefore : Domain → ℕ → ℕ
+wordsBefore d i = sizes d (placesFrom 0 (take i d))
+
+-- how the code says that a walk ends
+abbrev pub endOf : Outcome → ℕ → ℕ → ℕ → End
+endOf o i p count = record { outcome = o; last = record { 0 = i }; phy = record { 0 = p }; count = count }
+
+-- what a walk answers, and its bytes
+pub record Walked (t : Traced) (end : End) (before after : List ℕ) : Type 0 where
+  pub ends : traceAnswer (Ended end) ≡ report t
+  pub bytes : after ≡ t .passed ++ drop (length (t .passed)) before
+
+-- a request over a domain: causes 15 to 17, then the trace
+unfoldable pub tracedRequest : Domain → List ℕ → ℕ → ℕ → ℕ → ℕ → Result Traced
+tracedRequest d words bytes i arrival s =
+    then (requested (length words) bytes i arrival s d) (λ _.
+    good (traced d words i arrival s))
+
+-- causes 7 to 17, then the trace
+unfoldable pub judgedRequest : Domain → List ℕ → ℕ → ℕ → ℕ → ℕ → Result Traced
+judgedRequest d words bytes i arrival s = then (judgedDomain d) (λ e. tracedRequest e words bytes i arrival s)
+
+-- what a request answers, and its bytes
+pub record Answered (result : Result Traced) (answer : TraceAnswer) (before after : List ℕ) : Type 0 where
+  pub answers : traceAnswer answer ≡ then result report
+  pub bytes : after ≡ bytesAfter result before

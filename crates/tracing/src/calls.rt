@@ -1,0 +1,59 @@
+// The trace call.
+use crate::TraceAnswer;
+use crate::requests;
+use frames::ExpanderNumber;
+use frames::PhyId;
+use tables::Check;
+use tables::DomainRead;
+ghost use lib.ListN.{length};
+ghost use Rattle.tracing.specs.Trace.{traceCall};
+ghost use Rattle.tracing.specs.Answers.{judgedRequest, Answered};
+ghost use Rattle.tables.specs.Wiring.{domainIn};
+
+// Causes 7 to 17 of a request over rows, then the walk.
+fn request_rows(
+    rows: &[u64],
+    words: &[u64],
+    start: ExpanderNumber,
+    arrival: PhyId,
+    s: u64,
+    passed: &mut [u8],
+) -> TraceAnswer
+    ensures { λ r. ⌜ Answered
+        (judgedRequest (domainIn (now (rows .entry))) (now (words .entry)) (length (now (passed .entry))) (start .0) (arrival .0) s)
+        r (now (passed .entry)) (now (passed .exit)) ⌝ }
+{
+    let verdict = tables::judge_rows(rows);
+    match verdict {
+        Check::Refused(r) => TraceAnswer::Refused(r),
+        Check::Passed => {
+            let needed = tables::needed_words(rows);
+            requests::trace_rows(rows, words, needed, start, arrival, s, passed)
+        }
+    }
+}
+
+// The trace call: causes 1 to 17, or how the request ends. The numbers of the expanders passed
+// fill the first of the lent bytes; the rest stay, and all of them where it is refused.
+pub fn trace(
+    file: &[u8],
+    words: &[u64],
+    start: ExpanderNumber,
+    arrival: PhyId,
+    s: u64,
+    passed: &mut [u8],
+) -> TraceAnswer
+    ensures { λ r. ⌜ Answered
+        (traceCall (now (file .entry)) (now (words .entry)) (length (now (passed .entry))) (start .0) (arrival .0) s)
+        r (now (passed .entry)) (now (passed .exit)) ⌝ }
+{
+    let mut rows = [0u64; 16512];
+    let read = tables::read_domain(file, &mut rows[..]);
+    match read {
+        DomainRead::Refused(r) => TraceAnswer::Refused(r),
+        DomainRead::Expanders(n) => {
+            let e = 258 * (n as usize);
+            request_rows(&rows[..e], words, start, arrival, s, passed)
+        }
+    }
+}

@@ -1,0 +1,40 @@
+// Connection requests, traced over lent table words.
+mod calls;
+mod requests;
+mod steps;
+mod stretches;
+mod walks;
+
+pub use calls::trace;
+use frames::ExpanderNumber;
+use frames::PhyId;
+use frames::Refusal;
+
+// What an expander does with a request.
+pub enum Step {
+    Here,
+    EndDevice(PhyId),
+    Bad,
+    Lost,
+    Onward(ExpanderNumber, PhyId),
+}
+
+pub enum Outcome {
+    Arrived,
+    NoDestination,
+    BadDestination,
+}
+
+// How a request ends: outcome, last expander, phy (255 unless arrived at an end device), and the
+// count of expanders passed.
+pub struct End {
+    pub outcome: Outcome,
+    pub last: ExpanderNumber,
+    pub phy: PhyId,
+    pub count: u8,
+}
+
+pub enum TraceAnswer {
+    Refused(Refusal),
+    Ended(End),
+}

@@ -1,0 +1,89 @@
+// Requests: causes 15 to 17, and the walk.
+use crate::TraceAnswer;
+use crate::walks::walk;
+use frames::ExpanderNumber;
+use frames::PhyId;
+use frames::Refusal;
+use tables::Check;
+ghost use mathlib.Core.Path.{_≡_};
+ghost use lib.ListN.{length};
+ghost use Rattle.tables.specs.Wiring.{domainIn};
+ghost use Rattle.tables.specs.Wiring.{Refused};
+ghost use Rattle.tables.specs.Wiring.{checkAnswer};
+ghost use Rattle.tables.specs.Wiring.{refusal};
+ghost use Rattle.tables.specs.Tables.{needed as allWords};
+ghost use Rattle.tracing.specs.Trace.{allowed, requested};
+ghost use Rattle.tracing.specs.Answers.{tracedRequest, Answered};
+
+// Does the request start at an expander, with arrival phy 255 or a phy attached to an end device?
+fn is_allowed(rows: &[u64], start: ExpanderNumber, arrival: PhyId) -> bool
+    ensures { λ r. ⌜ r ≡ allowed (domainIn (now (rows .entry))) (start .0) (arrival .0) ⌝ }
+{
+    if tables::expander_count(rows) <= start.0 {
+        return false;
+    }
+    if arrival.0 == 255 {
+        return true;
+    }
+    tables::phy_type(tables::phy_at(rows, start, arrival)) == 1
+}
+
+// A refusal at no phy.
+fn refuse(number: u8) -> Check
+    ensures { λ r. ⌜ r ≡ Refused (refusal number 0 0) ⌝ }
+{
+    Check::Refused(Refusal {
+        number: number,
+        expander: ExpanderNumber(0),
+        phy: PhyId(0),
+    })
+}
+
+// Causes 15 to 17, with so many table words and bytes lent, and so many words needed.
+fn check_request(
+    rows: &[u64],
+    words: usize,
+    bytes: usize,
+    needed: usize,
+    start: ExpanderNumber,
+    arrival: PhyId,
+    s: u64,
+) -> Check
+    requires { ⌜ needed ≡ allWords (domainIn (now rows)) ⌝ }
+    ensures { λ r. ⌜ checkAnswer (domainIn (now (rows .entry))) r ≡ requested words bytes (start .0) (arrival .0) s (domainIn (now (rows .entry))) ⌝ }
+{
+    if !is_allowed(rows, start, arrival) {
+        return refuse(15);
+    }
+    if words < needed {
+        return refuse(16);
+    }
+    if bytes < tables::expander_count(rows) as usize {
+        return refuse(16);
+    }
+    if s == 0 {
+        return refuse(17);
+    }
+    Check::Passed
+}
+
+// A request over rows: why it is refused, or how it ends; the expanders passed go into the lent bytes.
+pub(crate) fn trace_rows(
+    rows: &[u64],
+    words: &[u64],
+    needed: usize,
+    start: ExpanderNumber,
+    arrival: PhyId,
+    s: u64,
+    passed: &mut [u8],
+) -> TraceAnswer
+    requires { ⌜ needed ≡ allWords (domainIn (now rows)) ⌝ }
+    ensures { λ r. ⌜ Answered
+        (tracedRequest (domainIn (now (rows .entry))) (now (words .entry)) (length (now (passed .entry))) (start .0) (arrival .0) s)
+        r (now (passed .entry)) (now (passed .exit)) ⌝ }
+{
+    match check_request(rows, words.len(), passed.len(), needed, start, arrival, s) {
+        Check::Refused(r) => TraceAnswer::Refused(r),
+        Check::Passed => TraceAnswer::Ended(walk(rows, words, start, arrival, s, passed)),
+    }
+}

@@ -1,0 +1,184 @@
+// What an expander does with a request: steps (i) to (v).
+use crate::Step;
+use crate::stretches::lists;
+use crate::stretches::size_at;
+use crate::stretches::words_before;
+use frames::ExpanderNumber;
+use frames::PhyId;
+use tables::Phy;
+ghost use mathlib.Core.Path.{_≡_};
+ghost use mathlib.Core.Bool.{cond, _&&_};
+ghost use lib.Dec.{eqb};
+ghost use Rattle.tables.specs.Wiring.{domainIn};
+ghost use Rattle.tables.specs.Wiring.{addressOf, bears, routes, toEnd, toExpander, places};
+ghost use Rattle.tracing.specs.Steps.{bad, endDevice, offset, listing, cameFrom, step};
+ghost use Rattle.tracing.specs.Answers.{stepAnswer, pickAnswer, bearingPick, listingPick, subtractingPick};
+ghost use Rattle.tracing.specs.Answers.{moveOver, subtractiveStep, tableStep, directStep};
+
+// The phy that a step picks.
+enum Pick {
+    At(PhyId),
+    Nowhere,
+}
+
+// Is the phy attached, and does it bear the address?
+fn is_bearing(f: Phy, s: u64) -> bool
+    ensures { λ r. ⌜ r ≡ bears s f ⌝ }
+{
+    if tables::phy_type(f) == 0 {
+        return false;
+    }
+    tables::phy_address(f) == s
+}
+
+// Is it a subtractive phy attached to an expander?
+fn is_subtracting(f: Phy) -> bool
+    ensures { λ r. ⌜ r ≡ (toExpander f && routes 1 f) ⌝ }
+{
+    if tables::phy_type(f) < 2 {
+        return false;
+    }
+    tables::phy_attribute(f) == 1
+}
+
+// Is phy p of expander i a table phy attached to an expander, with s in its stretch, which starts at `at`?
+fn is_listing(rows: &[u64], words: &[u64], i: ExpanderNumber, p: PhyId, at: usize, s: u64) -> bool
+    requires { ⌜ at ≡ offset (domainIn (now rows)) (i .0) (p .0) (places (domainIn (now rows))) ⌝ }
+    ensures { λ r. ⌜ r ≡ listing (domainIn (now (rows .entry))) (now (words .entry)) (i .0) s (p .0) ⌝ }
+{
+    let f = tables::phy_at(rows, i, p);
+    if tables::phy_type(f) < 2 {
+        return false;
+    }
+    if tables::phy_attribute(f) != 2 {
+        return false;
+    }
+    lists(words, at, tables::index_count(rows, i) as usize, s)
+}
+
+// (ii): the lowest attached phy that bears the address.
+fn pick_bearing(rows: &[u64], i: ExpanderNumber, s: u64) -> Pick
+    ensures { λ r. ⌜ pickAnswer r ≡ bearingPick (domainIn (now (rows .entry))) (i .0) s ⌝ }
+{
+    let n = tables::phy_count(rows, i);
+    let mut p: u8 = 0;
+    while p < n {
+        if is_bearing(tables::phy_at(rows, i, PhyId(p)), s) {
+            return Pick::At(PhyId(p));
+        }
+        p += 1;
+    }
+    Pick::Nowhere
+}
+
+// (iii): of the table phys attached to an expander, the lowest that has the address in its own stretch.
+fn pick_listing(rows: &[u64], words: &[u64], i: ExpanderNumber, s: u64) -> Pick
+    ensures { λ r. ⌜ pickAnswer r ≡ listingPick (domainIn (now (rows .entry))) (now (words .entry)) (i .0) s ⌝ }
+{
+    let n = tables::phy_count(rows, i);
+    let mut at = words_before(rows, i);
+    let mut p: u8 = 0;
+    while p < n {
+        if is_listing(rows, words, i, PhyId(p), at, s) {
+            return Pick::At(PhyId(p));
+        }
+        at += size_at(rows, i, PhyId(p));
+        p += 1;
+    }
+    Pick::Nowhere
+}
+
+// (iv): the lowest subtractive phy attached to an expander.
+fn pick_subtracting(rows: &[u64], i: ExpanderNumber) -> Pick
+    ensures { λ r. ⌜ pickAnswer r ≡ subtractingPick (domainIn (now (rows .entry))) (i .0) ⌝ }
+{
+    let n = tables::phy_count(rows, i);
+    let mut p: u8 = 0;
+    while p < n {
+        if is_subtracting(tables::phy_at(rows, i, PhyId(p))) {
+            return Pick::At(PhyId(p));
+        }
+        p += 1;
+    }
+    Pick::Nowhere
+}
+
+// The address at the arrival phy; 0 where that is 255.
+fn came_from(rows: &[u64], i: ExpanderNumber, arrival: PhyId) -> u64
+    ensures { λ r. ⌜ r ≡ cameFrom (domainIn (now (rows .entry))) (i .0) (arrival .0) ⌝ }
+{
+    if arrival.0 == 255 {
+        return 0;
+    }
+    tables::phy_address(tables::phy_at(rows, i, arrival))
+}
+
+// On over phy f, or `back` where it is attached to the address that the request came from.
+fn move_unless(rows: &[u64], f: Phy, came: u64, back: Step) -> Step
+    ensures { λ r. ⌜ stepAnswer r ≡ cond (eqb (addressOf f) came) (stepAnswer back) (moveOver (domainIn (now (rows .entry))) f) ⌝ }
+{
+    let s = tables::phy_address(f);
+    if s == came {
+        return back;
+    }
+    Step::Onward(tables::number_of(rows, s), tables::phy_far(f))
+}
+
+// (iv), or (v).
+fn subtractive_step(rows: &[u64], i: ExpanderNumber, came: u64) -> Step
+    ensures { λ r. ⌜ stepAnswer r ≡ subtractiveStep (domainIn (now (rows .entry))) (i .0) came ⌝ }
+{
+    match pick_subtracting(rows, i) {
+        Pick::At(p) => move_unless(rows, tables::phy_at(rows, i, p), came, Step::Lost),
+        Pick::Nowhere => Step::Lost,
+    }
+}
+
+// (iii), or what comes after.
+fn table_step(rows: &[u64], words: &[u64], i: ExpanderNumber, came: u64, s: u64) -> Step
+    ensures { λ r. ⌜ stepAnswer r ≡ tableStep (domainIn (now (rows .entry))) (now (words .entry)) (i .0) came s ⌝ }
+{
+    match pick_listing(rows, words, i, s) {
+        Pick::At(p) => move_unless(rows, tables::phy_at(rows, i, p), came, Step::Bad),
+        Pick::Nowhere => subtractive_step(rows, i, came),
+    }
+}
+
+// What (ii) does over phy p, where f is that phy.
+fn arrive_unless(rows: &[u64], p: PhyId, f: Phy, came: u64) -> Step
+    ensures { λ r. ⌜ stepAnswer r ≡ cond (eqb (addressOf f) came) bad (cond (toEnd f) (endDevice (p .0)) (moveOver (domainIn (now (rows .entry))) f)) ⌝ }
+{
+    if tables::phy_type(f) != 1 {
+        return move_unless(rows, f, came, Step::Bad);
+    }
+    if tables::phy_address(f) == came {
+        return Step::Bad;
+    }
+    Step::EndDevice(p)
+}
+
+// (ii), or what comes after.
+fn direct_step(rows: &[u64], words: &[u64], i: ExpanderNumber, came: u64, s: u64) -> Step
+    ensures { λ r. ⌜ stepAnswer r ≡ directStep (domainIn (now (rows .entry))) (now (words .entry)) (i .0) came s ⌝ }
+{
+    match pick_bearing(rows, i, s) {
+        Pick::At(p) => arrive_unless(rows, p, tables::phy_at(rows, i, p), came),
+        Pick::Nowhere => table_step(rows, words, i, came, s),
+    }
+}
+
+// What expander i does with a request for address s that arrived at this phy.
+pub(crate) fn take_step(
+    rows: &[u64],
+    words: &[u64],
+    i: ExpanderNumber,
+    arrival: PhyId,
+    s: u64,
+) -> Step
+    ensures { λ r. ⌜ stepAnswer r ≡ step (domainIn (now (rows .entry))) (now (words .entry)) (i .0) (arrival .0) s ⌝ }
+{
+    if tables::expander_address(rows, i) == s {
+        return Step::Here;
+    }
+    direct_step(rows, words, i, came_from(rows, i, arrival), s)
+}

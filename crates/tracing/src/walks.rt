@@ -1,0 +1,61 @@
+// The walk of a request, step by step.
+use crate::End;
+use crate::Outcome;
+use crate::Step;
+use crate::steps::take_step;
+use frames::ExpanderNumber;
+use frames::PhyId;
+ghost use mathlib.Core.Path.{_≡_};
+ghost use Prim.Native.Nat.{_≤_};
+ghost use lib.ListN.{length};
+ghost use Rattle.tables.specs.Wiring.{domainIn};
+ghost use Rattle.tracing.specs.Trace.{traced};
+ghost use Rattle.tracing.specs.Answers.{endOf, Walked};
+
+// How a walk ends.
+fn ended(outcome: Outcome, last: ExpanderNumber, phy: PhyId, count: u8) -> End
+    ensures { λ r. ⌜ r ≡ endOf outcome (last .0) (phy .0) count ⌝ }
+{
+    End {
+        outcome: outcome,
+        last: last,
+        phy: phy,
+        count: count,
+    }
+}
+
+// At most as many steps as there are expanders. The expanders passed go into the lent bytes.
+pub(crate) fn walk(
+    rows: &[u64],
+    words: &[u64],
+    start: ExpanderNumber,
+    arrival: PhyId,
+    s: u64,
+    passed: &mut [u8],
+) -> End
+    requires { ⌜ length (domainIn (now rows)) ≤ length (now passed) ⌝ }
+    ensures { λ r. ⌜ Walked
+        (traced (domainIn (now (rows .entry))) (now (words .entry)) (start .0) (arrival .0) s)
+        r (now (passed .entry)) (now (passed .exit)) ⌝ }
+{
+    let n = tables::expander_count(rows);
+    let mut i = start;
+    let mut q = arrival;
+    let mut k: u8 = 0;
+    while k < n {
+        passed[k as usize] = i.0;
+        let t = take_step(rows, words, i, q, s);
+        match t {
+            Step::Here => return ended(Outcome::Arrived, i, PhyId(255), k + 1),
+            Step::EndDevice(p) => return ended(Outcome::Arrived, i, p, k + 1),
+            Step::Bad => return ended(Outcome::BadDestination, i, PhyId(255), k + 1),
+            Step::Lost => return ended(Outcome::NoDestination, i, PhyId(255), k + 1),
+            Step::Onward(j, f) => {
+                i = j;
+                q = f;
+                k += 1;
+            }
+        }
+    }
+    ended(Outcome::NoDestination, i, PhyId(255), k)
+}
