@@ -4,7 +4,7 @@ use frames::ExpanderNumber;
 use frames::PhyId;
 ghost use mathlib.Core.Path.{_≡_};
 ghost use mathlib.Core.List.{[], _∷_, _++_};
-ghost use Prim.Native.Nat.{_+_, _≤_, _<_};
+ghost use Prim.Native.Nat.{_+_, _^_, _≤_, _<_};
 ghost use lib.ListN.{length, drop};
 ghost use Rattle.wiring.specs.Domain.{phyAt, routes};
 ghost use Rattle.wiring.specs.Causes.{place};
@@ -45,7 +45,7 @@ fn sizes_at(rows: &[u64], i: ExpanderNumber) -> usize
 
 // The words that all tables need.
 pub fn needed_words(rows: &[u64]) -> usize
-    ensures { λ r. ⌜ r ≡ needed (domainIn (now (rows .entry))) ⌝ }
+    ensures { λ r. ⌜ (r ≡ needed (domainIn (now (rows .entry)))) × (r < 2 ^ 32) ⌝ }
 {
     let n = wiring::expander_count(rows);
     let mut sum: usize = 0;
@@ -83,7 +83,7 @@ fn count_at(rows: &[u64], i: ExpanderNumber) -> usize
 
 // How many tables there are.
 pub fn table_count(rows: &[u64]) -> usize
-    ensures { λ r. ⌜ r ≡ length (tablePlaces (domainIn (now (rows .entry)))) ⌝ }
+    ensures { λ r. ⌜ (r ≡ length (tablePlaces (domainIn (now (rows .entry))))) × (r < 2 ^ 32) ⌝ }
 {
     let n = wiring::expander_count(rows);
     let mut sum: usize = 0;

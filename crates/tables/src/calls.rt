@@ -69,7 +69,7 @@ fn give_rows(rows: &[u64], words: &mut [u64]) -> TablesGiven
             }
             let count = all_tables::table_count(rows);
             all_tables::put_all(rows, words);
-            TablesGiven::Counts(count as u64, needed as u64)
+            TablesGiven::Counts(count as u32, needed as u32)
         }
     }
 }

@@ -39,5 +39,5 @@ pub enum Judgement {
 // What the table call answers: the number of tables, and of words.
 pub enum TablesGiven {
     Refused(Refusal),
-    Counts(u64, u64),
+    Counts(u32, u32),
 }

@@ -20,7 +20,7 @@ needed-words-requires c κs = search needs
 
 returns : tie.Need-returns
 returns c =
-    let e = c .before .needed-words .ensures in
+    let e = c .before .needed-words .ensures .0 in
     tables-short _ _ _ _ (sym (c .before .before .before .before .judge-rows .ensures) ∙ ap (checkAnswer _) (c .before .before .enum-told .given .1)) (omega arith)
 
 table-count-requires : tie.Need-table-count-requires
@@ -28,6 +28,12 @@ table-count-requires c κs = search needs
 
 put-all-requires : tie.Need-put-all-requires
 put-all-requires c κs = search needs
+
+cast-t16 : tie.Need-cast-t16
+cast-t16 c = search needs
+
+cast-t17 : tie.Need-cast-t17
+cast-t17 c = search needs
 
 returns-2 : tie.Need-returns-2
 returns-2 c =
@@ -39,9 +45,9 @@ same-length c = search needs
 returns-3 : tie.Need-returns-3
 returns-3 c =
     let f = c .before .before .before .before .before .before in
-    let e = f .needed-words .ensures in
+    let e = f .needed-words .ensures .0 in
     tables-done _ _ _ _ (sym (f .before .before .before .judge-rows .ensures) ∙ ap (checkAnswer _) (f .before .enum-told .given .1))
-    _ _ _ (omega arith) (c .before .before .before .before .table-count .ensures) e (c .before .before .put-all .ensures)
+    _ _ _ (omega arith) (c .before .before .before .before .table-count .ensures .0) e (c .before .before .put-all .ensures)
 
 pub give-rows-spec : {M : Type 1} → statement M
 give-rows-spec =
@@ -54,6 +60,8 @@ give-rows-spec =
     returns
     table-count-requires
     put-all-requires
+    cast-t16
+    cast-t17
     returns-2
     same-length
     returns-3)

@@ -1,0 +1,29 @@
+use mathlib.Core.Path.{sym, _∙_, ap}
+use borrow.Author.Needs.{needs}
+use Rattle.exports.specs.Packing.{entryOf}
+use Rattle.frames.specs.ConfigureRoute.{routeAnswer}
+use Rattle.exports.proofs.metzurgo_read_route_entry.Statement.{statement}
+use Rattle.exports.proofs.metzurgo_read_route_entry.Tie as tie
+
+read-route-requires : tie.Need-read-route-requires
+read-route-requires c κs = search needs
+
+enum-told : tie.Need-enum-told
+enum-told c = search needs
+
+enum-known-answer : tie.Need-enum-known-answer
+enum-known-answer c = search needs
+
+returns : tie.Need-returns
+returns c =
+    let e = sym (c .before .before .read-route .ensures) ∙ ap (routeAnswer) (c .enum-told .given .1) in
+    sym (ap (entryOf) e)
+
+returns-2 : tie.Need-returns-2
+returns-2 c =
+    let e = sym (c .before .before .before .read-route .ensures) ∙ ap (routeAnswer) (c .before .answer .given .1) in
+    sym (ap (entryOf) e)
+
+pub metzurgo-read-route-entry-spec : {M : Type 1} → statement M
+metzurgo-read-route-entry-spec =
+    tie.close (tie.spec read-route-requires enum-told enum-known-answer returns returns-2)

@@ -1,0 +1,63 @@
+use mathlib.Core.Path.{sym, _∙_, ap}
+use borrow.Author.Needs.{needs}
+use Rattle.exports.specs.Packing.{packed, counts}
+use Rattle.tables.specs.Judge.{tablesAnswer}
+use Rattle.exports.proofs.metzurgo_tables.Statement.{statement}
+use Rattle.exports.proofs.metzurgo_tables.Tie as tie
+
+give-tables-requires : tie.Need-give-tables-requires
+give-tables-requires c κs = search needs
+
+enum-known-answer : tie.Need-enum-known-answer
+enum-known-answer c = search needs
+
+refusal-requires : tie.Need-refusal-requires
+refusal-requires c κs = search needs
+
+enum-known-answer-2 : tie.Need-enum-known-answer-2
+enum-known-answer-2 c = search needs
+
+cast-result : tie.Need-cast-result
+cast-result c = search needs
+
+mul-result : tie.Need-mul-result
+mul-result c = search needs
+
+cast-result-2 : tie.Need-cast-result-2
+cast-result-2 c = search needs
+
+add-result : tie.Need-add-result
+add-result c = search needs
+
+same-length : tie.Need-same-length
+same-length c = search needs
+
+returns : tie.Need-returns
+returns c =
+    let e = sym (c .before .before .before .before .before .before .give-tables .ensures .answers) ∙ ap (tablesAnswer) (c .before .before .answer .given .1) in
+    (c .refusal .ensures ∙ sym (ap (packed counts) e), c .before .before .before .before .before .before .give-tables .ensures .words)
+
+same-length-2 : tie.Need-same-length-2
+same-length-2 c = search needs
+
+returns-2 : tie.Need-returns-2
+returns-2 c =
+    let e = sym (c .before .before .before .before .before .give-tables .ensures .answers) ∙ ap (tablesAnswer) (c .before .answer2 .given .1) in
+    (sym (ap (packed counts) e), c .before .before .before .before .before .give-tables .ensures .words)
+
+pub metzurgo-tables-spec : {M : Type 1} → statement M
+metzurgo-tables-spec =
+    tie.close
+    (tie.spec
+    give-tables-requires
+    enum-known-answer
+    refusal-requires
+    enum-known-answer-2
+    cast-result
+    mul-result
+    cast-result-2
+    add-result
+    same-length
+    returns
+    same-length-2
+    returns-2)

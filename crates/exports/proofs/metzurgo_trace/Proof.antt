@@ -1,0 +1,51 @@
+use mathlib.Core.Path.{sym, _∙_, ap}
+use borrow.Author.Needs.{needs}
+use Rattle.exports.specs.Packing.{packed, ended}
+use Rattle.tracing.specs.Trace.{traceAnswer}
+use Rattle.exports.proofs.metzurgo_trace.Statement.{statement}
+use Rattle.exports.proofs.metzurgo_trace.Tie as tie
+
+trace-requires : tie.Need-trace-requires
+trace-requires c κs = search needs
+
+enum-known-answer : tie.Need-enum-known-answer
+enum-known-answer c = search needs
+
+refusal-requires : tie.Need-refusal-requires
+refusal-requires c κs = search needs
+
+enum-known-answer-2 : tie.Need-enum-known-answer-2
+enum-known-answer-2 c = search needs
+
+end-requires : tie.Need-end-requires
+end-requires c κs = search needs
+
+same-length : tie.Need-same-length
+same-length c = search needs
+
+returns : tie.Need-returns
+returns c =
+    let e = sym (c .before .before .before .before .before .before .trace .ensures .answers) ∙ ap (traceAnswer) (c .before .before .answer .given .1) in
+    (c .refusal .ensures ∙ sym (ap (packed ended) e), c .before .before .before .before .before .before .trace .ensures .bytes)
+
+same-length-2 : tie.Need-same-length-2
+same-length-2 c = search needs
+
+returns-2 : tie.Need-returns-2
+returns-2 c =
+    let e = sym (c .before .before .before .before .before .before .trace .ensures .answers) ∙ ap (traceAnswer) (c .before .before .answer2 .given .1) in
+    (c .end .ensures ∙ sym (ap (packed ended) e), c .before .before .before .before .before .before .trace .ensures .bytes)
+
+pub metzurgo-trace-spec : {M : Type 1} → statement M
+metzurgo-trace-spec =
+    tie.close
+    (tie.spec
+    trace-requires
+    enum-known-answer
+    refusal-requires
+    enum-known-answer-2
+    end-requires
+    same-length
+    returns
+    same-length-2
+    returns-2)

@@ -1,0 +1,76 @@
+-- Answers packed into one number.
+use Prim.Native.Nat.{ℕ, _+_, _*_, _^_}
+use mathlib.Core.List.{List}
+use Rattle.frames.specs.Refusals.{Result, refused, good}
+use Rattle.frames.specs.Discovery.{Discovered, vacant, fields}
+use Rattle.frames.specs.declared.Refusal.{Refusal}
+use Rattle.frames.specs.declared.General.{General}
+use Rattle.frames.specs.declared.Discover.{Discover}
+use Rattle.frames.specs.declared.Route.{Route}
+use Rattle.tables.specs.Judge.{Counted}
+use Rattle.tracing.specs.Trace.{Reported}
+use Rattle.tracing.specs.declared.Outcome.{Outcome}
+use Rattle.tracing.specs.declared.Outcome.the-variants.{Arrived, NoDestination, BadDestination}
+
+abbrev pub packRefusal : Refusal → ℕ
+packRefusal r = 2 ^ 63 + r .number * 65536 + r .expander .0 * 256 + r .phy .0
+
+module _ {A : Type 0} where
+  -- a refusal, or what the call yields
+  abbrev pub packed : (A → ℕ) → Result A → ℕ
+  packed f (refused r) = packRefusal r
+  packed f (good a) = f a
+
+-- a number as it is
+abbrev pub number : ℕ → ℕ
+number n = n
+
+-- tables and words
+abbrev pub counts : Counted → ℕ
+counts c = c .tableCount * 2 ^ 32 + c .wordCount
+
+abbrev pub packOutcome : Outcome → ℕ
+packOutcome Arrived = 0
+packOutcome NoDestination = 1
+packOutcome BadDestination = 2
+
+abbrev pub packEnd : Outcome → ℕ → ℕ → ℕ → ℕ
+packEnd o last phy count = packOutcome o * 2 ^ 24 + last * 2 ^ 16 + phy * 2 ^ 8 + count
+
+-- outcome, last expander, phy, count
+abbrev pub ended : Reported → ℕ
+ended t = packEnd (t .outcome) (t .last) (t .phy) (t .count)
+
+-- the length of a request
+abbrev pub forty : List ℕ → ℕ
+forty frame = 40
+
+-- phy and route index
+abbrev pub route : Route → ℕ
+route q = q .phy .0 * 65536 + q .index .0
+
+abbrev pub entryOf : Result Route → ℕ
+entryOf (refused r) = 0
+entryOf (good q) = q .entry
+
+-- R, number of phys, configurable bit
+abbrev pub general : General → ℕ
+general g = g .indexes * 65536 + g .phys * 256 + g .configurable
+
+-- identifier, type, attribute, attached phy
+abbrev pub packFields : Discover → ℕ
+packFields d = d .identifier .0 * 2 ^ 32 + d .device * 2 ^ 24 + d .attribute * 2 ^ 16 + d .far .0
+
+abbrev pub discovered : Discovered → ℕ
+discovered (vacant result) = 2 ^ 62 + result
+discovered (fields d) = packFields d
+
+abbrev pub ownAddress : Result Discovered → ℕ
+ownAddress (refused r) = 0
+ownAddress (good (vacant result)) = 0
+ownAddress (good (fields d)) = d .own
+
+abbrev pub attachedAddress : Result Discovered → ℕ
+attachedAddress (refused r) = 0
+attachedAddress (good (vacant result)) = 0
+attachedAddress (good (fields d)) = d .attached

@@ -1,0 +1,186 @@
+// The C interface: each call answers one number, the packing of what the call answers.
+mod packing;
+
+use frames::DiscoverRead;
+use frames::ExpanderNumber;
+use frames::GeneralRead;
+use frames::PhyId;
+use frames::Route;
+use frames::RouteIndex;
+use frames::RouteRead;
+use frames::RouteWrite;
+use tables::Judgement;
+use tables::TablesGiven;
+use tracing::TraceAnswer;
+use wiring::Wiring;
+ghost use mathlib.Core.Path.{_≡_};
+ghost use lib.ListN.{length};
+ghost use Rattle.frames.specs.Refusals.{then};
+ghost use Rattle.frames.specs.ReportGeneral.{generalRead};
+ghost use Rattle.frames.specs.Discovery.{discoverRead};
+ghost use Rattle.frames.specs.ConfigureRoute.{routeWritten, routeRead, bufferAfter};
+ghost use Rattle.wiring.specs.Neighbours.{wiringCall, bitsOf, wordsAfter as wiredAfter};
+ghost use Rattle.tables.specs.Judge.{judged, expandersIn, tableCall, countsIn, wordsAfter};
+ghost use Rattle.tracing.specs.Trace.{traceCall, report, bytesAfter};
+ghost use Rattle.exports.specs.Packing.{packed, number, counts, ended, forty, general, discovered, ownAddress, attachedAddress, route, entryOf};
+
+// The wiring call: how many bits are set in all.
+#[no_mangle]
+pub extern "C" fn metzurgo_wire(file: &[u8], words: &mut [u64]) -> u64
+    ensures { λ r. ⌜ (r ≡ packed number (then (wiringCall (now (file .entry)) (length (now (words .entry)))) bitsOf))
+        × (now (words .exit) ≡ wiredAfter (wiringCall (now (file .entry)) (length (now (words .entry)))) (now (words .entry))) ⌝ }
+{
+    let answer = wiring::wire(file, words);
+    match answer {
+        Wiring::Refused(r) => packing::refusal(r),
+        Wiring::Bits(n) => n,
+    }
+}
+
+// The judging call: the number of expanders.
+#[no_mangle]
+pub extern "C" fn metzurgo_judge(file: &[u8]) -> u64
+    ensures { λ r. ⌜ r ≡ packed number (then (judged (now (file .entry))) expandersIn) ⌝ }
+{
+    let answer = tables::judge(file);
+    match answer {
+        Judgement::Refused(r) => packing::refusal(r),
+        Judgement::Expanders(n) => n as u64,
+    }
+}
+
+// The table call: the number of tables, times 2 to the power 32, and the number of words.
+#[no_mangle]
+pub extern "C" fn metzurgo_tables(file: &[u8], words: &mut [u64]) -> u64
+    ensures { λ r. ⌜ (r ≡ packed counts (then (tableCall (now (file .entry)) (length (now (words .entry)))) countsIn))
+        × (now (words .exit) ≡ wordsAfter (tableCall (now (file .entry)) (length (now (words .entry)))) (now (words .entry))) ⌝ }
+{
+    let answer = tables::give_tables(file, words);
+    match answer {
+        TablesGiven::Refused(r) => packing::refusal(r),
+        TablesGiven::Counts(t, w) => (t as u64) * 4294967296 + (w as u64),
+    }
+}
+
+// The trace call: outcome, last expander, phy and count.
+#[no_mangle]
+pub extern "C" fn metzurgo_trace(
+    file: &[u8],
+    words: &[u64],
+    start: u8,
+    arrival: u8,
+    address: u64,
+    passed: &mut [u8],
+) -> u64
+    ensures { λ r. ⌜ (r ≡ packed ended (then (traceCall (now (file .entry)) (now (words .entry)) (length (now (passed .entry))) start arrival address) report))
+        × (now (passed .exit) ≡ bytesAfter (traceCall (now (file .entry)) (now (words .entry)) (length (now (passed .entry))) start arrival address) (now (passed .entry))) ⌝ }
+{
+    let answer = tracing::trace(
+        file,
+        words,
+        ExpanderNumber(start),
+        PhyId(arrival),
+        address,
+        passed,
+    );
+    match answer {
+        TraceAnswer::Refused(r) => packing::refusal(r),
+        TraceAnswer::Ended(e) => packing::end(e),
+    }
+}
+
+// Writes one CONFIGURE ROUTE INFORMATION request: 40.
+#[no_mangle]
+pub extern "C" fn metzurgo_write_route(buf: &mut [u8], phy: u8, index: u16, entry: u64) -> u64
+    ensures { λ r. ⌜ (r ≡ packed forty (routeWritten (length (now (buf .entry))) (record { phy = record { 0 = phy }; index = record { 0 = index }; entry = entry })))
+        × (now (buf .exit) ≡ bufferAfter (now (buf .entry)) (routeWritten (length (now (buf .entry))) (record { phy = record { 0 = phy }; index = record { 0 = index }; entry = entry }))) ⌝ }
+{
+    let request = Route {
+        phy: PhyId(phy),
+        index: RouteIndex(index),
+        entry: entry,
+    };
+    let answer = frames::put_route(buf, request);
+    match answer {
+        RouteWrite::Refused(r) => packing::refusal(r),
+        RouteWrite::Written => 40,
+    }
+}
+
+// Reads one CONFIGURE ROUTE INFORMATION request: phy and route index.
+#[no_mangle]
+pub extern "C" fn metzurgo_read_route(frame: &[u8]) -> u64
+    ensures { λ r. ⌜ r ≡ packed route (routeRead (now (frame .entry))) ⌝ }
+{
+    let answer = frames::read_route(frame);
+    match answer {
+        RouteRead::Refused(r) => packing::refusal(r),
+        RouteRead::Read(q) => (q.phy.0 as u64) * 65536 + (q.index.0 as u64),
+    }
+}
+
+// The entry of one CONFIGURE ROUTE INFORMATION request, and 0 where it is refused.
+#[no_mangle]
+pub extern "C" fn metzurgo_read_route_entry(frame: &[u8]) -> u64
+    ensures { λ r. ⌜ r ≡ entryOf (routeRead (now (frame .entry))) ⌝ }
+{
+    let answer = frames::read_route(frame);
+    match answer {
+        RouteRead::Refused(_) => 0,
+        RouteRead::Read(q) => q.entry,
+    }
+}
+
+// Reads one REPORT GENERAL response: R, number of phys, configurable bit.
+#[no_mangle]
+pub extern "C" fn metzurgo_read_general(frame: &[u8]) -> u64
+    ensures { λ r. ⌜ r ≡ packed general (generalRead (now (frame .entry))) ⌝ }
+{
+    let answer = frames::read_general(frame);
+    match answer {
+        GeneralRead::Refused(r) => packing::refusal(r),
+        GeneralRead::Read(g) => {
+            (g.indexes as u64) * 65536 + (g.phys as u64) * 256 + (g.configurable as u64)
+        }
+    }
+}
+
+// Reads one DISCOVER response: identifier, type, attribute and attached phy, or the result of a
+// vacant phy.
+#[no_mangle]
+pub extern "C" fn metzurgo_read_discover(frame: &[u8]) -> u64
+    ensures { λ r. ⌜ r ≡ packed discovered (discoverRead (now (frame .entry))) ⌝ }
+{
+    let answer = frames::read_discover(frame);
+    match answer {
+        DiscoverRead::Refused(r) => packing::refusal(r),
+        DiscoverRead::Vacant(result) => 4611686018427387904 + (result as u64),
+        DiscoverRead::Read(d) => packing::discover(d),
+    }
+}
+
+// The own address of one DISCOVER response, and 0 where it is refused or vacant.
+#[no_mangle]
+pub extern "C" fn metzurgo_discover_own(frame: &[u8]) -> u64
+    ensures { λ r. ⌜ r ≡ ownAddress (discoverRead (now (frame .entry))) ⌝ }
+{
+    let answer = frames::read_discover(frame);
+    match answer {
+        DiscoverRead::Refused(_) => 0,
+        DiscoverRead::Vacant(_) => 0,
+        DiscoverRead::Read(d) => d.own,
+    }
+}
+
+// The attached address of one DISCOVER response, and 0 where it is refused or vacant.
+#[no_mangle]
+pub extern "C" fn metzurgo_discover_attached(frame: &[u8]) -> u64
+    ensures { λ r. ⌜ r ≡ attachedAddress (discoverRead (now (frame .entry))) ⌝ }
+{
+    let answer = frames::read_discover(frame);
+    match answer {
+        DiscoverRead::Refused(_) => 0,
+        DiscoverRead::Vacant(_) => 0,
+        DiscoverRead::Read(d) => d.attached,
+    }
+}

@@ -1,0 +1,44 @@
+// Answers packed into one number.
+use frames::Discover;
+use frames::Refusal;
+use tracing::End;
+use tracing::Outcome;
+ghost use mathlib.Core.Path.{_≡_};
+ghost use Prim.Native.Nat.{_≤_};
+ghost use Rattle.exports.specs.Packing.{packRefusal, packEnd, packOutcome, packFields};
+
+// A refusal: number, expander and phy, above 2 to the power 63.
+pub(crate) fn refusal(r: Refusal) -> u64
+    ensures { λ n. ⌜ n ≡ packRefusal r ⌝ }
+{
+    9223372036854775808 + (r.number as u64) * 65536 + (r.expander.0 as u64) * 256 + (r.phy.0 as u64)
+}
+
+// 0 arrived, 1 NO DESTINATION, 2 BAD DESTINATION.
+fn outcome(o: Outcome) -> u64
+    ensures { λ n. ⌜ (n ≡ packOutcome o) × (n ≤ 2) ⌝ }
+{
+    match o {
+        Outcome::Arrived => 0,
+        Outcome::NoDestination => 1,
+        Outcome::BadDestination => 2,
+    }
+}
+
+// How a request ends.
+pub(crate) fn end(e: End) -> u64
+    ensures { λ n. ⌜ n ≡ packEnd (e .outcome) (e .last .0) (e .phy .0) (e .count) ⌝ }
+{
+    let o = e.outcome;
+    outcome(o) * 16777216 + (e.last.0 as u64) * 65536 + (e.phy.0 as u64) * 256 + (e.count as u64)
+}
+
+// The fields of a DISCOVER response, without its addresses.
+pub(crate) fn discover(d: Discover) -> u64
+    ensures { λ n. ⌜ n ≡ packFields d ⌝ }
+{
+    (d.identifier.0 as u64) * 4294967296
+        + (d.device as u64) * 16777216
+        + (d.attribute as u64) * 65536
+        + (d.far.0 as u64)
+}
