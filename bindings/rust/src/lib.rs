@@ -1,0 +1,350 @@
+//! Calls of the Metzurgo SAS configurator: domain files, wiring, route tables,
+//! request tracing and loading frames.
+//!
+//! The functions at the top level take slices and give an answer with a type.
+//! The module [`raw`] has the same calls with the answer as the archive gives
+//! it, one 64-bit number. include/metzurgo.h describes each call.
+
+use std::fmt;
+
+/// True when this crate was built with the feature `stub`, without the archive.
+pub const STUB: bool = cfg!(feature = "stub");
+
+/// The phy number that stands for the expander itself.
+pub const EXPANDER_ITSELF: u8 = 255;
+
+/// The calls with their answers as 64-bit numbers.
+pub mod raw {
+    #[cfg(not(feature = "stub"))]
+    use super::linked as calls;
+    #[cfg(feature = "stub")]
+    use super::stub as calls;
+
+    pub fn wire(file: &[u8], words: &mut [u64]) -> u64 {
+        unsafe { calls::metzurgo_wire(file.as_ptr(), file.len(), words.as_mut_ptr(), words.len()) }
+    }
+
+    pub fn judge(file: &[u8]) -> u64 {
+        unsafe { calls::metzurgo_judge(file.as_ptr(), file.len()) }
+    }
+
+    pub fn tables(file: &[u8], words: &mut [u64]) -> u64 {
+        unsafe {
+            calls::metzurgo_tables(file.as_ptr(), file.len(), words.as_mut_ptr(), words.len())
+        }
+    }
+
+    pub fn trace(
+        file: &[u8],
+        words: &[u64],
+        start: u8,
+        arrival: u8,
+        address: u64,
+        passed: &mut [u8],
+    ) -> u64 {
+        unsafe {
+            calls::metzurgo_trace(
+                file.as_ptr(),
+                file.len(),
+                words.as_ptr(),
+                words.len(),
+                start,
+                arrival,
+                address,
+                passed.as_mut_ptr(),
+                passed.len(),
+            )
+        }
+    }
+
+    pub fn write_route(buf: &mut [u8], phy: u8, index: u16, entry: u64) -> u64 {
+        unsafe { calls::metzurgo_write_route(buf.as_mut_ptr(), buf.len(), phy, index, entry) }
+    }
+
+    pub fn read_route(frame: &[u8]) -> u64 {
+        unsafe { calls::metzurgo_read_route(frame.as_ptr(), frame.len()) }
+    }
+
+    pub fn read_route_entry(frame: &[u8]) -> u64 {
+        unsafe { calls::metzurgo_read_route_entry(frame.as_ptr(), frame.len()) }
+    }
+
+    pub fn read_general(frame: &[u8]) -> u64 {
+        unsafe { calls::metzurgo_read_general(frame.as_ptr(), frame.len()) }
+    }
+
+    pub fn read_discover(frame: &[u8]) -> u64 {
+        unsafe { calls::metzurgo_read_discover(frame.as_ptr(), frame.len()) }
+    }
+
+    pub fn discover_own(frame: &[u8]) -> u64 {
+        unsafe { calls::metzurgo_discover_own(frame.as_ptr(), frame.len()) }
+    }
+
+    pub fn discover_attached(frame: &[u8]) -> u64 {
+        unsafe { calls::metzurgo_discover_attached(frame.as_ptr(), frame.len()) }
+    }
+}
+
+#[cfg(not(feature = "stub"))]
+mod linked {
+    extern "C" {
+        pub fn metzurgo_wire(
+            file: *const u8,
+            file_len: usize,
+            words: *mut u64,
+            words_len: usize,
+        ) -> u64;
+        pub fn metzurgo_judge(file: *const u8, file_len: usize) -> u64;
+        pub fn metzurgo_tables(
+            file: *const u8,
+            file_len: usize,
+            words: *mut u64,
+            words_len: usize,
+        ) -> u64;
+        pub fn metzurgo_trace(
+            file: *const u8,
+            file_len: usize,
+            words: *const u64,
+            words_len: usize,
+            start: u8,
+            arrival: u8,
+            address: u64,
+            passed: *mut u8,
+            passed_len: usize,
+        ) -> u64;
+        pub fn metzurgo_write_route(
+            buf: *mut u8,
+            buf_len: usize,
+            phy: u8,
+            index: u16,
+            entry: u64,
+        ) -> u64;
+        pub fn metzurgo_read_route(frame: *const u8, len: usize) -> u64;
+        pub fn metzurgo_read_route_entry(frame: *const u8, len: usize) -> u64;
+        pub fn metzurgo_read_general(frame: *const u8, len: usize) -> u64;
+        pub fn metzurgo_read_discover(frame: *const u8, len: usize) -> u64;
+        pub fn metzurgo_discover_own(frame: *const u8, len: usize) -> u64;
+        pub fn metzurgo_discover_attached(frame: *const u8, len: usize) -> u64;
+    }
+}
+
+/// Stands in for the archive: every call answers with refusal 0, 0, 0.
+#[cfg(feature = "stub")]
+mod stub {
+    const NOTHING: u64 = 1 << 63;
+
+    pub unsafe fn metzurgo_wire(_: *const u8, _: usize, _: *mut u64, _: usize) -> u64 {
+        NOTHING
+    }
+    pub unsafe fn metzurgo_judge(_: *const u8, _: usize) -> u64 {
+        NOTHING
+    }
+    pub unsafe fn metzurgo_tables(_: *const u8, _: usize, _: *mut u64, _: usize) -> u64 {
+        NOTHING
+    }
+    #[allow(clippy::too_many_arguments)]
+    pub unsafe fn metzurgo_trace(
+        _: *const u8,
+        _: usize,
+        _: *const u64,
+        _: usize,
+        _: u8,
+        _: u8,
+        _: u64,
+        _: *mut u8,
+        _: usize,
+    ) -> u64 {
+        NOTHING
+    }
+    pub unsafe fn metzurgo_write_route(_: *mut u8, _: usize, _: u8, _: u16, _: u64) -> u64 {
+        NOTHING
+    }
+    pub unsafe fn metzurgo_read_route(_: *const u8, _: usize) -> u64 {
+        NOTHING
+    }
+    pub unsafe fn metzurgo_read_route_entry(_: *const u8, _: usize) -> u64 {
+        0
+    }
+    pub unsafe fn metzurgo_read_general(_: *const u8, _: usize) -> u64 {
+        NOTHING
+    }
+    pub unsafe fn metzurgo_read_discover(_: *const u8, _: usize) -> u64 {
+        NOTHING
+    }
+    pub unsafe fn metzurgo_discover_own(_: *const u8, _: usize) -> u64 {
+        0
+    }
+    pub unsafe fn metzurgo_discover_attached(_: *const u8, _: usize) -> u64 {
+        0
+    }
+}
+
+/// A refusal: the number of its cause and the place it names.
+#[derive(Clone, Copy, Debug, PartialEq, Eq, Hash)]
+pub struct Refusal {
+    pub number: u8,
+    pub expander: u8,
+    pub phy: u8,
+}
+
+impl fmt::Display for Refusal {
+    fn fmt(&self, f: &mut fmt::Formatter<'_>) -> fmt::Result {
+        write!(f, "refused {} {} {}", self.number, self.expander, self.phy)
+    }
+}
+
+impl std::error::Error for Refusal {}
+
+/// What the table call wrote.
+#[derive(Clone, Copy, Debug, PartialEq, Eq, Hash)]
+pub struct Tables {
+    pub tables: u32,
+    pub words: u32,
+}
+
+/// How a request ended.
+#[derive(Clone, Copy, Debug, PartialEq, Eq, Hash)]
+pub enum Outcome {
+    Arrived,
+    NoDestination,
+    BadDestination,
+}
+
+/// The answer of a trace. `phy` is the phy of the end device arrived at.
+#[derive(Clone, Copy, Debug, PartialEq, Eq, Hash)]
+pub struct Trace {
+    pub outcome: Outcome,
+    pub last: u8,
+    pub phy: Option<u8>,
+    pub count: u8,
+}
+
+/// The fields of a CONFIGURE ROUTE INFORMATION request.
+#[derive(Clone, Copy, Debug, PartialEq, Eq, Hash)]
+pub struct Route {
+    pub phy: u8,
+    pub index: u16,
+    pub entry: u64,
+}
+
+/// The fields of a REPORT GENERAL response.
+#[derive(Clone, Copy, Debug, PartialEq, Eq, Hash)]
+pub struct General {
+    pub route_indexes: u16,
+    pub phys: u8,
+    pub configurable: bool,
+}
+
+/// The fields of a DISCOVER response, unchecked, or a vacant phy.
+#[derive(Clone, Copy, Debug, PartialEq, Eq, Hash)]
+pub enum Discover {
+    Vacant {
+        result: u8,
+    },
+    Phy {
+        identifier: u8,
+        device_type: u8,
+        attribute: u8,
+        own: u64,
+        attached: u64,
+        attached_phy: u8,
+    },
+}
+
+fn accepted(answer: u64) -> Result<u64, Refusal> {
+    if answer >> 63 == 0 {
+        Ok(answer)
+    } else {
+        Err(Refusal {
+            number: (answer >> 16) as u8,
+            expander: (answer >> 8) as u8,
+            phy: answer as u8,
+        })
+    }
+}
+
+/// Writes one word of neighbours for each expander; gives the bits set in all.
+pub fn wire(file: &[u8], words: &mut [u64]) -> Result<u64, Refusal> {
+    accepted(raw::wire(file, words))
+}
+
+/// Judges the file; gives the number of expanders.
+pub fn judge(file: &[u8]) -> Result<u64, Refusal> {
+    accepted(raw::judge(file))
+}
+
+/// Writes the route tables, by expander and then phy.
+pub fn tables(file: &[u8], words: &mut [u64]) -> Result<Tables, Refusal> {
+    accepted(raw::tables(file, words)).map(|answer| Tables {
+        tables: (answer >> 32) as u32,
+        words: answer as u32,
+    })
+}
+
+/// Traces a request to `address` that enters expander `start` through the phy
+/// `arrival`, or comes from the expander itself ([`EXPANDER_ITSELF`]). The
+/// expanders passed fill the first bytes of `passed`.
+pub fn trace(
+    file: &[u8],
+    words: &[u64],
+    start: u8,
+    arrival: u8,
+    address: u64,
+    passed: &mut [u8],
+) -> Result<Trace, Refusal> {
+    accepted(raw::trace(file, words, start, arrival, address, passed)).map(|answer| Trace {
+        outcome: match answer >> 24 {
+            0 => Outcome::Arrived,
+            1 => Outcome::NoDestination,
+            _ => Outcome::BadDestination,
+        },
+        last: (answer >> 16) as u8,
+        phy: Some((answer >> 8) as u8).filter(|&phy| phy != EXPANDER_ITSELF),
+        count: answer as u8,
+    })
+}
+
+/// Writes a CONFIGURE ROUTE INFORMATION request; gives the forty bytes written.
+pub fn write_route(buf: &mut [u8], phy: u8, index: u16, entry: u64) -> Result<&mut [u8], Refusal> {
+    let length = accepted(raw::write_route(buf, phy, index, entry))?;
+    Ok(&mut buf[..length as usize])
+}
+
+/// Reads a CONFIGURE ROUTE INFORMATION request.
+pub fn read_route(frame: &[u8]) -> Result<Route, Refusal> {
+    accepted(raw::read_route(frame)).map(|answer| Route {
+        phy: (answer >> 16) as u8,
+        index: answer as u16,
+        entry: raw::read_route_entry(frame),
+    })
+}
+
+/// Reads a REPORT GENERAL response by itself.
+pub fn read_general(frame: &[u8]) -> Result<General, Refusal> {
+    accepted(raw::read_general(frame)).map(|answer| General {
+        route_indexes: (answer >> 16) as u16,
+        phys: (answer >> 8) as u8,
+        configurable: answer & 1 == 1,
+    })
+}
+
+/// Reads a DISCOVER response by itself.
+pub fn read_discover(frame: &[u8]) -> Result<Discover, Refusal> {
+    accepted(raw::read_discover(frame)).map(|answer| {
+        if answer >> 62 == 1 {
+            Discover::Vacant {
+                result: answer as u8,
+            }
+        } else {
+            Discover::Phy {
+                identifier: (answer >> 32) as u8,
+                device_type: (answer >> 24) as u8,
+                attribute: (answer >> 16) as u8,
+                own: raw::discover_own(frame),
+                attached: raw::discover_attached(frame),
+                attached_phy: answer as u8,
+            }
+        }
+    })
+}

@@ -1,0 +1,115 @@
+/*
+ * Runs the pair rig of document 01 through the C interface: prints its route
+ * table and one trace. Exits with 1 where an answer is not the expected one.
+ *
+ *     cc -o pair pair.c -L<archive directory> -lexports
+ */
+#include <inttypes.h>
+#include <stdio.h>
+#include <string.h>
+
+#include "../../include/metzurgo.h"
+
+static const uint8_t pair_rig[334] = {
+    /* header */
+    [0] = 0x10, [1] = 2,
+    /* expander 0: address, REPORT GENERAL with R 4, 2 phys, configurable */
+    [2] = 0x50, [9] = 0x10, [10] = 0x41, [17] = 4, [19] = 2, [20] = 1,
+    /* phy 0: table, to expander 1 phy 0 */
+    [38] = 0x41, [39] = 0x10, [50] = 0x20, [54] = 0x50, [61] = 0x10,
+    [62] = 0x50, [69] = 0x20, [82] = 2,
+    /* phy 1: direct, to drive A1h */
+    [90] = 0x41, [91] = 0x10, [99] = 1, [102] = 0x10, [106] = 0x50,
+    [113] = 0x10, [114] = 0x50, [121] = 0xa1,
+    /* expander 1: address, REPORT GENERAL with R 0, 3 phys */
+    [142] = 0x50, [149] = 0x20, [150] = 0x41, [159] = 3,
+    /* phy 0: subtractive, to expander 0 phy 0 */
+    [178] = 0x41, [179] = 0x10, [190] = 0x20, [194] = 0x50, [201] = 0x20,
+    [202] = 0x50, [209] = 0x10, [222] = 1,
+    /* phy 1: direct, to drive B1h */
+    [230] = 0x41, [231] = 0x10, [239] = 1, [242] = 0x10, [246] = 0x50,
+    [253] = 0x20, [254] = 0x50, [261] = 0xb1,
+    /* phy 2: direct, empty */
+    [282] = 0x41, [283] = 0x10, [291] = 2, [298] = 0x50, [305] = 0x20,
+};
+
+#define A1 UINT64_C(0x50000000000000a1)
+#define B1 UINT64_C(0x50000000000000b1)
+
+static int failed;
+
+static void expect(const char *what, uint64_t expected, uint64_t got)
+{
+    if (expected != got) {
+        fprintf(stderr, "%s: expected %016" PRIx64 "h, got %016" PRIx64 "h\n",
+                what, expected, got);
+        failed = 1;
+    }
+}
+
+int main(void)
+{
+    uint64_t words[5] = { 7, 7, 7, 7, 7 };
+    uint64_t answer = metzurgo_wire(pair_rig, sizeof pair_rig, words, 5);
+    expect("wire", 2, answer);
+    expect("neighbours of expander 0", 2, words[0]);
+    expect("neighbours of expander 1", 1, words[1]);
+    expect("word after the neighbours", 7, words[2]);
+
+    expect("judge", 2, metzurgo_judge(pair_rig, sizeof pair_rig));
+    expect("judge, empty file", METZURGO_REFUSED + 1 * 65536,
+           metzurgo_judge(pair_rig, 0));
+
+    expect("tables, 3 words", METZURGO_REFUSED + 16 * 65536,
+           metzurgo_tables(pair_rig, sizeof pair_rig, words, 3));
+    answer = metzurgo_tables(pair_rig, sizeof pair_rig, words, 5);
+    expect("tables", (UINT64_C(1) << 32) + 4, answer);
+    expect("entry 0", B1, words[0]);
+    expect("entry 1", 0, words[1]);
+    expect("entry 2", 0, words[2]);
+    expect("entry 3", 0, words[3]);
+    expect("word after the table", 7, words[4]);
+    for (unsigned index = 0; index < (uint32_t)answer; index++)
+        printf("0 0 %u %016" PRIx64 "\n", index, words[index]);
+    printf("tables %" PRIu64 " entries %" PRIu64 "\n", answer >> 32,
+           answer & UINT32_MAX);
+
+    /* B1h's phy (expander 1 phy 1) to A1h (expander 0 phy 1). */
+    uint8_t passed[3] = { 9, 9, 9 };
+    answer = metzurgo_trace(pair_rig, sizeof pair_rig, words, 5, 1, 1, A1,
+                            passed, 3);
+    expect("trace", 0 * 65536 + 1 * 256 + 2, answer);
+    expect("first expander passed", 1, passed[0]);
+    expect("second expander passed", 0, passed[1]);
+    expect("byte after those passed", 9, passed[2]);
+    static const char *const outcomes[] = {
+        "arrived", "NO DESTINATION", "BAD DESTINATION",
+    };
+    if (answer >> 24 < 3) {
+        printf("%s at %u, phy %u, passed:", outcomes[answer >> 24],
+               (unsigned)(answer >> 16 & 0xff), (unsigned)(answer >> 8 & 0xff));
+        for (unsigned count = 0; count < (answer & 0xff) && count < 3; count++)
+            printf(" %u", passed[count]);
+        printf("\n");
+    }
+
+    /* The loading frame of entry 0, written and read back. */
+    uint8_t frame[41];
+    memset(frame, 9, sizeof frame);
+    expect("write_route", 40, metzurgo_write_route(frame, 41, 0, 0, words[0]));
+    expect("byte after the frame", 9, frame[40]);
+    expect("read_route", 0, metzurgo_read_route(frame, 40));
+    expect("read_route_entry", B1, metzurgo_read_route_entry(frame, 40));
+
+    /* Frames inside the file. */
+    expect("read_general", 4 * 65536 + 2 * 256 + 1,
+           metzurgo_read_general(pair_rig + 10, 28));
+    expect("read_discover", (UINT64_C(1) << 32) + (1 << 24),
+           metzurgo_read_discover(pair_rig + 90, 52));
+    expect("discover_own", UINT64_C(0x5000000000000010),
+           metzurgo_discover_own(pair_rig + 90, 52));
+    expect("discover_attached", A1,
+           metzurgo_discover_attached(pair_rig + 90, 52));
+
+    return failed;
+}

@@ -1,0 +1,261 @@
+//! Times of the archive's calls beside the fast version, in one process and on
+//! the same input.
+
+use std::hint::black_box;
+use std::time::{Duration, Instant};
+
+use crate::calls::{Archive, Calls};
+use crate::fast::Fast;
+use crate::layout::*;
+use crate::vectors;
+
+/// How long one call of one version is measured.
+const LONG_ENOUGH: Duration = Duration::from_millis(400);
+
+struct Case {
+    name: &'static str,
+    file: Vec<u8>,
+    start: (u8, u8),
+    address: u64,
+}
+
+const fn e(number: usize) -> u64 {
+    0x5000_0000_0000_0100 + number as u64
+}
+
+const fn d(expander: usize, phy: usize) -> u64 {
+    0x6000_0000_0000_0000 + 256 * expander as u64 + phy as u64
+}
+
+pub fn run() {
+    let cases = [
+        Case {
+            name: "pair rig",
+            file: vectors::pair_rig(),
+            start: (1, 1),
+            address: 0x5000_0000_0000_00a1,
+        },
+        Case {
+            name: "comb of 24 expanders",
+            file: comb(),
+            start: (23, 1),
+            address: d(1, 3),
+        },
+        Case {
+            name: "64 x 128, star",
+            file: star(DIRECT),
+            start: (1, 127),
+            address: d(63, 127),
+        },
+        Case {
+            name: "64 x 128, chain of 64-wide links",
+            file: chain(),
+            start: (0, 0),
+            address: d(63, 127),
+        },
+        Case {
+            name: "64 x 128, table phys to end devices",
+            file: star(TABLE),
+            start: (1, 127),
+            address: d(63, 127),
+        },
+    ];
+    println!(
+        "{:<36} {:<7} {:>14} {:>14} {:>8}",
+        "input", "call", "archive", "fast version", "ratio"
+    );
+    for case in &cases {
+        let mut words = vec![0; words_needed(case)];
+        let mut other = words.clone();
+        let mut passed = vec![0; 64];
+        let file = &case.file[..];
+
+        // Both must answer alike before they are timed.
+        let judged = agree(case, "judge", |calls| calls.judge(file));
+        let written = Archive.tables(file, &mut words);
+        if written != Fast.tables(file, &mut other) || words != other {
+            fail(case, "tables");
+        }
+        let (start, arrival) = case.start;
+        let traced = agree(case, "trace", |calls| {
+            calls.trace(file, &words, start, arrival, case.address, &mut [0; 64])
+        });
+        println!(
+            "{} ({} bytes, {} expanders, {} tables, {} words, trace over {} expanders)",
+            case.name,
+            file.len(),
+            judged,
+            written >> 32,
+            written & 0xffff_ffff,
+            traced & 0xff
+        );
+
+        let row = |call: &str, archive: Duration, fast: Duration| {
+            println!(
+                "{:<36} {:<7} {:>14} {:>14} {:>8.2}",
+                "",
+                call,
+                show(archive),
+                show(fast),
+                archive.as_secs_f64() / fast.as_secs_f64()
+            );
+        };
+        row(
+            "judge",
+            time(|| Archive.judge(black_box(file))),
+            time(|| Fast.judge(black_box(file))),
+        );
+        row(
+            "tables",
+            time(|| Archive.tables(black_box(file), &mut words)),
+            time(|| Fast.tables(black_box(file), &mut other)),
+        );
+        row(
+            "trace",
+            time(|| {
+                Archive.trace(
+                    black_box(file),
+                    &words,
+                    start,
+                    arrival,
+                    case.address,
+                    &mut passed,
+                )
+            }),
+            time(|| {
+                Fast.trace(
+                    black_box(file),
+                    &words,
+                    start,
+                    arrival,
+                    case.address,
+                    &mut passed,
+                )
+            }),
+        );
+    }
+    println!(
+        "The time is the shortest of all calls of each version within {LONG_ENOUGH:?}, at least 3."
+    );
+    println!("No buffer was cleared between calls; the table call writes all its words each time.");
+    println!("The fast version takes working memory from the allocator in each call.");
+}
+
+fn words_needed(case: &Case) -> usize {
+    let mut room = vec![0; 8_000_000];
+    let answer = Fast.tables(&case.file, &mut room);
+    if answer >> 63 == 1 {
+        fail(case, "tables");
+    }
+    (answer & 0xffff_ffff) as usize
+}
+
+fn agree(case: &Case, call: &str, answer: impl Fn(&dyn Calls) -> u64) -> u64 {
+    let (one, two) = (answer(&Archive), answer(&Fast));
+    if one != two || one >> 63 == 1 {
+        println!("archive {one:016x}h, fast version {two:016x}h");
+        fail(case, call);
+    }
+    one
+}
+
+fn fail(case: &Case, call: &str) -> ! {
+    println!(
+        "{}: the answers of {call} differ or are refusals",
+        case.name
+    );
+    std::process::exit(1);
+}
+
+/// The shortest time of one call.
+fn time(mut call: impl FnMut() -> u64) -> Duration {
+    let began = Instant::now();
+    let mut shortest = Duration::MAX;
+    let mut rounds = 0;
+    while rounds < 3 || began.elapsed() < LONG_ENOUGH {
+        let start = Instant::now();
+        black_box(call());
+        shortest = shortest.min(start.elapsed());
+        rounds += 1;
+    }
+    shortest
+}
+
+fn show(time: Duration) -> String {
+    let nanoseconds = time.as_nanos() as f64;
+    match nanoseconds {
+        n if n < 1e4 => format!("{n:.0} ns"),
+        n if n < 1e7 => format!("{:.1} us", n / 1e3),
+        n => format!("{:.1} ms", n / 1e6),
+    }
+}
+
+/// A spine of 12 expanders (even numbers), a tooth at each (odd numbers).
+fn comb() -> Vec<u8> {
+    let mut expanders = Vec::new();
+    for spine in 0..12 {
+        let (number, tooth) = (2 * spine, 2 * spine + 1);
+        let mut expander = Expander::new(e(number), 200, true);
+        expander = match spine {
+            0 => expander.empty(DIRECT),
+            _ => expander.link(SUBTRACTIVE, e(number - 2), 1),
+        };
+        expander = match spine {
+            11 => expander.empty(DIRECT),
+            _ => expander.link(TABLE, e(number + 2), 0),
+        };
+        expander = expander.link(TABLE, e(tooth), 0);
+        for phy in 3..8 {
+            expander = expander.drive(DIRECT, d(number, phy));
+        }
+        expanders.push(expander);
+        let mut expander = Expander::new(e(tooth), 0, false).link(SUBTRACTIVE, e(number), 2);
+        for phy in 1..8 {
+            expander = expander.drive(DIRECT, d(tooth, phy));
+        }
+        expanders.push(expander);
+    }
+    DomainFile::of(expanders).bytes()
+}
+
+/// A hub with 63 expanders; all other phys have this attribute and end devices.
+fn star(attribute: u8) -> Vec<u8> {
+    let mut hub = Expander::new(e(0), 127, true);
+    for leaf in 1..64 {
+        hub = hub.link(TABLE, e(leaf), 0);
+    }
+    for phy in 63..128 {
+        hub = hub.drive(attribute, d(0, phy));
+    }
+    let mut expanders = vec![hub];
+    for leaf in 1..64 {
+        let mut expander = Expander::new(e(leaf), 1, true).link(SUBTRACTIVE, e(0), leaf as u8 - 1);
+        for phy in 1..128 {
+            expander = expander.drive(attribute, d(leaf, phy));
+        }
+        expanders.push(expander);
+    }
+    DomainFile::of(expanders).bytes()
+}
+
+/// 64 expanders, each with 64 phys to the one before and 64 to the next.
+fn chain() -> Vec<u8> {
+    let mut expanders = Vec::new();
+    for i in 0..64 {
+        let mut expander = Expander::new(e(i), 126, i < 63);
+        for phy in 0..64 {
+            expander = match i {
+                0 => expander.drive(DIRECT, d(0, phy)),
+                _ => expander.link(SUBTRACTIVE, e(i - 1), phy as u8 + 64),
+            };
+        }
+        for phy in 64..128 {
+            expander = match i {
+                63 => expander.drive(DIRECT, d(63, phy)),
+                _ => expander.link(TABLE, e(i + 1), phy as u8 - 64),
+            };
+        }
+        expanders.push(expander);
+    }
+    DomainFile::of(expanders).bytes()
+}

@@ -1,0 +1,86 @@
+//! The calls of include/metzurgo.h, so that the archive, the reference and the
+//! fast version can stand in for each other.
+
+pub trait Calls: Sync {
+    fn name(&self) -> &'static str;
+    fn wire(&self, file: &[u8], words: &mut [u64]) -> u64;
+    fn judge(&self, file: &[u8]) -> u64;
+    fn tables(&self, file: &[u8], words: &mut [u64]) -> u64;
+    fn trace(
+        &self,
+        file: &[u8],
+        words: &[u64],
+        start: u8,
+        arrival: u8,
+        address: u64,
+        passed: &mut [u8],
+    ) -> u64;
+    fn write_route(&self, buf: &mut [u8], phy: u8, index: u16, entry: u64) -> u64;
+    fn read_route(&self, frame: &[u8]) -> u64;
+    fn read_route_entry(&self, frame: &[u8]) -> u64;
+    fn read_general(&self, frame: &[u8]) -> u64;
+    fn read_discover(&self, frame: &[u8]) -> u64;
+    fn discover_own(&self, frame: &[u8]) -> u64;
+    fn discover_attached(&self, frame: &[u8]) -> u64;
+}
+
+/// The archive, through the Rust binding.
+pub struct Archive;
+
+impl Calls for Archive {
+    fn name(&self) -> &'static str {
+        "archive"
+    }
+
+    fn wire(&self, file: &[u8], words: &mut [u64]) -> u64 {
+        metzurgo::raw::wire(file, words)
+    }
+
+    fn judge(&self, file: &[u8]) -> u64 {
+        metzurgo::raw::judge(file)
+    }
+
+    fn tables(&self, file: &[u8], words: &mut [u64]) -> u64 {
+        metzurgo::raw::tables(file, words)
+    }
+
+    fn trace(
+        &self,
+        file: &[u8],
+        words: &[u64],
+        start: u8,
+        arrival: u8,
+        address: u64,
+        passed: &mut [u8],
+    ) -> u64 {
+        metzurgo::raw::trace(file, words, start, arrival, address, passed)
+    }
+
+    fn write_route(&self, buf: &mut [u8], phy: u8, index: u16, entry: u64) -> u64 {
+        metzurgo::raw::write_route(buf, phy, index, entry)
+    }
+
+    fn read_route(&self, frame: &[u8]) -> u64 {
+        metzurgo::raw::read_route(frame)
+    }
+
+    fn read_route_entry(&self, frame: &[u8]) -> u64 {
+        metzurgo::raw::read_route_entry(frame)
+    }
+
+    fn read_general(&self, frame: &[u8]) -> u64 {
+        metzurgo::raw::read_general(frame)
+    }
+
+    fn read_discover(&self, frame: &[u8]) -> u64 {
+        metzurgo::raw::read_discover(frame)
+    }
+
+    fn discover_own(&self, frame: &[u8]) -> u64 {
+        metzurgo::raw::discover_own(frame)
+    }
+
+    fn discover_attached(&self, frame: &[u8]) -> u64 {
+        metzurgo::raw::discover_attached(frame)
+    }
+}

@@ -1,0 +1,706 @@
+//! Compares one implementation of the calls with the reference on one file and
+//! on frames, with every byte and word of every lent buffer.
+
+use std::fmt::{Debug, Write};
+
+use crate::calls::Calls;
+use crate::generate;
+use crate::random::Random;
+use crate::reference::{self, Attached, Discover, General, Judged, Outcome, Refusal, Route};
+
+/// Bytes or words kept before and behind each lent buffer.
+const EDGE: usize = 16;
+
+/// Tables longer than this many words are not written out.
+const MOST_WORDS: usize = 3_000_000;
+
+pub struct Difference {
+    pub what: String,
+    pub expected: String,
+    pub got: String,
+}
+
+/// What a run reached.
+#[derive(Clone, Default)]
+pub struct Counts {
+    pub calls: u64,
+    /// Refusals by number, in all calls.
+    pub refusals: [u64; 18],
+    /// Files that the judging call refuses, by number.
+    pub refused_files: [u64; 18],
+    pub accepted_files: u64,
+    pub wired_files: u64,
+    pub frames: u64,
+    pub outcomes: [u64; 3],
+    pub longest_trace: u64,
+    pub largest_file: u64,
+}
+
+impl Counts {
+    pub fn add(&mut self, other: &Counts) {
+        self.calls += other.calls;
+        self.accepted_files += other.accepted_files;
+        self.wired_files += other.wired_files;
+        self.frames += other.frames;
+        for (sum, more) in self.refusals.iter_mut().zip(other.refusals) {
+            *sum += more;
+        }
+        for (sum, more) in self.refused_files.iter_mut().zip(other.refused_files) {
+            *sum += more;
+        }
+        for (sum, more) in self.outcomes.iter_mut().zip(other.outcomes) {
+            *sum += more;
+        }
+        self.longest_trace = self.longest_trace.max(other.longest_trace);
+        self.largest_file = self.largest_file.max(other.largest_file);
+    }
+
+    fn answer(&mut self, answer: u64) {
+        self.calls += 1;
+        if answer >> 63 == 1 {
+            self.refusals[(answer >> 16 & 0xff) as usize] += 1;
+        }
+    }
+}
+
+/// An answer in words.
+pub fn describe(answer: u64) -> String {
+    if answer >> 63 == 1 {
+        format!(
+            "{answer:016x}h (refused {} {} {})",
+            answer >> 16 & 0xffff_ffff,
+            answer >> 8 & 0xff,
+            answer & 0xff
+        )
+    } else {
+        format!("{answer:016x}h")
+    }
+}
+
+/// A buffer to lend, with known content in it and on both sides of it.
+pub struct Lent<T> {
+    all: Vec<T>,
+    length: usize,
+}
+
+impl<T: Copy + PartialEq + Debug> Lent<T> {
+    pub fn new(length: usize, fill: impl FnMut() -> T) -> Lent<T> {
+        let mut fill = fill;
+        Lent {
+            all: (0..length + 2 * EDGE).map(|_| fill()).collect(),
+            length,
+        }
+    }
+
+    pub fn part(&mut self) -> &mut [T] {
+        &mut self.all[EDGE..EDGE + self.length]
+    }
+
+    /// Everything as it should be after `written` went into the first places.
+    pub fn after(&self, written: &[T]) -> Vec<T> {
+        let mut all = self.all.clone();
+        all[EDGE..EDGE + written.len()].copy_from_slice(written);
+        all
+    }
+
+    pub fn check(&self, what: impl FnOnce() -> String, expected: &[T]) -> Result<(), Difference> {
+        match self.all.iter().zip(expected).position(|(a, b)| a != b) {
+            None => Ok(()),
+            Some(place) => Err(Difference {
+                what: format!(
+                    "{}: buffer of length {}, place {}",
+                    what(),
+                    self.length,
+                    place as i64 - EDGE as i64
+                ),
+                expected: format!("{:x?}", expected[place]),
+                got: format!("{:x?}", self.all[place]),
+            }),
+        }
+    }
+}
+
+pub fn same(what: impl FnOnce() -> String, expected: u64, got: u64) -> Result<(), Difference> {
+    if expected == got {
+        return Ok(());
+    }
+    Err(Difference {
+        what: what(),
+        expected: describe(expected),
+        got: describe(got),
+    })
+}
+
+/// All calls that take a file.
+pub fn check_file(
+    subject: &dyn Calls,
+    file: &[u8],
+    random: &mut Random,
+    counts: &mut Counts,
+) -> Result<(), Difference> {
+    let lent_file = file.to_vec();
+    let check = Check {
+        subject,
+        file: &lent_file,
+    };
+    counts.largest_file = counts.largest_file.max(file.len() as u64);
+
+    let wired = reference::wired(file);
+    check.wire(&wired, random, counts)?;
+    let judged = wired.and_then(|domain| domain.judge());
+    check.judge(&judged, counts)?;
+    match &judged {
+        Err(refusal) => check.refused(*refusal, random, counts)?,
+        Ok(judged) => {
+            check.tables(judged, random, counts)?;
+            check.traces(judged, random, counts)?;
+        }
+    }
+    match lent_file.iter().zip(file).position(|(a, b)| a != b) {
+        None => Ok(()),
+        Some(place) => Err(Difference {
+            what: format!("the file was written to at byte {place}"),
+            expected: format!("{:02x}", file[place]),
+            got: format!("{:02x}", lent_file[place]),
+        }),
+    }
+}
+
+struct Check<'a> {
+    subject: &'a dyn Calls,
+    file: &'a [u8],
+}
+
+impl Check<'_> {
+    fn wire(
+        &self,
+        wired: &Result<reference::Domain, Refusal>,
+        random: &mut Random,
+        counts: &mut Counts,
+    ) -> Result<(), Difference> {
+        let (neighbours, bits) = match wired {
+            Ok(domain) => domain.neighbour_words(),
+            Err(_) => (Vec::new(), 0),
+        };
+        counts.wired_files += wired.is_ok() as u64;
+        let needed = neighbours.len();
+        let lengths = match wired {
+            Ok(_) => vec![
+                0,
+                needed - 1,
+                needed,
+                needed + 1,
+                random.between(needed, 70),
+            ],
+            Err(_) => vec![random.below(70)],
+        };
+        for length in lengths {
+            let mut words = Lent::new(length, || random.next());
+            let (expected, after) = match wired {
+                Err(refusal) => (refusal.answer(), words.after(&[])),
+                Ok(_) if length < needed => (refused(16), words.after(&[])),
+                Ok(_) => (bits, words.after(&neighbours)),
+            };
+            let got = self.subject.wire(self.file, words.part());
+            counts.answer(expected);
+            same(|| format!("wire, {length} words"), expected, got)?;
+            words.check(|| "wire".into(), &after)?;
+        }
+        Ok(())
+    }
+
+    fn judge(
+        &self,
+        judged: &Result<Judged, Refusal>,
+        counts: &mut Counts,
+    ) -> Result<(), Difference> {
+        let expected = match judged {
+            Ok(judged) => judged.expanders() as u64,
+            Err(refusal) => refusal.answer(),
+        };
+        match judged {
+            Ok(_) => counts.accepted_files += 1,
+            Err(refusal) => counts.refused_files[usize::from(refusal.number)] += 1,
+        }
+        counts.answer(expected);
+        same(|| "judge".into(), expected, self.subject.judge(self.file))
+    }
+
+    /// The table and trace calls on a file that is refused.
+    fn refused(
+        &self,
+        refusal: Refusal,
+        random: &mut Random,
+        counts: &mut Counts,
+    ) -> Result<(), Difference> {
+        let length = random.pick(&[0, 1, 5, 40, 300]);
+        let mut words = Lent::new(length, || random.next());
+        let after = words.after(&[]);
+        let expected = refusal.answer();
+        let got = self.subject.tables(self.file, words.part());
+        counts.answer(expected);
+        same(|| format!("tables, {length} words"), expected, got)?;
+        words.check(|| "tables".into(), &after)?;
+
+        let start = random.pick(&[0, 0, 1, 63, 64, 255]);
+        let arrival = random.pick(&[255, 255, 0, 1, 127, 128]);
+        let address = (random.below(3) as u64).wrapping_mul(random.next());
+        let mut passed = Lent::new(random.pick(&[0, 1, 3, 64, 70]), || random.byte());
+        let kept = passed.after(&[]);
+        let got = self.subject.trace(
+            self.file,
+            words.part(),
+            start,
+            arrival,
+            address,
+            passed.part(),
+        );
+        counts.answer(expected);
+        same(
+            || format!("trace, {length} words, start {start}, arrival {arrival}, {address:016x}h"),
+            expected,
+            got,
+        )?;
+        words.check(|| "trace, words".into(), &after)?;
+        passed.check(|| "trace, passed".into(), &kept)
+    }
+
+    fn tables(
+        &self,
+        judged: &Judged,
+        random: &mut Random,
+        counts: &mut Counts,
+    ) -> Result<(), Difference> {
+        let needed = judged.needed;
+        let mut lengths = Vec::new();
+        if needed > 0 {
+            lengths.push((needed - 1).min(MOST_WORDS));
+            lengths.push(0);
+        }
+        if needed <= MOST_WORDS {
+            lengths.push(needed);
+            lengths.push(needed + random.between(1, 20));
+        }
+        let words = match needed <= MOST_WORDS {
+            true => judged.table_words(),
+            false => Vec::new(),
+        };
+        for length in lengths {
+            let mut lent = Lent::new(length, || random.next());
+            let (expected, after) = match length < needed {
+                true => (refused(16), lent.after(&[])),
+                false => (judged.table_answer(), lent.after(&words)),
+            };
+            let got = self.subject.tables(self.file, lent.part());
+            counts.answer(expected);
+            same(|| format!("tables, {length} words"), expected, got)?;
+            lent.check(|| "tables".into(), &after)?;
+        }
+        Ok(())
+    }
+
+    fn traces(
+        &self,
+        judged: &Judged,
+        random: &mut Random,
+        counts: &mut Counts,
+    ) -> Result<(), Difference> {
+        let requests = Requests::of(judged, random);
+        let budget = (150_000 / self.file.len()).clamp(4, 100);
+        if judged.needed > MOST_WORDS {
+            let words = Lent::new(10, || random.next());
+            return self.wild(judged, &requests, words, 12, random, counts);
+        }
+        let more = random.pick(&[0, 0, 1, 7]);
+        let given = judged.table_words();
+
+        let mut words = Lent::new(judged.needed + more, || requests.word(random));
+        words.part()[..judged.needed].copy_from_slice(&given);
+        self.sample(judged, &requests, &mut words, budget, true, random, counts)?;
+
+        // Some entries changed.
+        for word in words.part() {
+            if random.chance(1, 6) {
+                *word = requests.word(random);
+            }
+        }
+        self.sample(
+            judged,
+            &requests,
+            &mut words,
+            budget / 4 + 2,
+            false,
+            random,
+            counts,
+        )?;
+
+        // Other words altogether.
+        for word in words.part() {
+            *word = requests.word(random);
+        }
+        self.sample(
+            judged,
+            &requests,
+            &mut words,
+            budget / 2 + 2,
+            false,
+            random,
+            counts,
+        )?;
+
+        self.wild(judged, &requests, words, 12, random, counts)
+    }
+
+    /// Requests over given words: all of them, or a sample.
+    #[allow(clippy::too_many_arguments)]
+    fn sample(
+        &self,
+        judged: &Judged,
+        requests: &Requests,
+        words: &mut Lent<u64>,
+        budget: usize,
+        given: bool,
+        random: &mut Random,
+        counts: &mut Counts,
+    ) -> Result<(), Difference> {
+        let kept = words.after(&[]);
+        let routes = judged.routes(words.part());
+        let (starts, addresses) = (requests.starts.len(), requests.addresses.len());
+        let all = starts * addresses;
+        for round in 0..all.min(budget) {
+            let choice = if all <= budget {
+                round
+            } else {
+                random.below(all)
+            };
+            let (start, arrival) = requests.starts[choice % starts];
+            let address = requests.addresses[choice / starts];
+            let trace = judged.trace(&routes, start, arrival, address);
+            if given {
+                requests.check_given(judged, start, arrival, address, &trace)?;
+            }
+            let room = judged.expanders() + random.pick(&[0, 0, 1, 9]);
+            let mut passed = Lent::new(room, || random.byte());
+            let after = passed.after(&trace.passed);
+            let expected = trace.answer();
+            let got = self.subject.trace(
+                self.file,
+                words.part(),
+                start,
+                arrival,
+                address,
+                passed.part(),
+            );
+            counts.answer(expected);
+            counts.outcomes[match trace.outcome {
+                Outcome::Arrived => 0,
+                Outcome::NoDestination => 1,
+                Outcome::BadDestination => 2,
+            }] += 1;
+            counts.longest_trace = counts.longest_trace.max(trace.passed.len() as u64);
+            let what = || {
+                format!(
+                    "trace over {}, start {start}, arrival {arrival}, {address:016x}h",
+                    if given {
+                        "the tables given".into()
+                    } else {
+                        list(&kept[EDGE..kept.len() - EDGE])
+                    },
+                )
+            };
+            same(what, expected, got)?;
+            passed.check(what, &after)?;
+        }
+        words.check(|| "trace, words".into(), &kept)
+    }
+
+    /// Traces with starts, arrivals, addresses and lengths in and out of range.
+    fn wild(
+        &self,
+        judged: &Judged,
+        requests: &Requests,
+        mut words: Lent<u64>,
+        rounds: usize,
+        random: &mut Random,
+        counts: &mut Counts,
+    ) -> Result<(), Difference> {
+        let kept = words.after(&[]);
+        let expanders = judged.expanders();
+        for _ in 0..rounds {
+            let start = match random.below(6) {
+                0 => random.byte(),
+                1 => expanders as u8,
+                _ => random.below(expanders) as u8,
+            };
+            let arrival = match random.below(5) {
+                0 => 255,
+                1 => random.pick(&requests.starts).1,
+                2 => random.byte(),
+                _ => match judged.domain.expanders.get(&start) {
+                    Some(expander) => {
+                        let last = expander.phys.keys().last().copied().unwrap_or(0);
+                        random.between(0, usize::from(last) + 1) as u8
+                    }
+                    None => random.pick(&[255, 0, 1]),
+                },
+            };
+            let address = match random.chance(1, 4) {
+                true => 0,
+                false => random.pick(&requests.addresses),
+            };
+            let room = match random.below(4) {
+                0 => random.below(expanders),
+                1 => expanders - 1,
+                _ => expanders + random.below(3),
+            };
+            let length = match random.below(4) {
+                0 => judged.needed.saturating_sub(1).min(words.part().len()),
+                1 => 0,
+                _ => words.part().len(),
+            };
+            let mut passed = Lent::new(room, || random.byte());
+            let outcome = judged
+                .test_request(length, start, arrival, address, room)
+                .map(|()| {
+                    let routes = judged.routes(&words.part()[..length]);
+                    judged.trace(&routes, start, arrival, address)
+                });
+            let (expected, after) = match &outcome {
+                Ok(trace) => (trace.answer(), passed.after(&trace.passed)),
+                Err(refusal) => (refusal.answer(), passed.after(&[])),
+            };
+            let got = self.subject.trace(
+                self.file,
+                &words.part()[..length],
+                start,
+                arrival,
+                address,
+                passed.part(),
+            );
+            counts.answer(expected);
+            let what = || {
+                format!(
+                    "trace over {}, {room} bytes, start {start}, arrival {arrival}, {address:016x}h",
+                    list(&kept[EDGE..EDGE + length])
+                )
+            };
+            same(what, expected, got)?;
+            passed.check(what, &after)?;
+        }
+        words.check(|| "trace, words".into(), &kept)
+    }
+}
+
+fn refused(number: u8) -> u64 {
+    Refusal {
+        number,
+        expander: 0,
+        phy: 0,
+    }
+    .answer()
+}
+
+/// Words in hexadecimal, cut where there are many.
+fn list(words: &[u64]) -> String {
+    let mut text = format!("{} words", words.len());
+    for (place, word) in words.iter().take(600).enumerate() {
+        let _ = write!(text, "{} {word:016x}", if place == 0 { ":" } else { "" });
+    }
+    text
+}
+
+/// Starts and addresses for the traces of one domain.
+struct Requests {
+    /// Start expander and arrival phy.
+    starts: Vec<(u8, u8)>,
+    /// Addresses of the domain first, then some that nobody bears.
+    addresses: Vec<u64>,
+    borne: usize,
+}
+
+impl Requests {
+    fn of(judged: &Judged, random: &mut Random) -> Requests {
+        let mut starts = Vec::new();
+        let mut addresses = Vec::new();
+        let mut drives = std::collections::BTreeSet::new();
+        for (&number, expander) in &judged.domain.expanders {
+            starts.push((number, 255));
+            addresses.push(expander.address);
+            for (&phy, fields) in &expander.phys {
+                if let Attached::EndDevice(address) = fields.attached {
+                    starts.push((number, phy));
+                    drives.insert(address);
+                }
+            }
+        }
+        addresses.extend(drives);
+        let borne = addresses.len();
+        let near = random.pick(&addresses);
+        for address in [
+            random.next(),
+            near ^ 1,
+            near ^ 1 << random.below(64),
+            u64::MAX,
+            1,
+        ] {
+            if address != 0 && !addresses.contains(&address) {
+                addresses.push(address);
+            }
+        }
+        Requests {
+            starts,
+            addresses,
+            borne,
+        }
+    }
+
+    /// A word for a table that need not be right.
+    fn word(&self, random: &mut Random) -> u64 {
+        match random.below(10) {
+            0..=2 => 0,
+            3 => random.next(),
+            _ => random.pick(&self.addresses),
+        }
+    }
+
+    /// Over the tables given a request to a device of the domain arrives there,
+    /// but for an end device that asks for itself; no other request arrives.
+    fn check_given(
+        &self,
+        judged: &Judged,
+        start: u8,
+        arrival: u8,
+        address: u64,
+        trace: &reference::Trace,
+    ) -> Result<(), Difference> {
+        let source = judged.domain.expanders[&start]
+            .phys
+            .get(&arrival)
+            .and_then(|phy| phy.attached_address());
+        let expected = if source == Some(address) {
+            Outcome::BadDestination
+        } else if self.addresses[..self.borne].contains(&address) {
+            Outcome::Arrived
+        } else {
+            Outcome::NoDestination
+        };
+        if trace.outcome == expected {
+            return Ok(());
+        }
+        Err(Difference {
+            what: format!(
+                "the reference over the tables given, start {start}, arrival {arrival}, {address:016x}h"
+            ),
+            expected: format!("{expected:?}"),
+            got: format!("{trace:?}"),
+        })
+    }
+}
+
+/// The calls that read or write one frame.
+pub fn check_frame(
+    subject: &dyn Calls,
+    random: &mut Random,
+    counts: &mut Counts,
+) -> Result<(), Difference> {
+    counts.frames += 1;
+    let frame = generate::frame(random);
+    let read = frame.clone();
+    let what = |call: &str| format!("{call} of {}", hex(&frame));
+    let own = Discover::addresses(&frame);
+    let route = Route::read(&frame);
+    let checks = [
+        (
+            "read_general",
+            General::answer(&frame),
+            subject.read_general(&read),
+        ),
+        (
+            "read_discover",
+            Discover::answer(&frame),
+            subject.read_discover(&read),
+        ),
+        ("discover_own", own.0, subject.discover_own(&read)),
+        ("discover_attached", own.1, subject.discover_attached(&read)),
+        (
+            "read_route",
+            match route {
+                Ok(route) => u64::from(route.phy) * 65536 + u64::from(route.index),
+                Err(refusal) => refusal.answer(),
+            },
+            subject.read_route(&read),
+        ),
+        (
+            "read_route_entry",
+            route.map_or(0, |route| route.entry),
+            subject.read_route_entry(&read),
+        ),
+    ];
+    for (call, expected, got) in checks {
+        if !call.starts_with("discover") && call != "read_route_entry" {
+            counts.answer(expected);
+        }
+        same(|| what(call), expected, got)?;
+    }
+    if read != frame {
+        return Err(Difference {
+            what: what("a frame was written to by a read call"),
+            expected: hex(&frame),
+            got: hex(&read),
+        });
+    }
+
+    let route = Route {
+        phy: match random.below(4) {
+            0 => random.pick(&[0, 1, 127, 128, 255]),
+            1 => random.byte(),
+            _ => random.below(128) as u8,
+        },
+        index: random.next() as u16,
+        entry: match random.below(4) {
+            0 => 0,
+            1 => 1 << random.below(64),
+            _ => random.next(),
+        },
+    };
+    let length = match random.below(5) {
+        0 => random.below(40),
+        1 => 39,
+        2 => 40,
+        _ => random.between(40, 90),
+    };
+    let mut buf = Lent::new(length, || random.byte());
+    let (expected, after) = match route.write(length) {
+        Ok(written) => (40, buf.after(&written)),
+        Err(refusal) => (refusal.answer(), buf.after(&[])),
+    };
+    let got = subject.write_route(buf.part(), route.phy, route.index, route.entry);
+    counts.answer(expected);
+    let what = || format!("write_route of {route:x?}, {length} bytes");
+    same(what, expected, got)?;
+    buf.check(what, &after)?;
+    if expected == 40 {
+        // What was written reads back.
+        let frame = &buf.part()[..40];
+        let read = u64::from(route.phy) * 65536 + u64::from(route.index);
+        same(
+            || "read_route of a written frame".into(),
+            read,
+            subject.read_route(frame),
+        )?;
+        same(
+            || "read_route_entry of a written frame".into(),
+            route.entry,
+            subject.read_route_entry(frame),
+        )?;
+    }
+    Ok(())
+}
+
+pub fn hex(bytes: &[u8]) -> String {
+    let mut text = String::with_capacity(bytes.len() * 2);
+    for byte in bytes {
+        let _ = write!(text, "{byte:02x}");
+    }
+    text
+}

@@ -1,0 +1,646 @@
+//! A straightforward fast version of the calls: arrays, no hash maps, nothing
+//! proved. The benchmark runs it beside the archive.
+
+use crate::calls::Calls;
+
+const VACANT: u8 = 0;
+const EMPTY: u8 = 1;
+const END_DEVICE: u8 = 2;
+const EXPANDER: u8 = 3;
+
+const DIRECT: u8 = 0;
+const SUBTRACTIVE: u8 = 1;
+const TABLE: u8 = 2;
+
+fn refusal(number: u64, expander: usize, phy: usize) -> u64 {
+    1 << 63 | number << 16 | (expander as u64) << 8 | phy as u64
+}
+
+fn be64(bytes: &[u8], at: usize) -> u64 {
+    u64::from_be_bytes(bytes[at..at + 8].try_into().unwrap())
+}
+
+#[derive(Clone, Copy)]
+struct Phy {
+    attached: u64,
+    /// Number of the attached device; devices below `count` are expanders.
+    device: u32,
+    kind: u8,
+    attribute: u8,
+    attached_phy: u8,
+    expander: u8,
+}
+
+impl Phy {
+    fn is_attached(&self) -> bool {
+        self.kind >= END_DEVICE
+    }
+}
+
+struct Domain {
+    count: usize,
+    /// The phys of expander i are first[i]..first[i + 1].
+    first: [usize; 65],
+    address: [u64; 64],
+    route_indexes: [usize; 64],
+    configurable: [bool; 64],
+    phys: Vec<Phy>,
+    devices: usize,
+    neighbours: [u64; 64],
+}
+
+impl Domain {
+    fn place(&self, index: usize) -> (usize, usize) {
+        let expander = self.phys[index].expander as usize;
+        (expander, index - self.first[expander])
+    }
+
+    fn refuse(&self, number: u64, index: usize) -> u64 {
+        let (expander, phy) = self.place(index);
+        refusal(number, expander, phy)
+    }
+
+    fn of(&self, expander: usize) -> &[Phy] {
+        &self.phys[self.first[expander]..self.first[expander + 1]]
+    }
+
+    /// The far phy of a phy attached to an expander, once cause 7 is passed.
+    fn far(&self, phy: &Phy) -> usize {
+        self.first[phy.device as usize] + phy.attached_phy as usize
+    }
+
+    /// Causes 1 to 6.
+    fn read(file: &[u8]) -> Result<Domain, u64> {
+        if file.len() < 2 {
+            return Err(refusal(1, 0, 0));
+        }
+        if file[0] != 0x10 {
+            return Err(refusal(2, 0, 0));
+        }
+        let count = file[1] as usize;
+        if count == 0 || count > 64 {
+            return Err(refusal(3, 0, 0));
+        }
+        let mut domain = Domain {
+            count,
+            first: [0; 65],
+            address: [0; 64],
+            route_indexes: [0; 64],
+            configurable: [false; 64],
+            phys: Vec::with_capacity(file.len() / 52),
+            devices: 0,
+            neighbours: [0; 64],
+        };
+        let mut at = 2;
+        for i in 0..count {
+            if file.len() - at < 36 {
+                return Err(refusal(1, i, 0));
+            }
+            let unit = &file[at..at + 36];
+            if unit[8..12] != [0x41, 0, 0, 0] {
+                return Err(refusal(2, i, 0));
+            }
+            let phys = unit[17] as usize;
+            if phys == 0 || phys > 128 {
+                return Err(refusal(3, i, 0));
+            }
+            let address = be64(unit, 0);
+            if address == 0 || domain.address[..i].contains(&address) {
+                return Err(refusal(4, i, 0));
+            }
+            domain.address[i] = address;
+            domain.route_indexes[i] = (unit[14] as usize) << 8 | unit[15] as usize;
+            domain.configurable[i] = unit[18] & 1 == 1;
+            domain.first[i] = domain.phys.len();
+            at += 36;
+            for p in 0..phys {
+                if file.len() - at < 52 {
+                    return Err(refusal(1, i, p));
+                }
+                let unit = &file[at..at + 52];
+                if unit[0] != 0x41 || unit[1] != 0x10 || unit[3] != 0 {
+                    return Err(refusal(2, i, p));
+                }
+                let mut phy = Phy {
+                    attached: 0,
+                    device: 0,
+                    kind: VACANT,
+                    attribute: 0,
+                    attached_phy: 0,
+                    expander: i as u8,
+                };
+                if unit[2] == 0 {
+                    if unit[9] as usize != p || be64(unit, 16) != address {
+                        return Err(refusal(5, i, p));
+                    }
+                    let device_type = unit[12] >> 4 & 7;
+                    phy.attribute = unit[44] & 15;
+                    phy.attached = be64(unit, 24);
+                    phy.attached_phy = unit[32];
+                    if device_type > 3
+                        || phy.attribute > 2
+                        || (device_type != 0 && phy.attached == 0)
+                    {
+                        return Err(refusal(6, i, p));
+                    }
+                    phy.kind = match device_type {
+                        0 => EMPTY,
+                        1 => END_DEVICE,
+                        _ => EXPANDER,
+                    };
+                }
+                domain.phys.push(phy);
+                at += 52;
+            }
+        }
+        domain.first[count] = domain.phys.len();
+        if at != file.len() {
+            return Err(refusal(1, count, 0));
+        }
+        Ok(domain)
+    }
+
+    /// Causes 7 to 10; numbers the devices and fills the neighbour words.
+    fn wire(file: &[u8]) -> Result<Domain, u64> {
+        let mut domain = Domain::read(file)?;
+        let count = domain.count;
+
+        let mut by_address = [(0u64, 0u32); 64];
+        for (i, entry) in by_address[..count].iter_mut().enumerate() {
+            *entry = (domain.address[i], i as u32);
+        }
+        by_address[..count].sort_unstable();
+        let find = |address: u64| {
+            by_address[..count]
+                .binary_search_by_key(&address, |entry| entry.0)
+                .ok()
+                .map(|place| by_address[place].1)
+        };
+
+        // 7
+        for index in 0..domain.phys.len() {
+            let phy = domain.phys[index];
+            if phy.kind != EXPANDER {
+                continue;
+            }
+            let (expander, number) = domain.place(index);
+            let named_back = match find(phy.attached) {
+                Some(far) => {
+                    domain.phys[index].device = far;
+                    let far_phys = domain.of(far as usize);
+                    let far_phy = phy.attached_phy as usize;
+                    far_phy < far_phys.len()
+                        && far_phys[far_phy].kind == EXPANDER
+                        && far_phys[far_phy].attached == domain.address[expander]
+                        && far_phys[far_phy].attached_phy as usize == number
+                }
+                None => false,
+            };
+            if phy.attribute == DIRECT || !named_back {
+                return Err(refusal(7, expander, number));
+            }
+            domain.neighbours[expander] |= 1 << domain.phys[index].device;
+        }
+
+        // 8, and device numbers for the end devices
+        let mut drives: Vec<(u64, u32)> = Vec::new();
+        for (index, phy) in domain.phys.iter().enumerate() {
+            if phy.kind == END_DEVICE {
+                drives.push((phy.attached, index as u32));
+            }
+        }
+        drives.sort_unstable();
+        let mut lowest = usize::MAX;
+        let mut device = count;
+        let mut at = 0;
+        while at < drives.len() {
+            let (address, head) = drives[at];
+            let expander = domain.phys[head as usize].expander;
+            if find(address).is_some() {
+                lowest = lowest.min(head as usize);
+            }
+            while at < drives.len() && drives[at].0 == address {
+                let index = drives[at].1 as usize;
+                if domain.phys[index].expander != expander {
+                    lowest = lowest.min(index);
+                }
+                domain.phys[index].device = device as u32;
+                at += 1;
+            }
+            device += 1;
+        }
+        domain.devices = device;
+        if lowest != usize::MAX {
+            return Err(domain.refuse(8, lowest));
+        }
+
+        // 9
+        let mut seen = vec![(u8::MAX, 0u8); device];
+        for expander in 0..count {
+            let mut subtractive = None;
+            for (number, phy) in domain.of(expander).iter().enumerate() {
+                if !phy.is_attached() {
+                    continue;
+                }
+                let seen = &mut seen[phy.device as usize];
+                if seen.0 == expander as u8 {
+                    if seen.1 != phy.attribute {
+                        return Err(refusal(9, expander, number));
+                    }
+                } else {
+                    *seen = (expander as u8, phy.attribute);
+                }
+                if phy.attribute == SUBTRACTIVE {
+                    if subtractive.is_some_and(|device| device != phy.device) {
+                        return Err(refusal(9, expander, number));
+                    }
+                    subtractive = Some(phy.device);
+                }
+            }
+        }
+
+        // 10
+        for (index, phy) in domain.phys.iter().enumerate() {
+            if phy.kind != VACANT
+                && phy.attribute == TABLE
+                && !domain.configurable[phy.expander as usize]
+            {
+                return Err(domain.refuse(10, index));
+            }
+        }
+        Ok(domain)
+    }
+
+    /// Causes 11 to 14. Each level list is handed to `take` with the numbers of
+    /// its expander and of the expander attached.
+    fn judge(file: &[u8], mut take: impl FnMut(usize, usize, &[u64])) -> Result<Domain, u64> {
+        let domain = Domain::wire(file)?;
+        let count = domain.count;
+
+        // 11: more links than a forest has
+        let mut left: u64 = if count == 64 { !0 } else { (1 << count) - 1 };
+        let mut reached_from_0 = 0;
+        let mut links = 0;
+        for i in 0..count {
+            if domain.neighbours[i] >> i & 1 == 1 {
+                return Err(refusal(11, 0, 0));
+            }
+            links += domain.neighbours[i].count_ones();
+        }
+        let mut components = 0;
+        while left != 0 {
+            let mut reached = left & left.wrapping_neg();
+            let mut edge = reached;
+            while edge != 0 {
+                let i = edge.trailing_zeros() as usize;
+                edge &= edge - 1;
+                let new = domain.neighbours[i] & !reached;
+                reached |= new;
+                edge |= new;
+            }
+            if components == 0 {
+                reached_from_0 = reached;
+            }
+            left &= !reached;
+            components += 1;
+        }
+        if links as usize / 2 > count - components {
+            return Err(refusal(11, 0, 0));
+        }
+        // 12
+        let cut_off = (!reached_from_0).trailing_zeros() as usize;
+        if cut_off < count {
+            return Err(refusal(12, cut_off, 0));
+        }
+        // 13
+        for (index, phy) in domain.phys.iter().enumerate() {
+            if phy.kind == EXPANDER
+                && phy.attribute == TABLE
+                && domain.phys[domain.far(phy)].attribute == TABLE
+            {
+                return Err(domain.refuse(13, index));
+            }
+        }
+        // 14
+        let mut stamps = vec![0u32; domain.devices];
+        let mut stamp = 0;
+        let mut list = Vec::new();
+        for x in 0..count {
+            let mut done = 0u64;
+            for (number, phy) in domain.of(x).iter().enumerate() {
+                if phy.kind != EXPANDER || phy.attribute != TABLE || done >> phy.device & 1 == 1 {
+                    continue;
+                }
+                done |= 1 << phy.device;
+                stamp += 1;
+                domain.level_list(x, phy.device as usize, &mut stamps, stamp, &mut list);
+                if list.len() > domain.route_indexes[x] {
+                    return Err(refusal(14, x, number));
+                }
+                take(x, phy.device as usize, &list);
+            }
+        }
+        Ok(domain)
+    }
+
+    fn level_list(&self, x: usize, n: usize, stamps: &mut [u32], stamp: u32, list: &mut Vec<u64>) {
+        list.clear();
+        stamps[x] = stamp;
+        for phy in self.of(x) {
+            if phy.is_attached() {
+                stamps[phy.device as usize] = stamp;
+            }
+        }
+        // The expanders of all levels in order, each with the one before it.
+        let mut order = [(0u8, 0u8); 64];
+        order[0] = (n as u8, x as u8);
+        let mut end = 1;
+        let mut at = 0;
+        while at < end {
+            let (expander, from) = order[at];
+            at += 1;
+            let mut next = 0u64;
+            for phy in self.of(expander as usize) {
+                match (phy.kind, phy.attribute) {
+                    (VACANT, _) => {}
+                    (EMPTY, DIRECT) => list.push(0),
+                    (EMPTY, _) => {}
+                    (_, DIRECT) => {
+                        list.push(phy.attached);
+                        stamps[phy.device as usize] = stamp;
+                    }
+                    _ => {
+                        if stamps[phy.device as usize] != stamp {
+                            stamps[phy.device as usize] = stamp;
+                            list.push(phy.attached);
+                        }
+                        if phy.kind == EXPANDER
+                            && phy.attribute == TABLE
+                            && phy.device != u32::from(from)
+                            && next >> phy.device & 1 == 0
+                        {
+                            next |= 1 << phy.device;
+                            order[end] = (phy.device as u8, expander);
+                            end += 1;
+                        }
+                    }
+                }
+            }
+        }
+    }
+
+    fn tables(&self) -> (usize, usize) {
+        let mut tables = 0;
+        let mut words = 0;
+        for phy in &self.phys {
+            if phy.kind != VACANT && phy.attribute == TABLE {
+                tables += 1;
+                words += self.route_indexes[phy.expander as usize];
+            }
+        }
+        (tables, words)
+    }
+}
+
+pub struct Fast;
+
+impl Calls for Fast {
+    fn name(&self) -> &'static str {
+        "fast version"
+    }
+
+    fn wire(&self, file: &[u8], words: &mut [u64]) -> u64 {
+        match Domain::wire(file) {
+            Err(refused) => refused,
+            Ok(domain) if words.len() < domain.count => refusal(16, 0, 0),
+            Ok(domain) => {
+                words[..domain.count].copy_from_slice(&domain.neighbours[..domain.count]);
+                domain
+                    .neighbours
+                    .iter()
+                    .map(|word| u64::from(word.count_ones()))
+                    .sum()
+            }
+        }
+    }
+
+    fn judge(&self, file: &[u8]) -> u64 {
+        match Domain::judge(file, |_, _, _| ()) {
+            Err(refused) => refused,
+            Ok(domain) => domain.count as u64,
+        }
+    }
+
+    fn tables(&self, file: &[u8], words: &mut [u64]) -> u64 {
+        let mut kept: Vec<u64> = Vec::new();
+        let mut lists: Vec<(u8, u8, usize, usize)> = Vec::new();
+        let domain = match Domain::judge(file, |x, n, list| {
+            lists.push((x as u8, n as u8, kept.len(), list.len()));
+            kept.extend_from_slice(list);
+        }) {
+            Err(refused) => return refused,
+            Ok(domain) => domain,
+        };
+        let (tables, needed) = domain.tables();
+        if words.len() < needed {
+            return refusal(16, 0, 0);
+        }
+        let mut at = 0;
+        let mut next_list = 0;
+        for x in 0..domain.count {
+            let from = next_list;
+            while next_list < lists.len() && lists[next_list].0 as usize == x {
+                next_list += 1;
+            }
+            for phy in domain.of(x) {
+                if phy.kind == VACANT || phy.attribute != TABLE {
+                    continue;
+                }
+                let stretch = &mut words[at..at + domain.route_indexes[x]];
+                let mut filled = 0;
+                if phy.kind == EXPANDER {
+                    for &(_, n, start, length) in &lists[from..next_list] {
+                        if u32::from(n) == phy.device {
+                            stretch[..length].copy_from_slice(&kept[start..start + length]);
+                            filled = length;
+                        }
+                    }
+                }
+                stretch[filled..].fill(0);
+                at += domain.route_indexes[x];
+            }
+        }
+        (tables as u64) << 32 | needed as u64
+    }
+
+    fn trace(
+        &self,
+        file: &[u8],
+        words: &[u64],
+        start: u8,
+        arrival: u8,
+        address: u64,
+        passed: &mut [u8],
+    ) -> u64 {
+        let domain = match Domain::judge(file, |_, _, _| ()) {
+            Err(refused) => return refused,
+            Ok(domain) => domain,
+        };
+        let mut at = start as usize;
+        if at >= domain.count {
+            return refusal(15, 0, 0);
+        }
+        let mut source = 0;
+        if arrival != 255 {
+            match domain.of(at).get(arrival as usize) {
+                Some(phy) if phy.kind == END_DEVICE => source = phy.attached,
+                _ => return refusal(15, 0, 0),
+            }
+        }
+        let (_, needed) = domain.tables();
+        if passed.len() < domain.count || words.len() < needed {
+            return refusal(16, 0, 0);
+        }
+        if address == 0 {
+            return refusal(17, 0, 0);
+        }
+        // Where the words of each expander begin.
+        let mut stretch = [0usize; 65];
+        for x in 0..domain.count {
+            let tables = domain
+                .of(x)
+                .iter()
+                .filter(|phy| phy.kind != VACANT && phy.attribute == TABLE)
+                .count();
+            stretch[x + 1] = stretch[x] + tables * domain.route_indexes[x];
+        }
+        let mut count = 0;
+        let end = |outcome: u64, last: usize, phy: usize, count: usize| {
+            outcome << 24 | (last as u64) << 16 | (phy as u64) << 8 | count as u64
+        };
+        loop {
+            passed[count] = at as u8;
+            count += 1;
+            if domain.address[at] == address {
+                return end(0, at, 255, count);
+            }
+            let phys = domain.of(at);
+            let mut picked = phys
+                .iter()
+                .position(|phy| phy.is_attached() && phy.attached == address);
+            if picked.is_none() {
+                let r = domain.route_indexes[at];
+                let mut offset = stretch[at];
+                for (number, phy) in phys.iter().enumerate() {
+                    if phy.kind == VACANT || phy.attribute != TABLE {
+                        continue;
+                    }
+                    if phy.kind == EXPANDER && words[offset..offset + r].contains(&address) {
+                        picked = Some(number);
+                        break;
+                    }
+                    offset += r;
+                }
+            }
+            let moved = match picked {
+                Some(number) if phys[number].attached == source => return end(2, at, 255, count),
+                Some(number) if phys[number].kind == END_DEVICE => {
+                    return end(0, at, number, count)
+                }
+                Some(number) => &phys[number],
+                None => {
+                    let upward = phys
+                        .iter()
+                        .find(|phy| phy.kind == EXPANDER && phy.attribute == SUBTRACTIVE);
+                    match upward {
+                        Some(phy) if phy.attached != source => phy,
+                        _ => return end(1, at, 255, count),
+                    }
+                }
+            };
+            source = domain.address[at];
+            at = moved.device as usize;
+        }
+    }
+
+    fn write_route(&self, buf: &mut [u8], phy: u8, index: u16, entry: u64) -> u64 {
+        if phy > 127 {
+            return refusal(15, 0, 0);
+        }
+        if buf.len() < 40 {
+            return refusal(16, 0, 0);
+        }
+        buf[..40].fill(0);
+        buf[0] = 0x40;
+        buf[1] = 0x90;
+        buf[6..8].copy_from_slice(&index.to_be_bytes());
+        buf[9] = phy;
+        buf[12] = if entry == 0 { 0x80 } else { 0 };
+        buf[16..24].copy_from_slice(&entry.to_be_bytes());
+        40
+    }
+
+    fn read_route(&self, frame: &[u8]) -> u64 {
+        if frame.len() != 40 {
+            return refusal(1, 0, 0);
+        }
+        if frame[0] != 0x40 || frame[1] != 0x90 {
+            return refusal(2, 0, 0);
+        }
+        if frame[9] > 127 {
+            return refusal(15, 0, 0);
+        }
+        u64::from(frame[9]) << 16 | u64::from(frame[6]) << 8 | u64::from(frame[7])
+    }
+
+    fn read_route_entry(&self, frame: &[u8]) -> u64 {
+        if self.read_route(frame) >> 63 == 1 || frame[12] & 0x80 != 0 {
+            0
+        } else {
+            be64(frame, 16)
+        }
+    }
+
+    fn read_general(&self, frame: &[u8]) -> u64 {
+        if frame.len() != 28 {
+            return refusal(1, 0, 0);
+        }
+        if frame[..4] != [0x41, 0, 0, 0] {
+            return refusal(2, 0, 0);
+        }
+        u64::from(frame[6]) << 24
+            | u64::from(frame[7]) << 16
+            | u64::from(frame[9]) << 8
+            | u64::from(frame[10] & 1)
+    }
+
+    fn read_discover(&self, frame: &[u8]) -> u64 {
+        if frame.len() != 52 {
+            return refusal(1, 0, 0);
+        }
+        if frame[0] != 0x41 || frame[1] != 0x10 || frame[3] != 0 {
+            return refusal(2, 0, 0);
+        }
+        if frame[2] != 0 {
+            return 1 << 62 | u64::from(frame[2]);
+        }
+        u64::from(frame[9]) << 32
+            | u64::from(frame[12] >> 4 & 7) << 24
+            | u64::from(frame[44] & 15) << 16
+            | u64::from(frame[32])
+    }
+
+    fn discover_own(&self, frame: &[u8]) -> u64 {
+        match self.read_discover(frame) >> 62 {
+            0 => be64(frame, 16),
+            _ => 0,
+        }
+    }
+
+    fn discover_attached(&self, frame: &[u8]) -> u64 {
+        match self.read_discover(frame) >> 62 {
+            0 => be64(frame, 24),
+            _ => 0,
+        }
+    }
+}

@@ -1,0 +1,314 @@
+//! Compares the archive with the reference implementation of document 01.
+//!
+//!     harness [files] [seed]      vectors, then random files (20000, seed 1)
+//!     harness one <file seed>     one file of such a run again
+//!     harness vectors             the vectors alone
+//!     harness bench               times beside the fast version
+//!     harness vectors-reference   the vectors on the reference
+//!     harness vectors-fast        the vectors on the fast version
+//!     harness self [files] [seed] the fast version in the archive's place
+
+mod bench;
+mod calls;
+mod compare;
+mod fast;
+mod generate;
+mod layout;
+mod random;
+mod reference;
+mod vectors;
+
+use std::collections::BTreeMap;
+use std::env;
+use std::panic;
+use std::process::exit;
+use std::sync::atomic::{AtomicBool, AtomicU64, Ordering};
+use std::sync::Mutex;
+use std::thread;
+use std::time::{Duration, Instant};
+
+use calls::{Archive, Calls};
+use compare::{Counts, Difference};
+use fast::Fast;
+use random::{file_seed, Random};
+use reference::Reference;
+
+const THREADS: usize = 2;
+const FRAMES_PER_FILE: usize = 6;
+/// A file that takes longer than this is taken for a hang.
+const HANG: Duration = Duration::from_secs(300);
+
+fn main() {
+    let arguments: Vec<String> = env::args().skip(1).collect();
+    let words: Vec<&str> = arguments.iter().map(String::as_str).collect();
+    let (files, seed) = match words.split_first() {
+        Some((&"vectors-reference", _)) => return vectors(&Reference),
+        Some((&"vectors-fast", _)) => return vectors(&Fast),
+        Some((&"self", rest)) => {
+            vectors(&Reference);
+            vectors(&Fast);
+            let (files, seed) = numbers(rest);
+            return run(&Fast, files, seed);
+        }
+        _ if metzurgo::STUB => {
+            eprintln!("built without the archive (feature stub)");
+            exit(2);
+        }
+        Some((&"vectors", _)) => return archive_vectors(),
+        Some((&"bench", _)) => return bench::run(),
+        Some((&"one", [seed])) => return one(&Archive, number(seed)),
+        _ => numbers(&words),
+    };
+    archive_vectors();
+    run(&Archive, files, seed);
+}
+
+fn archive_vectors() {
+    vectors(&Archive);
+    match vectors::typed() {
+        Ok(()) => println!("vectors: the typed answers of the Rust binding agree"),
+        Err(difference) => fail("vectors of the Rust binding", &difference),
+    }
+}
+
+fn vectors(subject: &dyn Calls) {
+    match vectors::run(subject) {
+        Ok(count) => println!(
+            "vectors: {count} answers of the {} as expected",
+            subject.name()
+        ),
+        Err(difference) => fail("vectors", &difference),
+    }
+}
+
+fn fail(place: &str, difference: &Difference) -> ! {
+    println!("DIFFERENCE in {place}");
+    println!("call      {}", difference.what);
+    println!("expected  {}", difference.expected);
+    println!("got       {}", difference.got);
+    exit(1);
+}
+
+fn number(text: &str) -> u64 {
+    let parsed = match text.strip_prefix("0x") {
+        Some(digits) => u64::from_str_radix(digits, 16).ok(),
+        None => text.parse().ok(),
+    };
+    parsed.unwrap_or_else(|| {
+        eprintln!("not a number: {text}");
+        exit(2);
+    })
+}
+
+/// Number of files and seed.
+fn numbers(words: &[&str]) -> (u64, u64) {
+    (
+        words.first().map_or(20_000, |text| number(text)),
+        words.get(1).map_or(1, |text| number(text)),
+    )
+}
+
+/// Makes the file of a seed and checks it.
+fn check(subject: &dyn Calls, seed: u64, counts: &mut Counts) -> Result<&'static str, Failure> {
+    let mut random = Random::new(seed);
+    let made = generate::make(&mut random, true);
+    compare::check_file(subject, &made.file, &mut random, counts)
+        .and_then(|()| {
+            for _ in 0..FRAMES_PER_FILE {
+                compare::check_frame(subject, &mut random, counts)?;
+            }
+            Ok(())
+        })
+        .map_err(|difference| Failure {
+            seed,
+            way: made.way,
+            file: made.file,
+            difference,
+        })?;
+    Ok(made.way)
+}
+
+struct Failure {
+    seed: u64,
+    way: &'static str,
+    file: Vec<u8>,
+    difference: Difference,
+}
+
+impl Failure {
+    fn report(&self) -> ! {
+        println!(
+            "file seed {:#x} ({}, {} bytes)",
+            self.seed,
+            self.way,
+            self.file.len()
+        );
+        println!("file      {}", compare::hex(&self.file));
+        fail(&format!("file seed {:#x}", self.seed), &self.difference);
+    }
+}
+
+fn one(subject: &dyn Calls, seed: u64) {
+    let mut counts = Counts::default();
+    match check(subject, seed, &mut counts) {
+        Ok(way) => println!("file seed {seed:#x} ({way}): {} calls agree", counts.calls),
+        Err(failure) => failure.report(),
+    }
+}
+
+fn run(subject: &dyn Calls, files: u64, seed: u64) {
+    let began = Instant::now();
+    let next = AtomicU64::new(0);
+    let stop = AtomicBool::new(false);
+    let running = AtomicU64::new(THREADS as u64);
+    let total = Mutex::new((Counts::default(), BTreeMap::<&'static str, u64>::new()));
+    let failed: Mutex<Option<Failure>> = Mutex::new(None);
+    watch_for_signals();
+
+    thread::scope(|scope| {
+        for current in &CURRENT {
+            let (next, stop, running) = (&next, &stop, &running);
+            let (total, failed) = (&total, &failed);
+            let work = move || {
+                let _ends = Ends(running);
+                let mut counts = Counts::default();
+                let mut ways = BTreeMap::new();
+                while !stop.load(Ordering::Relaxed) {
+                    let index = next.fetch_add(1, Ordering::Relaxed);
+                    if index >= files {
+                        break;
+                    }
+                    let seed = file_seed(seed, index);
+                    current.store(seed, Ordering::Relaxed);
+                    match check(subject, seed, &mut counts) {
+                        Ok(way) => *ways.entry(way).or_insert(0) += 1,
+                        Err(failure) => {
+                            stop.store(true, Ordering::Relaxed);
+                            failed.lock().unwrap().get_or_insert(failure);
+                        }
+                    }
+                }
+                let mut total = total.lock().unwrap();
+                total.0.add(&counts);
+                for (way, count) in ways {
+                    *total.1.entry(way).or_insert(0) += count;
+                }
+            };
+            // The stack is as large as that of a main thread.
+            thread::Builder::new()
+                .stack_size(8 << 20)
+                .spawn_scoped(scope, work)
+                .expect("a thread");
+        }
+        let mut seen = [(0, Instant::now()); THREADS];
+        let mut told = Instant::now();
+        while running.load(Ordering::Relaxed) > 0 {
+            thread::sleep(Duration::from_millis(20));
+            for (worker, (seed, since)) in seen.iter_mut().enumerate() {
+                let now = CURRENT[worker].load(Ordering::Relaxed);
+                if now != *seed {
+                    (*seed, *since) = (now, Instant::now());
+                } else if since.elapsed() > HANG && next.load(Ordering::Relaxed) < files {
+                    println!("file seed {now:#x} takes longer than {} s", HANG.as_secs());
+                    exit(1);
+                }
+            }
+            if told.elapsed() > Duration::from_secs(30) {
+                told = Instant::now();
+                eprintln!("{} files begun", next.load(Ordering::Relaxed).min(files));
+            }
+        }
+    });
+
+    if let Some(failure) = failed.into_inner().unwrap() {
+        failure.report();
+    }
+    let (counts, ways) = total.into_inner().unwrap();
+    println!(
+        "{files} files, seed {seed}: the {} agrees with the reference in {} calls ({:.1} s)",
+        subject.name(),
+        counts.calls,
+        began.elapsed().as_secs_f64()
+    );
+    for (way, count) in ways {
+        println!("  made as {way}: {count}");
+    }
+    println!(
+        "  passed 1 to 10: {}, passed 1 to 14: {}, largest file {} bytes, frames {}",
+        counts.wired_files, counts.accepted_files, counts.largest_file, counts.frames
+    );
+    println!(
+        "  traces: {} arrived, {} NO DESTINATION, {} BAD DESTINATION, longest {} expanders",
+        counts.outcomes[0], counts.outcomes[1], counts.outcomes[2], counts.longest_trace
+    );
+    let mut missing = false;
+    for number in 1..=17 {
+        let calls = counts.refusals[number];
+        let files = counts.refused_files[number];
+        match number {
+            // Causes of a file.
+            1..=14 => {
+                println!("refusal {number:2}: {calls} calls, {files} files");
+                missing |= files == 0;
+            }
+            _ => {
+                println!("refusal {number:2}: {calls} calls");
+                missing |= calls == 0;
+            }
+        }
+    }
+    if missing {
+        println!("a refusal number was never reached");
+        exit(1);
+    }
+}
+
+/// Counts a thread off when it ends, by a panic too.
+struct Ends<'a>(&'a AtomicU64);
+
+impl Drop for Ends<'_> {
+    fn drop(&mut self) {
+        self.0.fetch_sub(1, Ordering::Relaxed);
+    }
+}
+
+/// The seed of the file each thread works on.
+static CURRENT: [AtomicU64; THREADS] = [const { AtomicU64::new(0) }; THREADS];
+
+extern "C" {
+    fn signal(number: i32, handler: extern "C" fn(i32)) -> usize;
+    fn write(file: i32, text: *const u8, length: usize) -> isize;
+    fn _exit(code: i32) -> !;
+}
+
+/// Prints the seeds at work and ends the process.
+extern "C" fn ended(number: i32) {
+    let mut text = *b"signal 00, file seeds 0x0000000000000000 0x0000000000000000\n";
+    text[7] = b'0' + (number / 10) as u8;
+    text[8] = b'0' + (number % 10) as u8;
+    for (worker, at) in [(0, 24), (1, 43)] {
+        let seed = CURRENT[worker].load(Ordering::Relaxed);
+        for digit in 0..16 {
+            text[at + digit] = b"0123456789abcdef"[(seed >> (60 - 4 * digit) & 15) as usize];
+        }
+    }
+    unsafe {
+        write(2, text.as_ptr(), text.len());
+        _exit(1);
+    }
+}
+
+/// Has the seeds at work printed when a call ends the process or panics.
+fn watch_for_signals() {
+    let print = panic::take_hook();
+    panic::set_hook(Box::new(move |info| {
+        print(info);
+        ended(0);
+    }));
+    // SIGILL, SIGTRAP, SIGABRT, SIGBUS, SIGFPE, SIGSEGV
+    for number in [4, 5, 6, 7, 8, 11] {
+        unsafe {
+            signal(number, ended);
+        }
+    }
+}

@@ -1,0 +1,978 @@
+//! Reference implementation of document 01, written from the paper alone.
+//!
+//! A file becomes objects held in maps, and loops, chains, levels and routes
+//! are found by recursive search. Speed does not matter here.
+
+use std::collections::{BTreeMap, BTreeSet, HashMap, HashSet};
+use std::ops::Range;
+
+use crate::calls::Calls;
+
+/// The answer "number, expander, phy".
+#[derive(Clone, Copy, Debug, PartialEq, Eq)]
+pub struct Refusal {
+    pub number: u8,
+    pub expander: u8,
+    pub phy: u8,
+}
+
+impl Refusal {
+    fn of(number: u8, (expander, phy): Place) -> Refusal {
+        Refusal {
+            number,
+            expander,
+            phy,
+        }
+    }
+
+    /// The refusal as the calls answer it.
+    pub fn answer(self) -> u64 {
+        (1 << 63)
+            + u64::from(self.number) * 65536
+            + u64::from(self.expander) * 256
+            + u64::from(self.phy)
+    }
+}
+
+/// Expander number and phy number.
+pub type Place = (u8, u8);
+
+const NOWHERE: Place = (0, 0);
+
+fn refuse(cause: bool, number: u8, place: Place) -> Result<(), Refusal> {
+    match cause {
+        true => Err(Refusal::of(number, place)),
+        false => Ok(()),
+    }
+}
+
+fn refuse_lowest(number: u8, place: Option<Place>) -> Result<(), Refusal> {
+    place.map_or(Ok(()), |place| Err(Refusal::of(number, place)))
+}
+
+/// A number of several bytes, most significant first.
+fn number(bytes: &[u8]) -> u64 {
+    bytes
+        .iter()
+        .fold(0, |sum, &byte| sum * 256 + u64::from(byte))
+}
+
+// ---------------------------------------------------------------- frames
+
+/// REPORT GENERAL.
+#[derive(Clone, Copy, Debug)]
+pub struct General {
+    pub route_indexes: u16,
+    pub phys: u8,
+    pub configurable: bool,
+}
+
+impl General {
+    /// The number of the refusal where there is one.
+    pub fn read(frame: &[u8]) -> Result<General, u8> {
+        if frame.len() != 28 {
+            return Err(1);
+        }
+        if !frame.starts_with(&[0x41, 0x00, 0x00, 0x00]) {
+            return Err(2);
+        }
+        Ok(General {
+            route_indexes: number(&frame[6..=7]) as u16,
+            phys: frame[9],
+            configurable: frame[10] % 2 == 1,
+        })
+    }
+
+    pub fn answer(frame: &[u8]) -> u64 {
+        match General::read(frame) {
+            Err(cause) => Refusal::of(cause, NOWHERE).answer(),
+            Ok(general) => {
+                u64::from(general.route_indexes) * 65536
+                    + u64::from(general.phys) * 256
+                    + u64::from(general.configurable)
+            }
+        }
+    }
+}
+
+/// DISCOVER: the fields of document 01 as they stand, or the result of a vacant
+/// phy.
+#[derive(Clone, Copy, Debug)]
+pub enum Discover {
+    Vacant(u8),
+    Fields {
+        identifier: u8,
+        device_type: u8,
+        attribute: u8,
+        own: u64,
+        attached: u64,
+        attached_phy: u8,
+    },
+}
+
+impl Discover {
+    pub fn read(frame: &[u8]) -> Result<Discover, u8> {
+        if frame.len() != 52 {
+            return Err(1);
+        }
+        let fixed = [(0, 0x41), (1, 0x10), (3, 0x00)];
+        if fixed.iter().any(|&(place, value)| frame[place] != value) {
+            return Err(2);
+        }
+        if frame[2] != 0 {
+            return Ok(Discover::Vacant(frame[2]));
+        }
+        Ok(Discover::Fields {
+            identifier: frame[9],
+            device_type: frame[12] % 128 / 16,
+            attribute: frame[44] % 16,
+            own: number(&frame[16..=23]),
+            attached: number(&frame[24..=31]),
+            attached_phy: frame[32],
+        })
+    }
+
+    pub fn answer(frame: &[u8]) -> u64 {
+        match Discover::read(frame) {
+            Err(cause) => Refusal::of(cause, NOWHERE).answer(),
+            Ok(Discover::Vacant(result)) => (1 << 62) + u64::from(result),
+            Ok(Discover::Fields {
+                identifier,
+                device_type,
+                attribute,
+                attached_phy,
+                ..
+            }) => [
+                (identifier, 32),
+                (device_type, 24),
+                (attribute, 16),
+                (attached_phy, 0),
+            ]
+            .iter()
+            .map(|&(field, power)| u64::from(field) * 2u64.pow(power))
+            .sum(),
+        }
+    }
+
+    /// Own and attached address; both 0 where refused or vacant.
+    pub fn addresses(frame: &[u8]) -> (u64, u64) {
+        match Discover::read(frame) {
+            Ok(Discover::Fields { own, attached, .. }) => (own, attached),
+            _ => (0, 0),
+        }
+    }
+}
+
+/// CONFIGURE ROUTE INFORMATION.
+#[derive(Clone, Copy, Debug, PartialEq, Eq)]
+pub struct Route {
+    pub phy: u8,
+    pub index: u16,
+    pub entry: u64,
+}
+
+impl Route {
+    /// The forty bytes; `room` is the length of the lent buffer.
+    pub fn write(self, room: usize) -> Result<Vec<u8>, Refusal> {
+        refuse(self.phy > 127, 15, NOWHERE)?;
+        refuse(room < 40, 16, NOWHERE)?;
+        let fields: HashMap<usize, u8> = [(0, 0x40), (1, 0x90), (9, self.phy)]
+            .into_iter()
+            .chain((self.entry == 0).then_some((12, 0x80)))
+            .chain((6..).zip(self.index.to_be_bytes()))
+            .chain((16..).zip(self.entry.to_be_bytes()))
+            .collect();
+        Ok((0..40)
+            .map(|place| fields.get(&place).copied().unwrap_or(0))
+            .collect())
+    }
+
+    pub fn read(frame: &[u8]) -> Result<Route, Refusal> {
+        refuse(frame.len() != 40, 1, NOWHERE)?;
+        refuse(!frame.starts_with(&[0x40, 0x90]), 2, NOWHERE)?;
+        refuse(frame[9] > 127, 15, NOWHERE)?;
+        Ok(Route {
+            phy: frame[9],
+            index: number(&frame[6..=7]) as u16,
+            entry: match frame[12] >= 0x80 {
+                true => 0,
+                false => number(&frame[16..=23]),
+            },
+        })
+    }
+}
+
+// ---------------------------------------------------------------- the domain
+
+#[derive(Clone, Copy, Debug, PartialEq, Eq, Hash)]
+pub enum Attribute {
+    Direct,
+    Subtractive,
+    Table,
+}
+
+#[derive(Clone, Copy, Debug, PartialEq, Eq)]
+pub enum Attached {
+    Nothing,
+    EndDevice(u64),
+    /// The far expander's address and the far phy.
+    Expander(u64, u8),
+}
+
+/// A phy that is not vacant.
+#[derive(Clone, Copy, Debug)]
+pub struct Phy {
+    pub attribute: Attribute,
+    pub attached: Attached,
+}
+
+impl Phy {
+    pub fn attached_address(&self) -> Option<u64> {
+        match self.attached {
+            Attached::Nothing => None,
+            Attached::EndDevice(address) | Attached::Expander(address, _) => Some(address),
+        }
+    }
+}
+
+#[derive(Clone, Debug)]
+pub struct Expander {
+    pub address: u64,
+    pub route_indexes: u16,
+    pub configurable: bool,
+    /// The non-vacant phys by number.
+    pub phys: BTreeMap<u8, Phy>,
+}
+
+/// The expanders of a file by number.
+#[derive(Clone, Debug, Default)]
+pub struct Domain {
+    pub expanders: BTreeMap<u8, Expander>,
+    numbers: HashMap<u64, u8>,
+}
+
+struct Reader<'a> {
+    rest: &'a [u8],
+}
+
+impl<'a> Reader<'a> {
+    /// The next unit of the file, or refusal 1 at its place.
+    fn unit(&mut self, length: usize, place: Place) -> Result<&'a [u8], Refusal> {
+        refuse(self.rest.len() < length, 1, place)?;
+        let (unit, rest) = self.rest.split_at(length);
+        self.rest = rest;
+        Ok(unit)
+    }
+}
+
+impl Domain {
+    /// Causes 1 to 6.
+    pub fn read(file: &[u8]) -> Result<Domain, Refusal> {
+        let mut reader = Reader { rest: file };
+        let header = reader.unit(2, NOWHERE)?;
+        refuse(header[0] != 0x10, 2, NOWHERE)?;
+        refuse(!(1..=64).contains(&header[1]), 3, NOWHERE)?;
+        let mut domain = Domain::default();
+        domain.read_expanders(&mut reader, 0, header[1])?;
+        refuse(!reader.rest.is_empty(), 1, (header[1], 0))?;
+        Ok(domain)
+    }
+
+    fn read_expanders(&mut self, reader: &mut Reader, next: u8, end: u8) -> Result<(), Refusal> {
+        if next == end {
+            return Ok(());
+        }
+        let place = (next, 0);
+        let (address, general) = reader.unit(36, place)?.split_at(8);
+        let general = General::read(general).map_err(|cause| Refusal::of(cause, place))?;
+        refuse(!(1..=128).contains(&general.phys), 3, place)?;
+        let address = number(address);
+        refuse(
+            address == 0 || self.numbers.contains_key(&address),
+            4,
+            place,
+        )?;
+        self.numbers.insert(address, next);
+        let mut expander = Expander {
+            address,
+            route_indexes: general.route_indexes,
+            configurable: general.configurable,
+            phys: BTreeMap::new(),
+        };
+        for phy in 0..general.phys {
+            let frame = reader.unit(52, (next, phy))?;
+            if let Some(read) = Domain::read_phy(frame, (next, phy), address)? {
+                expander.phys.insert(phy, read);
+            }
+        }
+        self.expanders.insert(next, expander);
+        self.read_expanders(reader, next + 1, end)
+    }
+
+    /// Nothing for a vacant phy.
+    fn read_phy(frame: &[u8], place: Place, expander: u64) -> Result<Option<Phy>, Refusal> {
+        let Discover::Fields {
+            identifier,
+            device_type,
+            attribute,
+            own,
+            attached,
+            attached_phy,
+        } = Discover::read(frame).map_err(|cause| Refusal::of(cause, place))?
+        else {
+            return Ok(None);
+        };
+        refuse(identifier != place.1 || own != expander, 5, place)?;
+        let attribute = match attribute {
+            0 => Attribute::Direct,
+            1 => Attribute::Subtractive,
+            2 => Attribute::Table,
+            _ => return Err(Refusal::of(6, place)),
+        };
+        let attached = match (device_type, attached) {
+            (0, _) => Attached::Nothing,
+            (1..=3, 0) => return Err(Refusal::of(6, place)),
+            (1, address) => Attached::EndDevice(address),
+            (2 | 3, address) => Attached::Expander(address, attached_phy),
+            _ => return Err(Refusal::of(6, place)),
+        };
+        Ok(Some(Phy {
+            attribute,
+            attached,
+        }))
+    }
+
+    /// The non-vacant phys of the domain, by expander and then phy.
+    fn phys(&self) -> impl Iterator<Item = (Place, &Expander, &Phy)> {
+        self.expanders.iter().flat_map(|(&number, expander)| {
+            expander
+                .phys
+                .iter()
+                .map(move |(&phy, fields)| ((number, phy), expander, fields))
+        })
+    }
+
+    fn phy_at(&self, (expander, phy): Place) -> Option<&Phy> {
+        self.expanders.get(&expander)?.phys.get(&phy)
+    }
+
+    /// The place of the far phy of a phy attached to an expander of the domain.
+    fn far_end(&self, phy: &Phy) -> Option<Place> {
+        match phy.attached {
+            Attached::Expander(address, far) => Some((*self.numbers.get(&address)?, far)),
+            _ => None,
+        }
+    }
+
+    /// Cause 7 holds at this phy.
+    fn badly_cabled(&self, place: Place, expander: &Expander, phy: &Phy) -> bool {
+        if !matches!(phy.attached, Attached::Expander(..)) {
+            return false;
+        }
+        let named_back = self
+            .far_end(phy)
+            .and_then(|far| self.phy_at(far))
+            .is_some_and(|far| far.attached == Attached::Expander(expander.address, place.1));
+        phy.attribute == Attribute::Direct || !named_back
+    }
+
+    /// Causes 7 to 10.
+    pub fn test_wiring(&self) -> Result<(), Refusal> {
+        refuse_lowest(
+            7,
+            self.phys()
+                .find(|&(place, expander, phy)| self.badly_cabled(place, expander, phy))
+                .map(|(place, ..)| place),
+        )?;
+
+        // The first expander at which each end device address is attached.
+        let mut first: HashMap<u64, u8> = HashMap::new();
+        for (place, _, phy) in self.phys() {
+            if let Attached::EndDevice(address) = phy.attached {
+                first.entry(address).or_insert(place.0);
+            }
+        }
+        refuse_lowest(
+            8,
+            self.phys()
+                .find(|(place, _, phy)| match phy.attached {
+                    Attached::EndDevice(address) => {
+                        self.numbers.contains_key(&address) || first[&address] < place.0
+                    }
+                    _ => false,
+                })
+                .map(|(place, ..)| place),
+        )?;
+
+        refuse_lowest(
+            9,
+            self.expanders.iter().find_map(|(&number, expander)| {
+                expander.mixed_attributes().map(|phy| (number, phy))
+            }),
+        )?;
+
+        refuse_lowest(
+            10,
+            self.phys()
+                .find(|(_, expander, phy)| {
+                    phy.attribute == Attribute::Table && !expander.configurable
+                })
+                .map(|(place, ..)| place),
+        )
+    }
+
+    /// The neighbours of each expander.
+    pub fn neighbours(&self) -> BTreeMap<u8, BTreeSet<u8>> {
+        let mut neighbours: BTreeMap<u8, BTreeSet<u8>> = self
+            .expanders
+            .keys()
+            .map(|&number| (number, BTreeSet::new()))
+            .collect();
+        for (place, _, phy) in self.phys() {
+            if let Some((far, _)) = self.far_end(phy) {
+                neighbours.entry(place.0).or_default().insert(far);
+                neighbours.entry(far).or_default().insert(place.0);
+            }
+        }
+        neighbours
+    }
+
+    /// One word for each expander, and the bits set in all.
+    pub fn neighbour_words(&self) -> (Vec<u64>, u64) {
+        let neighbours = self.neighbours();
+        let words = neighbours
+            .values()
+            .map(|set| set.iter().map(|&far| 2u64.pow(far.into())).sum())
+            .collect();
+        let bits = neighbours.values().map(|set| set.len() as u64).sum();
+        (words, bits)
+    }
+
+    /// Causes 11 to 13.
+    pub fn test_shape(&self) -> Result<(), Refusal> {
+        let neighbours = self.neighbours();
+        let mut seen = HashSet::new();
+        let looped = self.expanders.keys().any(|&number| {
+            !seen.contains(&number) && finds_loop(&neighbours, number, None, &mut seen)
+        });
+        refuse(looped, 11, NOWHERE)?;
+
+        let mut reached = HashSet::new();
+        reach(&neighbours, 0, &mut reached);
+        refuse_lowest(
+            12,
+            self.expanders
+                .keys()
+                .find(|number| !reached.contains(number))
+                .map(|&number| (number, 0)),
+        )?;
+
+        refuse_lowest(
+            13,
+            self.phys()
+                .find(|(_, _, phy)| {
+                    phy.attribute == Attribute::Table
+                        && self
+                            .far_end(phy)
+                            .and_then(|far| self.phy_at(far))
+                            .is_some_and(|far| far.attribute == Attribute::Table)
+                })
+                .map(|(place, ..)| place),
+        )
+    }
+
+    /// The level list of a table phy of expander `x` attached to expander `n`.
+    pub fn level_list(&self, x: u8, n: u8) -> Vec<u64> {
+        let configured = &self.expanders[&x];
+        let mut left_out: HashSet<u64> = configured
+            .phys
+            .values()
+            .filter_map(Phy::attached_address)
+            .collect();
+        left_out.insert(configured.address);
+        let mut list = LevelList {
+            words: Vec::new(),
+            left_out,
+        };
+        self.take_levels(
+            vec![Step {
+                expander: n,
+                from: x,
+            }],
+            &mut list,
+        );
+        list.words
+    }
+
+    /// Takes the words of one level, then goes on with the next.
+    fn take_levels(&self, level: Vec<Step>, list: &mut LevelList) {
+        if level.is_empty() {
+            return;
+        }
+        for step in &level {
+            for phy in self.expanders[&step.expander].phys.values() {
+                list.take(phy);
+            }
+        }
+        let mut once = HashSet::new();
+        let next = level
+            .iter()
+            .flat_map(|step| {
+                self.expanders[&step.expander]
+                    .phys
+                    .values()
+                    .filter(|phy| phy.attribute == Attribute::Table)
+                    .filter_map(|phy| self.far_end(phy))
+                    .filter(|far| far.0 != step.from)
+                    .map(|far| Step {
+                        expander: far.0,
+                        from: step.expander,
+                    })
+            })
+            .filter(|step| once.insert(step.expander))
+            .collect();
+        self.take_levels(next, list);
+    }
+
+    /// Causes 11 to 14 on a domain that passed 1 to 10.
+    pub fn judge(self) -> Result<Judged, Refusal> {
+        self.test_shape()?;
+        let mut lists = HashMap::new();
+        for (place, _, phy) in self.phys() {
+            if phy.attribute == Attribute::Table {
+                if let Some((far, _)) = self.far_end(phy) {
+                    lists
+                        .entry((place.0, far))
+                        .or_insert_with(|| self.level_list(place.0, far));
+                }
+            }
+        }
+        let judged = Judged::new(self, lists);
+        refuse_lowest(
+            14,
+            judged
+                .domain
+                .phys()
+                .find(|(place, expander, _)| {
+                    judged
+                        .list_of(*place)
+                        .is_some_and(|list| list.len() > usize::from(expander.route_indexes))
+                })
+                .map(|(place, ..)| place),
+        )?;
+        Ok(judged)
+    }
+}
+
+impl Expander {
+    /// Cause 9: the lowest phy that disagrees with a lower one.
+    fn mixed_attributes(&self) -> Option<u8> {
+        let mut attributes: HashMap<u64, HashSet<Attribute>> = HashMap::new();
+        let mut subtractive: HashSet<u64> = HashSet::new();
+        for (&number, phy) in &self.phys {
+            let Some(address) = phy.attached_address() else {
+                continue;
+            };
+            let lower = attributes.entry(address).or_default();
+            if lower.iter().any(|&attribute| attribute != phy.attribute) {
+                return Some(number);
+            }
+            lower.insert(phy.attribute);
+            if phy.attribute == Attribute::Subtractive {
+                if subtractive.iter().any(|&lower| lower != address) {
+                    return Some(number);
+                }
+                subtractive.insert(address);
+            }
+        }
+        None
+    }
+}
+
+/// Searches for a loop from `at`, not going back over the link to `from`.
+fn finds_loop(
+    neighbours: &BTreeMap<u8, BTreeSet<u8>>,
+    at: u8,
+    from: Option<u8>,
+    seen: &mut HashSet<u8>,
+) -> bool {
+    if !seen.insert(at) {
+        return true;
+    }
+    neighbours[&at].iter().any(|&next| {
+        next == at || (Some(next) != from && finds_loop(neighbours, next, Some(at), seen))
+    })
+}
+
+/// Collects the expanders joined to `at` by a chain.
+fn reach(neighbours: &BTreeMap<u8, BTreeSet<u8>>, at: u8, reached: &mut HashSet<u8>) {
+    if reached.insert(at) {
+        for &next in &neighbours[&at] {
+            reach(neighbours, next, reached);
+        }
+    }
+}
+
+/// An expander of a level and the expander of the level before that led to it.
+struct Step {
+    expander: u8,
+    from: u8,
+}
+
+struct LevelList {
+    words: Vec<u64>,
+    /// Addresses that a subtractive or table phy doesn't give: the configured
+    /// expander's, those attached to it, and those in the list already.
+    left_out: HashSet<u64>,
+}
+
+impl LevelList {
+    fn take(&mut self, phy: &Phy) {
+        match (phy.attribute, phy.attached_address()) {
+            (Attribute::Direct, address) => {
+                self.words.push(address.unwrap_or(0));
+                self.left_out.extend(address);
+            }
+            (_, Some(address)) => {
+                if self.left_out.insert(address) {
+                    self.words.push(address);
+                }
+            }
+            (_, None) => {}
+        }
+    }
+}
+
+// ---------------------------------------------------------------- tables
+
+/// A domain that passed 1 to 13 (1 to 14 when handed out), with its lists.
+#[derive(Clone, Debug)]
+pub struct Judged {
+    pub domain: Domain,
+    /// The level lists by expander and the expander attached.
+    lists: HashMap<(u8, u8), Vec<u64>>,
+    /// The stretch of words of each non-vacant table phy.
+    stretches: BTreeMap<Place, Range<usize>>,
+    /// The sum of R over the non-vacant table phys.
+    pub needed: usize,
+}
+
+impl Judged {
+    fn new(domain: Domain, lists: HashMap<(u8, u8), Vec<u64>>) -> Judged {
+        let mut stretches = BTreeMap::new();
+        let mut needed = 0;
+        for (place, expander, phy) in domain.phys() {
+            if phy.attribute == Attribute::Table {
+                let end = needed + usize::from(expander.route_indexes);
+                stretches.insert(place, needed..end);
+                needed = end;
+            }
+        }
+        Judged {
+            domain,
+            lists,
+            stretches,
+            needed,
+        }
+    }
+
+    pub fn expanders(&self) -> usize {
+        self.domain.expanders.len()
+    }
+
+    /// Nothing for a phy that has no level list, or an empty one.
+    fn list_of(&self, place: Place) -> Option<&Vec<u64>> {
+        let phy = self.domain.phy_at(place)?;
+        match phy.attribute {
+            Attribute::Table => self.lists.get(&(place.0, self.domain.far_end(phy)?.0)),
+            _ => None,
+        }
+    }
+
+    /// The longest level list of each expander.
+    pub fn longest_lists(&self) -> BTreeMap<u8, usize> {
+        let mut longest = BTreeMap::new();
+        for (&(expander, _), list) in &self.lists {
+            let entry = longest.entry(expander).or_insert(0);
+            *entry = list.len().max(*entry);
+        }
+        longest
+    }
+
+    pub fn tables(&self) -> usize {
+        self.stretches.len()
+    }
+
+    /// All tables, one after the other.
+    pub fn table_words(&self) -> Vec<u64> {
+        self.stretches
+            .iter()
+            .flat_map(|(&place, stretch)| {
+                let list = self.list_of(place).cloned().unwrap_or_default();
+                list.into_iter()
+                    .chain(std::iter::repeat(0))
+                    .take(stretch.len())
+            })
+            .collect()
+    }
+
+    pub fn table_answer(&self) -> u64 {
+        self.tables() as u64 * 2u64.pow(32) + self.needed as u64
+    }
+}
+
+// ---------------------------------------------------------------- tracing
+
+#[derive(Clone, Copy, Debug, PartialEq, Eq)]
+pub enum Outcome {
+    Arrived,
+    NoDestination,
+    BadDestination,
+}
+
+#[derive(Clone, Debug, PartialEq, Eq)]
+pub struct Trace {
+    pub outcome: Outcome,
+    pub phy: u8,
+    pub passed: Vec<u8>,
+}
+
+impl Trace {
+    pub fn last(&self) -> u8 {
+        *self.passed.last().expect("the start is passed")
+    }
+
+    pub fn answer(&self) -> u64 {
+        let outcome = match self.outcome {
+            Outcome::Arrived => 0,
+            Outcome::NoDestination => 1,
+            Outcome::BadDestination => 2,
+        };
+        outcome * 2u64.pow(24)
+            + u64::from(self.last()) * 2u64.pow(16)
+            + u64::from(self.phy) * 2u64.pow(8)
+            + self.passed.len() as u64
+    }
+}
+
+/// Table words turned round: for an expander and an address, the lowest table
+/// phy attached to an expander that has the address in its stretch.
+pub struct Routes(HashMap<(u8, u64), u8>);
+
+impl Judged {
+    pub fn routes(&self, words: &[u64]) -> Routes {
+        let mut routes = HashMap::new();
+        for (&place, stretch) in &self.stretches {
+            let phy = self.domain.phy_at(place).expect("a table phy");
+            if matches!(phy.attached, Attached::Expander(..)) {
+                for &word in &words[stretch.clone()] {
+                    routes.entry((place.0, word)).or_insert(place.1);
+                }
+            }
+        }
+        Routes(routes)
+    }
+
+    /// Causes 15 to 17.
+    pub fn test_request(
+        &self,
+        words: usize,
+        start: u8,
+        arrival: u8,
+        address: u64,
+        passed: usize,
+    ) -> Result<(), Refusal> {
+        let allowed = match self.domain.expanders.get(&start) {
+            None => false,
+            Some(_) if arrival == 255 => true,
+            Some(expander) => expander
+                .phys
+                .get(&arrival)
+                .is_some_and(|phy| matches!(phy.attached, Attached::EndDevice(_))),
+        };
+        refuse(!allowed, 15, NOWHERE)?;
+        refuse(
+            passed < self.expanders() || words < self.needed,
+            16,
+            NOWHERE,
+        )?;
+        refuse(address == 0, 17, NOWHERE)
+    }
+
+    pub fn trace(&self, routes: &Routes, start: u8, arrival: u8, address: u64) -> Trace {
+        let source = self
+            .domain
+            .phy_at((start, arrival))
+            .and_then(Phy::attached_address);
+        self.step(routes, start, source, address, Vec::new())
+    }
+
+    /// The steps at one expander. `source` is the address at the arrival phy.
+    fn step(
+        &self,
+        routes: &Routes,
+        at: u8,
+        source: Option<u64>,
+        address: u64,
+        mut passed: Vec<u8>,
+    ) -> Trace {
+        passed.push(at);
+        let expander = &self.domain.expanders[&at];
+        let end = |outcome, phy, passed| Trace {
+            outcome,
+            phy,
+            passed,
+        };
+        // (i)
+        if expander.address == address {
+            return end(Outcome::Arrived, 255, passed);
+        }
+        // (ii)
+        let bearing = expander
+            .phys
+            .iter()
+            .find(|(_, phy)| phy.attached_address() == Some(address));
+        // (iii)
+        let picked = bearing.or_else(|| {
+            let phy = routes.0.get(&(at, address))?;
+            expander.phys.get_key_value(phy)
+        });
+        if let Some((&number, phy)) = picked {
+            if phy.attached_address() == source {
+                return end(Outcome::BadDestination, 255, passed);
+            }
+            return match phy.attached {
+                Attached::EndDevice(_) => end(Outcome::Arrived, number, passed),
+                _ => self.move_on(routes, expander, phy, address, passed),
+            };
+        }
+        // (iv)
+        let upward = expander.phys.values().find(|phy| {
+            phy.attribute == Attribute::Subtractive
+                && matches!(phy.attached, Attached::Expander(..))
+        });
+        match upward {
+            Some(phy) if phy.attached_address() != source => {
+                self.move_on(routes, expander, phy, address, passed)
+            }
+            // (v)
+            _ => end(Outcome::NoDestination, 255, passed),
+        }
+    }
+
+    fn move_on(
+        &self,
+        routes: &Routes,
+        from: &Expander,
+        phy: &Phy,
+        address: u64,
+        passed: Vec<u8>,
+    ) -> Trace {
+        let (far, far_phy) = self.domain.far_end(phy).expect("attached to an expander");
+        let source = self
+            .domain
+            .phy_at((far, far_phy))
+            .and_then(Phy::attached_address);
+        debug_assert_eq!(source, Some(from.address));
+        self.step(routes, far, source, address, passed)
+    }
+}
+
+// ---------------------------------------------------------------- calls
+
+/// A domain that passed 1 to 10.
+pub fn wired(file: &[u8]) -> Result<Domain, Refusal> {
+    let domain = Domain::read(file)?;
+    domain.test_wiring()?;
+    Ok(domain)
+}
+
+/// A domain that passed 1 to 14.
+pub fn judged(file: &[u8]) -> Result<Judged, Refusal> {
+    wired(file)?.judge()
+}
+
+fn answer(result: Result<u64, Refusal>) -> u64 {
+    result.unwrap_or_else(Refusal::answer)
+}
+
+/// The reference in the form of the archive's calls.
+pub struct Reference;
+
+impl Calls for Reference {
+    fn name(&self) -> &'static str {
+        "reference"
+    }
+
+    fn wire(&self, file: &[u8], words: &mut [u64]) -> u64 {
+        answer(wired(file).and_then(|domain| {
+            let (neighbours, bits) = domain.neighbour_words();
+            refuse(words.len() < neighbours.len(), 16, NOWHERE)?;
+            words[..neighbours.len()].copy_from_slice(&neighbours);
+            Ok(bits)
+        }))
+    }
+
+    fn judge(&self, file: &[u8]) -> u64 {
+        answer(judged(file).map(|judged| judged.expanders() as u64))
+    }
+
+    fn tables(&self, file: &[u8], words: &mut [u64]) -> u64 {
+        answer(judged(file).and_then(|judged| {
+            refuse(words.len() < judged.needed, 16, NOWHERE)?;
+            words[..judged.needed].copy_from_slice(&judged.table_words());
+            Ok(judged.table_answer())
+        }))
+    }
+
+    fn trace(
+        &self,
+        file: &[u8],
+        words: &[u64],
+        start: u8,
+        arrival: u8,
+        address: u64,
+        passed: &mut [u8],
+    ) -> u64 {
+        answer(judged(file).and_then(|judged| {
+            judged.test_request(words.len(), start, arrival, address, passed.len())?;
+            let trace = judged.trace(&judged.routes(words), start, arrival, address);
+            passed[..trace.passed.len()].copy_from_slice(&trace.passed);
+            Ok(trace.answer())
+        }))
+    }
+
+    fn write_route(&self, buf: &mut [u8], phy: u8, index: u16, entry: u64) -> u64 {
+        let route = Route { phy, index, entry };
+        answer(route.write(buf.len()).map(|frame| {
+            buf[..40].copy_from_slice(&frame);
+            40
+        }))
+    }
+
+    fn read_route(&self, frame: &[u8]) -> u64 {
+        answer(
+            Route::read(frame).map(|route| u64::from(route.phy) * 65536 + u64::from(route.index)),
+        )
+    }
+
+    fn read_route_entry(&self, frame: &[u8]) -> u64 {
+        Route::read(frame).map_or(0, |route| route.entry)
+    }
+
+    fn read_general(&self, frame: &[u8]) -> u64 {
+        General::answer(frame)
+    }
+
+    fn read_discover(&self, frame: &[u8]) -> u64 {
+        Discover::answer(frame)
+    }
+
+    fn discover_own(&self, frame: &[u8]) -> u64 {
+        Discover::addresses(frame).0
+    }
+
+    fn discover_attached(&self, frame: &[u8]) -> u64 {
+        Discover::addresses(frame).1
+    }
+}

@@ -1,0 +1,2227 @@
+//! Files and frames with the answers that document 01 gives, written by hand.
+
+use crate::calls::Calls;
+use crate::compare::{same, Difference, Lent};
+use crate::layout::*;
+
+// Addresses of the pair rig.
+const X10: u64 = 0x5000_0000_0000_0010;
+const X20: u64 = 0x5000_0000_0000_0020;
+const A1: u64 = 0x5000_0000_0000_00a1;
+const B1: u64 = 0x5000_0000_0000_00b1;
+const FF: u64 = 0x5000_0000_0000_00ff;
+/// An end device that the pair rig does not have.
+const C1: u64 = 0x5000_0000_0000_00c1;
+
+/// The address of expander `number` in the other files.
+const fn e(number: usize) -> u64 {
+    0x5000_0000_0000_0100 + number as u64
+}
+
+/// The address of the end device at a phy in the other files.
+const fn d(expander: usize, phy: usize) -> u64 {
+    0x6000_0000_0000_0000 + 256 * expander as u64 + phy as u64
+}
+
+fn refused(number: u64, expander: u64, phy: u64) -> u64 {
+    0x8000_0000_0000_0000 + number * 65536 + expander * 256 + phy
+}
+
+fn arrived(last: u64, phy: u64, count: u64) -> u64 {
+    last * 65536 + phy * 256 + count
+}
+
+fn no_destination(last: u64, count: u64) -> u64 {
+    0x0100_0000 + last * 65536 + 255 * 256 + count
+}
+
+fn bad_destination(last: u64, count: u64) -> u64 {
+    0x0200_0000 + last * 65536 + 255 * 256 + count
+}
+
+fn counts(tables: u64, words: u64) -> u64 {
+    tables * 0x1_0000_0000 + words
+}
+
+/// The pair rig of document 01, byte by byte.
+pub fn pair_rig() -> Vec<u8> {
+    let mut file = vec![0; 334];
+    for (at, value) in [
+        // header
+        (0, 0x10),
+        (1, 2),
+        // expander 0: address, REPORT GENERAL with R 4, 2 phys, configurable
+        (2, 0x50),
+        (9, 0x10),
+        (10, 0x41),
+        (17, 4),
+        (19, 2),
+        (20, 1),
+        // phy 0: table, to expander 1 phy 0
+        (38, 0x41),
+        (39, 0x10),
+        (50, 0x20),
+        (54, 0x50),
+        (61, 0x10),
+        (62, 0x50),
+        (69, 0x20),
+        (82, 2),
+        // phy 1: direct, to drive A1h
+        (90, 0x41),
+        (91, 0x10),
+        (99, 1),
+        (102, 0x10),
+        (106, 0x50),
+        (113, 0x10),
+        (114, 0x50),
+        (121, 0xa1),
+        // expander 1: address, REPORT GENERAL with R 0, 3 phys
+        (142, 0x50),
+        (149, 0x20),
+        (150, 0x41),
+        (159, 3),
+        // phy 0: subtractive, to expander 0 phy 0
+        (178, 0x41),
+        (179, 0x10),
+        (190, 0x20),
+        (194, 0x50),
+        (201, 0x20),
+        (202, 0x50),
+        (209, 0x10),
+        (222, 1),
+        // phy 1: direct, to drive B1h
+        (230, 0x41),
+        (231, 0x10),
+        (239, 1),
+        (242, 0x10),
+        (246, 0x50),
+        (253, 0x20),
+        (254, 0x50),
+        (261, 0xb1),
+        // phy 2: direct, empty
+        (282, 0x41),
+        (283, 0x10),
+        (291, 2),
+        (298, 0x50),
+        (305, 0x20),
+    ] {
+        file[at] = value;
+    }
+    file
+}
+
+/// The pair rig as a plan, to be altered.
+pub fn pair() -> DomainFile {
+    DomainFile::of(vec![
+        Expander::new(X10, 4, true)
+            .link(TABLE, X20, 0)
+            .drive(DIRECT, A1),
+        Expander::new(X20, 0, false)
+            .link(SUBTRACTIVE, X10, 0)
+            .drive(DIRECT, B1)
+            .empty(DIRECT),
+    ])
+}
+
+fn pair_with(change: impl FnOnce(&mut Vec<Expander>)) -> Vec<u8> {
+    let mut plan = pair();
+    change(&mut plan.expanders);
+    plan.bytes()
+}
+
+fn pair_bytes(change: impl FnOnce(&mut Vec<u8>)) -> Vec<u8> {
+    let mut file = pair_rig();
+    change(&mut file);
+    file
+}
+
+fn file(expanders: Vec<Expander>) -> Vec<u8> {
+    DomainFile::of(expanders).bytes()
+}
+
+/// Runs all vectors; gives the number of answers compared.
+pub fn run(subject: &dyn Calls) -> Result<usize, Difference> {
+    let mut test = Test { subject, count: 0 };
+    test.headers()?;
+    test.cuts()?;
+    test.fixed_bytes()?;
+    test.counts_and_addresses()?;
+    test.phy_fields()?;
+    test.far_ends()?;
+    test.end_devices()?;
+    test.attributes()?;
+    test.configurable()?;
+    test.two_causes()?;
+    test.self_cabled()?;
+    test.loops()?;
+    test.islands()?;
+    test.table_to_table()?;
+    test.rows_stars_rings()?;
+    test.largest()?;
+    test.pair_rig()?;
+    test.level_lists()?;
+    test.tables()?;
+    test.traces()?;
+    test.trace_refusals()?;
+    test.route_frames()?;
+    test.single_frames()?;
+    Ok(test.count)
+}
+
+struct Test<'a> {
+    subject: &'a dyn Calls,
+    count: usize,
+}
+
+type Done = Result<(), Difference>;
+
+impl Test<'_> {
+    // ------------------------------------------------------------ helpers
+
+    fn judge(&mut self, name: &str, file: &[u8], expected: u64) -> Done {
+        self.count += 1;
+        same(
+            || format!("{name}: judge"),
+            expected,
+            self.subject.judge(file),
+        )
+    }
+
+    /// `words` is written into a longer buffer, the rest of which stays.
+    fn wire(&mut self, name: &str, file: &[u8], bits: u64, words: &[u64]) -> Done {
+        for longer in [0, 3] {
+            self.count += 1;
+            let mut lent = Lent::new(words.len() + longer, || 0x7777);
+            let after = lent.after(words);
+            let got = self.subject.wire(file, lent.part());
+            same(|| format!("{name}: wire"), bits, got)?;
+            lent.check(|| format!("{name}: wire"), &after)?;
+        }
+        let mut lent = Lent::new(words.len() - 1, || 0x7777);
+        let after = lent.after(&[]);
+        self.count += 1;
+        let got = self.subject.wire(file, lent.part());
+        same(
+            || format!("{name}: wire, one word short"),
+            refused(16, 0, 0),
+            got,
+        )?;
+        lent.check(|| format!("{name}: wire, one word short"), &after)
+    }
+
+    fn wire_refused(&mut self, name: &str, file: &[u8], expected: u64) -> Done {
+        self.count += 1;
+        let mut lent = Lent::new(64, || 0x7777);
+        let after = lent.after(&[]);
+        let got = self.subject.wire(file, lent.part());
+        same(|| format!("{name}: wire"), expected, got)?;
+        lent.check(|| format!("{name}: wire"), &after)
+    }
+
+    /// The judging, table and trace calls refuse.
+    fn judge_refused(&mut self, name: &str, file: &[u8], expected: u64) -> Done {
+        self.judge(name, file, expected)?;
+        let mut words = Lent::new(9, || 0x7777);
+        let after = words.after(&[]);
+        self.count += 1;
+        let got = self.subject.tables(file, words.part());
+        same(|| format!("{name}: tables"), expected, got)?;
+        words.check(|| format!("{name}: tables"), &after)?;
+
+        let mut passed = Lent::new(64, || 0x77);
+        let kept = passed.after(&[]);
+        for (start, arrival, address) in [(0, 255, X20), (255, 7, 0)] {
+            self.count += 1;
+            let got =
+                self.subject
+                    .trace(file, words.part(), start, arrival, address, passed.part());
+            same(|| format!("{name}: trace"), expected, got)?;
+            words.check(|| format!("{name}: trace"), &after)?;
+            passed.check(|| format!("{name}: trace"), &kept)?;
+        }
+        Ok(())
+    }
+
+    /// Every call on the file refuses (causes 1 to 10).
+    fn refuses(&mut self, name: &str, file: &[u8], number: u64, expander: u64, phy: u64) -> Done {
+        let expected = refused(number, expander, phy);
+        self.wire_refused(name, file, expected)?;
+        self.judge_refused(name, file, expected)
+    }
+
+    fn table_words(&mut self, name: &str, file: &[u8], tables: u64, words: &[u64]) -> Done {
+        let expected = counts(tables, words.len() as u64);
+        for longer in [0, 2] {
+            self.count += 1;
+            let mut lent = Lent::new(words.len() + longer, || 0x7777);
+            let after = lent.after(words);
+            let got = self.subject.tables(file, lent.part());
+            same(|| format!("{name}: tables"), expected, got)?;
+            lent.check(|| format!("{name}: tables"), &after)?;
+        }
+        if !words.is_empty() {
+            self.count += 1;
+            let mut lent = Lent::new(words.len() - 1, || 0x7777);
+            let after = lent.after(&[]);
+            let got = self.subject.tables(file, lent.part());
+            same(
+                || format!("{name}: tables, one word short"),
+                refused(16, 0, 0),
+                got,
+            )?;
+            lent.check(|| format!("{name}: tables, one word short"), &after)?;
+        }
+        Ok(())
+    }
+
+    #[allow(clippy::too_many_arguments)]
+    fn trace(
+        &mut self,
+        name: &str,
+        file: &[u8],
+        words: &[u64],
+        (start, arrival): (u8, u8),
+        address: u64,
+        expected: u64,
+        passed: &[u8],
+    ) -> Done {
+        self.count += 1;
+        let mut lent = Lent::new(70, || 0x77);
+        let after = lent.after(passed);
+        let got = self
+            .subject
+            .trace(file, words, start, arrival, address, lent.part());
+        let what = || format!("{name}: trace, start {start}, arrival {arrival}, {address:016x}h");
+        same(what, expected, got)?;
+        lent.check(what, &after)
+    }
+
+    // ------------------------------------------------------------ the file
+
+    fn headers(&mut self) -> Done {
+        if pair().bytes() != pair_rig() {
+            return Err(Difference {
+                what: "the pair rig as laid out".into(),
+                expected: crate::compare::hex(&pair_rig()),
+                got: crate::compare::hex(&pair().bytes()),
+            });
+        }
+        self.refuses("empty file", &[], 1, 0, 0)?;
+        self.refuses("one byte FFh", &[0xff], 1, 0, 0)?;
+        self.refuses("one byte 10h", &[0x10], 1, 0, 0)?;
+        self.refuses("byte 0 is 11h", &[0x11, 1], 2, 0, 0)?;
+        self.refuses("byte 0 is 00h, count 0", &[0x00, 0], 2, 0, 0)?;
+        self.refuses("count 0", &[0x10, 0], 3, 0, 0)?;
+        self.refuses("count 65", &[0x10, 65], 3, 0, 0)?;
+        self.refuses("count 255", &[0x10, 255], 3, 0, 0)?;
+        self.refuses("count 64 and nothing", &[0x10, 64], 1, 0, 0)?;
+        self.refuses("count 0 and more bytes", &[0x10, 0, 0], 3, 0, 0)?;
+        self.refuses(
+            "count 3 in the pair rig",
+            &pair_bytes(|file| file[1] = 3),
+            1,
+            2,
+            0,
+        )?;
+        self.refuses(
+            "count 1 in the pair rig",
+            &pair_bytes(|file| file[1] = 1),
+            1,
+            1,
+            0,
+        )?;
+        self.refuses(
+            "count 65 in the pair rig",
+            &pair_bytes(|file| file[1] = 65),
+            3,
+            0,
+            0,
+        )
+    }
+
+    fn cuts(&mut self) -> Done {
+        let whole = pair_rig();
+        for length in 0..334 {
+            let (expander, phy) = match length {
+                0..=37 => (0, 0),
+                38..=89 => (0, 0),
+                90..=141 => (0, 1),
+                142..=177 => (1, 0),
+                178..=229 => (1, 0),
+                230..=281 => (1, 1),
+                _ => (1, 2),
+            };
+            let name = format!("pair rig cut to {length} bytes");
+            self.refuses(&name, &whole[..length], 1, expander, phy)?;
+        }
+        self.refuses("335 bytes", &pair_bytes(|file| file.push(0)), 1, 2, 0)?;
+        self.refuses(
+            "335 bytes, the last FFh",
+            &pair_bytes(|file| file.push(0xff)),
+            1,
+            2,
+            0,
+        )?;
+        self.refuses(
+            "386 bytes",
+            &pair_bytes(|file| file.resize(386, 0)),
+            1,
+            2,
+            0,
+        )?;
+        // Cut short comes before a wrong byte in the same unit.
+        self.refuses(
+            "cut unit with a wrong byte",
+            &pair_bytes(|file| {
+                file[10] = 0;
+                file.truncate(37);
+            }),
+            1,
+            0,
+            0,
+        )
+    }
+
+    fn fixed_bytes(&mut self) -> Done {
+        let changes = [
+            (0, 0, 0),
+            (10, 0, 0),
+            (11, 0, 0),
+            (12, 0, 0),
+            (13, 0, 0),
+            (38, 0, 0),
+            (39, 0, 0),
+            (41, 0, 0),
+            (90, 0, 1),
+            (91, 0, 1),
+            (93, 0, 1),
+            (150, 1, 0),
+            (151, 1, 0),
+            (152, 1, 0),
+            (153, 1, 0),
+            (178, 1, 0),
+            (179, 1, 0),
+            (181, 1, 0),
+            (282, 1, 2),
+            (283, 1, 2),
+            (285, 1, 2),
+        ];
+        for (at, expander, phy) in changes {
+            for value in [0x40, 0x90, 0xff] {
+                let changed = pair_bytes(|file| file[at] = value);
+                let name = format!("byte {at} is {value:02x}h");
+                self.refuses(&name, &changed, 2, expander, phy)?;
+            }
+        }
+        // A vacant phy has its bytes 0, 1 and 3 checked too.
+        for at in [282, 283, 285] {
+            let changed = pair_bytes(|file| {
+                file[284] = 9;
+                file[at] = 0x77;
+            });
+            self.refuses(&format!("vacant phy, byte {at}"), &changed, 2, 1, 2)?;
+        }
+        // Ignored bytes and bits change nothing.
+        let junk = pair().bytes_with(&mut || 0xff);
+        self.judge("FFh in all ignored places", &junk, 2)?;
+        self.table_words("FFh in all ignored places", &junk, 1, &[B1, 0, 0, 0])
+    }
+
+    fn counts_and_addresses(&mut self) -> Done {
+        for value in [0, 129, 255] {
+            let name = format!("{value} phys");
+            self.refuses(&name, &pair_bytes(|file| file[19] = value), 3, 0, 0)?;
+            self.refuses(&name, &pair_bytes(|file| file[159] = value), 3, 1, 0)?;
+        }
+        // 128 phys are in range: the file is then too short.
+        self.refuses("128 phys", &pair_bytes(|file| file[159] = 128), 1, 1, 3)?;
+        // One phy less: the next unit is read where the phy stood.
+        self.refuses(
+            "2 phys at expander 1",
+            &pair_bytes(|file| file[159] = 2),
+            1,
+            2,
+            0,
+        )?;
+
+        let zero = |at: usize| pair_bytes(|file| file[at..at + 8].fill(0));
+        self.refuses("address 0 at expander 0", &zero(2), 4, 0, 0)?;
+        self.refuses("address 0 at expander 1", &zero(142), 4, 1, 0)?;
+        self.refuses(
+            "one address twice",
+            &pair_bytes(|file| file[149] = 0x10),
+            4,
+            1,
+            0,
+        )?;
+        // 2 before 3 before 4 in one unit.
+        self.refuses(
+            "result 1, no phys, address 0",
+            &pair_bytes(|file| {
+                file[142..150].fill(0);
+                file[152] = 1;
+                file[159] = 0;
+            }),
+            2,
+            1,
+            0,
+        )?;
+        self.refuses(
+            "no phys, address 0",
+            &pair_bytes(|file| {
+                file[142..150].fill(0);
+                file[159] = 0;
+            }),
+            3,
+            1,
+            0,
+        )
+    }
+
+    fn phy_fields(&mut self) -> Done {
+        self.refuses(
+            "identifier 0 at phy 1",
+            &pair_bytes(|file| file[99] = 0),
+            5,
+            0,
+            1,
+        )?;
+        self.refuses(
+            "identifier 128 at phy 0",
+            &pair_bytes(|file| file[187] = 128),
+            5,
+            1,
+            0,
+        )?;
+        for at in 298..306 {
+            let changed = pair_bytes(|file| file[at] ^= 0x80);
+            self.refuses(&format!("own address, byte {at}"), &changed, 5, 1, 2)?;
+        }
+        self.refuses(
+            "own address 0",
+            &pair_bytes(|file| file[54..62].fill(0)),
+            5,
+            0,
+            0,
+        )?;
+        for device_type in 4..8 {
+            let changed = pair_with(|rig| rig[1].phys[1].device_type = device_type);
+            self.refuses(&format!("type {device_type}"), &changed, 6, 1, 1)?;
+        }
+        for attribute in 3..16 {
+            let changed = pair_with(|rig| rig[1].phys[2].attribute = attribute);
+            self.refuses(
+                &format!("attribute {attribute}, empty phy"),
+                &changed,
+                6,
+                1,
+                2,
+            )?;
+        }
+        for device_type in 1..4 {
+            let changed = pair_with(|rig| {
+                rig[0].phys[1].device_type = device_type;
+                rig[0].phys[1].attached = 0;
+            });
+            self.refuses(&format!("type {device_type}, address 0"), &changed, 6, 0, 1)?;
+        }
+        // 5 before 6 in one unit; an earlier unit before a lower number.
+        self.refuses(
+            "identifier and type wrong",
+            &pair_with(|rig| {
+                rig[1].phys[2].identifier = 7;
+                rig[1].phys[2].device_type = 7;
+            }),
+            5,
+            1,
+            2,
+        )?;
+        self.refuses(
+            "type 4 at phy 0 1, byte 150 wrong",
+            &pair_bytes(|file| {
+                file[102] = 0x40;
+                file[150] = 0;
+            }),
+            6,
+            0,
+            1,
+        )?;
+        self.refuses(
+            "type 4 at the last phy and a byte more",
+            &pair_bytes(|file| {
+                file[294] = 0x40;
+                file.push(0);
+            }),
+            6,
+            1,
+            2,
+        )?;
+        // A vacant phy is not tested for 5 and 6.
+        let vacant = pair_with(|rig| {
+            rig[1].phys[2] = Phy {
+                result: 1,
+                identifier: 200,
+                device_type: 7,
+                attribute: 15,
+                own: 3,
+                attached: 0,
+                attached_phy: 200,
+            }
+        });
+        self.judge("vacant phy with anything in it", &vacant, 2)?;
+        self.table_words("vacant phy with anything in it", &vacant, 1, &[B1, 0, 0, 0])
+    }
+
+    // ------------------------------------------------------------ causes 7 to 10
+
+    fn far_ends(&mut self) -> Done {
+        self.refuses(
+            "type 2 on a direct phy",
+            &pair_with(|rig| rig[0].phys[0].attribute = DIRECT),
+            7,
+            0,
+            0,
+        )?;
+        self.refuses(
+            "type 3 on a direct phy of expander 1",
+            &pair_with(|rig| {
+                rig[1].phys[0].attribute = DIRECT;
+                rig[1].phys[0].device_type = FANOUT;
+            }),
+            7,
+            1,
+            0,
+        )?;
+        self.refuses(
+            "no expander has the address",
+            &pair_with(|rig| rig[0].phys[0].attached = FF),
+            7,
+            0,
+            0,
+        )?;
+        for far in [3, 127, 128, 255] {
+            self.refuses(
+                &format!("far phy {far}"),
+                &pair_with(|rig| rig[0].phys[0].attached_phy = far),
+                7,
+                0,
+                0,
+            )?;
+        }
+        self.refuses(
+            "the far phy is another",
+            &pair_with(|rig| rig[0].phys[0].attached_phy = 1),
+            7,
+            0,
+            0,
+        )?;
+        self.refuses(
+            "the far end names another phy",
+            &pair_with(|rig| rig[1].phys[0].attached_phy = 1),
+            7,
+            0,
+            0,
+        )?;
+        self.refuses(
+            "the far end is vacant",
+            &pair_with(|rig| rig[1].phys[0].result = 0x80),
+            7,
+            0,
+            0,
+        )?;
+        self.refuses(
+            "the far end has nothing attached",
+            &pair_with(|rig| rig[0].phys[0].device_type = NOTHING),
+            7,
+            1,
+            0,
+        )?;
+        self.refuses(
+            "the near end is vacant",
+            &pair_with(|rig| rig[0].phys[0].result = 1),
+            7,
+            1,
+            0,
+        )?;
+        // The far end is of type 1 and bears an expander's address: 7 before 8.
+        self.refuses(
+            "the far end is of type 1",
+            &pair_with(|rig| rig[1].phys[0].device_type = END_DEVICE),
+            7,
+            0,
+            0,
+        )?;
+        self.refuses(
+            "type 2 at an end device",
+            &pair_with(|rig| {
+                rig[0].phys[1].attribute = SUBTRACTIVE;
+                rig[0].phys[1].device_type = EXPANDER;
+            }),
+            7,
+            0,
+            1,
+        )?;
+        // Type 3 beside type 2.
+        let mixed = pair_with(|rig| rig[0].phys[0].device_type = FANOUT);
+        self.judge("type 3 beside type 2", &mixed, 2)?;
+        self.wire("type 3 beside type 2", &mixed, 2, &[0b10, 0b01])?;
+        let both = pair_with(|rig| {
+            rig[0].phys[0].device_type = FANOUT;
+            rig[1].phys[0].device_type = FANOUT;
+        });
+        self.table_words("type 3 at both ends", &both, 1, &[B1, 0, 0, 0])?;
+
+        // A wide link, its lanes crossed and of both types.
+        let wide = file(vec![
+            Expander::new(e(0), 1, true)
+                .phy(TABLE, EXPANDER, e(1), 2)
+                .phy(TABLE, FANOUT, e(1), 0),
+            Expander::new(e(1), 0, false)
+                .phy(SUBTRACTIVE, FANOUT, e(0), 1)
+                .drive(DIRECT, d(1, 1))
+                .phy(SUBTRACTIVE, EXPANDER, e(0), 0),
+        ]);
+        self.judge("wide link", &wide, 2)?;
+        self.wire("wide link", &wide, 2, &[0b10, 0b01])?;
+        self.table_words("wide link", &wide, 2, &[d(1, 1), d(1, 1)])
+    }
+
+    fn end_devices(&mut self) -> Done {
+        self.refuses(
+            "type 1 with a later expander's address",
+            &pair_with(|rig| rig[0].phys[1].attached = X20),
+            8,
+            0,
+            1,
+        )?;
+        self.refuses(
+            "type 1 with the own address",
+            &pair_with(|rig| rig[0].phys[1].attached = X10),
+            8,
+            0,
+            1,
+        )?;
+        self.refuses(
+            "type 1 with an earlier expander's address",
+            &pair_with(|rig| rig[1].phys[1].attached = X10),
+            8,
+            1,
+            1,
+        )?;
+        self.refuses(
+            "one end device at two expanders",
+            &pair_with(|rig| rig[1].phys[1].attached = A1),
+            8,
+            1,
+            1,
+        )?;
+        self.refuses(
+            "two phys of one end device at the later expander",
+            &pair_with(|rig| {
+                rig[1].phys[1].attached = A1;
+                rig[1].phys[2].device_type = END_DEVICE;
+                rig[1].phys[2].attached = A1;
+            }),
+            8,
+            1,
+            1,
+        )?;
+        // A vacant or empty phy does not count.
+        let vacant = pair_with(|rig| {
+            rig[0].phys[1].result = 2;
+            rig[1].phys[1].attached = A1;
+        });
+        self.judge("the earlier phy is vacant", &vacant, 2)?;
+        let empty = pair_with(|rig| {
+            rig[0].phys[1].device_type = NOTHING;
+            rig[1].phys[1].attached = A1;
+        });
+        self.judge("the earlier phy is empty", &empty, 2)?;
+        // A wide end device is fine and gives two words.
+        let wide = pair_with(|rig| {
+            rig[1].phys[2].device_type = END_DEVICE;
+            rig[1].phys[2].attached = B1;
+        });
+        self.table_words("wide end device", &wide, 1, &[B1, B1, 0, 0])
+    }
+
+    fn attributes(&mut self) -> Done {
+        let alone = |phys: &[(u8, u64)]| {
+            let mut expander = Expander::new(e(0), 2, true);
+            for &(attribute, address) in phys {
+                expander = match address {
+                    0 => expander.empty(attribute),
+                    _ => expander.drive(attribute, address),
+                };
+            }
+            file(vec![expander])
+        };
+        let (one, two) = (d(0, 0), d(0, 1));
+        for (name, phys, phy) in [
+            ("direct and table", vec![(DIRECT, one), (TABLE, one)], 1),
+            ("table and direct", vec![(TABLE, one), (DIRECT, one)], 1),
+            (
+                "direct and subtractive",
+                vec![(DIRECT, one), (DIRECT, one), (SUBTRACTIVE, one)],
+                2,
+            ),
+            (
+                "all three",
+                vec![(DIRECT, one), (TABLE, one), (SUBTRACTIVE, one)],
+                1,
+            ),
+            (
+                "two subtractive",
+                vec![(SUBTRACTIVE, one), (SUBTRACTIVE, two)],
+                1,
+            ),
+            (
+                "two subtractive, others between",
+                vec![
+                    (SUBTRACTIVE, one),
+                    (DIRECT, two),
+                    (SUBTRACTIVE, 0),
+                    (SUBTRACTIVE, d(0, 3)),
+                ],
+                3,
+            ),
+            (
+                "a table pair after a subtractive pair",
+                vec![
+                    (TABLE, one),
+                    (SUBTRACTIVE, two),
+                    (SUBTRACTIVE, d(0, 3)),
+                    (DIRECT, one),
+                ],
+                2,
+            ),
+        ] {
+            self.refuses(name, &alone(&phys), 9, 0, phy)?;
+        }
+        self.judge(
+            "one subtractive end device, wide, an empty subtractive phy between",
+            &alone(&[(SUBTRACTIVE, one), (SUBTRACTIVE, 0), (SUBTRACTIVE, one)]),
+            1,
+        )?;
+        self.judge(
+            "one address each",
+            &alone(&[
+                (SUBTRACTIVE, one),
+                (TABLE, two),
+                (DIRECT, d(0, 2)),
+                (TABLE, d(0, 3)),
+            ]),
+            1,
+        )?;
+        // A wide link with one table and one subtractive phy at an end.
+        let wide = file(vec![
+            Expander::new(e(0), 1, true)
+                .link(TABLE, e(1), 0)
+                .link(SUBTRACTIVE, e(1), 1),
+            Expander::new(e(1), 0, true)
+                .link(SUBTRACTIVE, e(0), 0)
+                .link(SUBTRACTIVE, e(0), 1),
+        ]);
+        self.refuses("wide link of two attributes", &wide, 9, 0, 1)?;
+        // A subtractive end device beside the subtractive neighbour.
+        let beside = pair_with(|rig| rig[1].phys[1].attribute = SUBTRACTIVE);
+        self.refuses(
+            "subtractive to a neighbour and an end device",
+            &beside,
+            9,
+            1,
+            1,
+        )?;
+        let vacant = pair_with(|rig| {
+            rig[1].phys[1].attribute = SUBTRACTIVE;
+            rig[1].phys[1].result = 1;
+        });
+        self.judge("the second subtractive phy is vacant", &vacant, 2)
+    }
+
+    fn configurable(&mut self) -> Done {
+        let mut bit_0 = pair();
+        bit_0.expanders[0].configurable = false;
+        self.refuses("table phy, bit 0", &bit_0.bytes(), 10, 0, 0)?;
+        // The other bits of byte 10 are ignored.
+        self.refuses(
+            "table phy, bits 7 to 1",
+            &pair_bytes(|file| file[20] = 0xfe),
+            10,
+            0,
+            0,
+        )?;
+        self.judge(
+            "table phy, all bits",
+            &pair_bytes(|file| file[20] = 0xff),
+            2,
+        )?;
+        self.refuses(
+            "empty table phy, bit 0",
+            &pair_with(|rig| rig[1].phys[2].attribute = TABLE),
+            10,
+            1,
+            2,
+        )?;
+        self.refuses(
+            "table phy at an end device, bit 0",
+            &pair_with(|rig| rig[1].phys[1].attribute = TABLE),
+            10,
+            1,
+            1,
+        )?;
+        let vacant = pair_with(|rig| {
+            rig[1].phys[2].attribute = TABLE;
+            rig[1].phys[2].result = 5;
+        });
+        self.judge("vacant table phy, bit 0", &vacant, 2)
+    }
+
+    fn two_causes(&mut self) -> Done {
+        self.refuses(
+            "6 at 1 2 and 7 at 0 0",
+            &pair_with(|rig| {
+                rig[0].phys[0].attached_phy = 255;
+                rig[1].phys[2].attribute = 3;
+            }),
+            6,
+            1,
+            2,
+        )?;
+        self.refuses(
+            "a byte more and 7 at 0 0",
+            &pair_bytes(|file| {
+                file[70] = 255;
+                file.push(0);
+            }),
+            1,
+            2,
+            0,
+        )?;
+        self.refuses(
+            "7 at 1 0 and 8 at 0 1",
+            &pair_with(|rig| {
+                rig[0].phys[0].device_type = NOTHING;
+                rig[0].phys[1].attached = X20;
+            }),
+            7,
+            1,
+            0,
+        )?;
+        let nine_at_0 = |rig: &mut Vec<Expander>| {
+            rig[0] = rig[0].clone().drive(TABLE, A1);
+        };
+        self.refuses("9 at 0 2", &pair_with(nine_at_0), 9, 0, 2)?;
+        self.refuses(
+            "8 at 1 1 and 9 at 0 2",
+            &pair_with(|rig| {
+                nine_at_0(rig);
+                rig[1].phys[1].attached = A1;
+            }),
+            8,
+            1,
+            1,
+        )?;
+        self.refuses(
+            "9 at 1 3 and 10 at 0 0",
+            &pair_with(|rig| {
+                rig[0].configurable = false;
+                rig[1] = rig[1].clone().drive(SUBTRACTIVE, C1);
+            }),
+            9,
+            1,
+            3,
+        )?;
+        self.refuses(
+            "7 at 0 0 and 10 at 0 0",
+            &pair_with(|rig| {
+                rig[0].configurable = false;
+                rig[0].phys[0].attached_phy = 9;
+            }),
+            7,
+            0,
+            0,
+        )?;
+        self.refuses(
+            "10 at 0 0 and a loop",
+            &file(vec![Expander::new(e(0), 9, false).link(TABLE, e(0), 0)]),
+            10,
+            0,
+            0,
+        )?;
+        // The lowest place of one cause.
+        let three = |far: [u8; 3]| {
+            file(vec![
+                Expander::new(e(0), 0, false).drive(DIRECT, d(0, 0)).link(
+                    SUBTRACTIVE,
+                    e(1),
+                    far[0],
+                ),
+                Expander::new(e(1), 9, true)
+                    .link(TABLE, e(2), far[1])
+                    .link(SUBTRACTIVE, e(0), 1),
+                Expander::new(e(2), 0, false).link(SUBTRACTIVE, e(1), far[2]),
+            ])
+        };
+        self.judge("three expanders", &three([1, 0, 0]), 3)?;
+        self.refuses("7 at 0 1, 1 0, 1 1 and 2 0", &three([9, 9, 9]), 7, 0, 1)?;
+        self.refuses("7 at 1 0 and 2 0", &three([1, 9, 9]), 7, 1, 0)?;
+        self.refuses("7 at 1 0 by the far end", &three([1, 0, 9]), 7, 1, 0)?;
+        self.refuses(
+            "10 at 0 0 and 0 2",
+            &pair_with(|rig| {
+                rig[0] = rig[0].clone().empty(TABLE);
+                rig[0].configurable = false;
+            }),
+            10,
+            0,
+            0,
+        )?;
+        self.refuses(
+            "8 at 0 1 and 1 1",
+            &pair_with(|rig| {
+                rig[0].phys[1].attached = X10;
+                rig[1].phys[1].attached = X10;
+            }),
+            8,
+            0,
+            1,
+        )
+    }
+
+    // ------------------------------------------------------------ causes 11 to 13
+
+    fn looped(&mut self, name: &str, file: &[u8], bits: u64, words: &[u64]) -> Done {
+        self.wire(name, file, bits, words)?;
+        self.judge_refused(name, file, refused(11, 0, 0))
+    }
+
+    fn self_cabled(&mut self) -> Done {
+        for attribute in [TABLE, SUBTRACTIVE] {
+            let one = file(vec![Expander::new(e(0), 5, true).link(attribute, e(0), 0)]);
+            self.looped("a phy cabled to itself", &one, 1, &[1])?;
+            let two = file(vec![Expander::new(e(0), 5, true)
+                .link(attribute, e(0), 1)
+                .link(attribute, e(0), 0)]);
+            self.looped("an expander cabled to itself", &two, 1, &[1])?;
+        }
+        let mixed = file(vec![Expander::new(e(0), 5, true)
+            .link(TABLE, e(0), 1)
+            .link(SUBTRACTIVE, e(0), 0)]);
+        self.refuses("table to subtractive at one expander", &mixed, 9, 0, 1)?;
+        let wrong = file(vec![Expander::new(e(0), 5, true)
+            .link(TABLE, e(0), 1)
+            .link(TABLE, e(0), 1)]);
+        self.refuses("a phy naming another that names itself", &wrong, 7, 0, 0)?;
+        // Beside a good link.
+        let beside = pair_with(|rig| rig[0] = rig[0].clone().link(TABLE, X10, 2));
+        self.looped("pair rig with a self-cabled phy", &beside, 3, &[0b11, 0b01])
+    }
+
+    fn loops(&mut self) -> Done {
+        let triangle = ring(3);
+        self.looped("triangle", &triangle, 6, &[0b110, 0b101, 0b011])?;
+        self.looped("square", &ring(4), 8, &[0b1010, 0b0101, 0b1010, 0b0101])?;
+        // Two lanes between one pair are no loop.
+        let double = file(vec![
+            Expander::new(e(0), 0, true)
+                .link(TABLE, e(1), 0)
+                .link(TABLE, e(1), 1),
+            Expander::new(e(1), 0, false)
+                .link(SUBTRACTIVE, e(0), 0)
+                .link(SUBTRACTIVE, e(0), 1),
+        ]);
+        self.judge("double link", &double, 2)?;
+        self.wire("double link", &double, 2, &[0b10, 0b01])?;
+        // Two components, the loop in the one without expander 0.
+        let far_loop = file(vec![
+            Expander::new(e(0), 9, true).link(TABLE, e(1), 0),
+            Expander::new(e(1), 0, false).link(SUBTRACTIVE, e(0), 0),
+            Expander::new(e(2), 9, true)
+                .link(TABLE, e(3), 0)
+                .link(SUBTRACTIVE, e(4), 1),
+            Expander::new(e(3), 9, true)
+                .link(SUBTRACTIVE, e(2), 0)
+                .link(TABLE, e(4), 0),
+            Expander::new(e(4), 9, true)
+                .link(SUBTRACTIVE, e(3), 1)
+                .link(TABLE, e(2), 1),
+        ]);
+        self.looped(
+            "a loop not joined to expander 0",
+            &far_loop,
+            8,
+            &[2, 1, 24, 20, 12],
+        )?;
+        // Two components, the loop in the one with expander 0.
+        let near_loop = file(vec![
+            Expander::new(e(0), 9, true)
+                .link(TABLE, e(1), 0)
+                .link(SUBTRACTIVE, e(2), 1),
+            Expander::new(e(1), 9, true)
+                .link(SUBTRACTIVE, e(0), 0)
+                .link(TABLE, e(2), 0),
+            Expander::new(e(2), 9, true)
+                .link(SUBTRACTIVE, e(1), 1)
+                .link(TABLE, e(0), 1),
+            Expander::new(e(3), 9, true).empty(DIRECT),
+        ]);
+        self.looped("a loop and an island", &near_loop, 6, &[6, 5, 3, 0])?;
+        // A self-cabled expander not joined to expander 0.
+        let island = file(vec![
+            Expander::new(e(0), 0, false).empty(DIRECT),
+            Expander::new(e(1), 0, true).link(TABLE, e(1), 0),
+        ]);
+        self.looped("a self-cabled island", &island, 1, &[0, 2])?;
+        // A loop of table-to-table links only: 11 before 13.
+        let tables = file(vec![
+            Expander::new(e(0), 0, true)
+                .link(TABLE, e(1), 0)
+                .link(TABLE, e(2), 1),
+            Expander::new(e(1), 0, true)
+                .link(TABLE, e(0), 0)
+                .link(TABLE, e(2), 0),
+            Expander::new(e(2), 0, true)
+                .link(TABLE, e(1), 1)
+                .link(TABLE, e(0), 1),
+        ]);
+        self.looped("triangle of table-to-table links", &tables, 6, &[6, 5, 3])
+    }
+
+    fn islands(&mut self) -> Done {
+        let two_pairs = file(vec![
+            Expander::new(e(0), 9, true).link(TABLE, e(1), 0),
+            Expander::new(e(1), 0, false).link(SUBTRACTIVE, e(0), 0),
+            Expander::new(e(2), 9, true).link(TABLE, e(3), 0),
+            Expander::new(e(3), 0, false).link(SUBTRACTIVE, e(2), 0),
+        ]);
+        self.wire("two pairs", &two_pairs, 4, &[2, 1, 8, 4])?;
+        self.judge_refused("two pairs", &two_pairs, refused(12, 2, 0))?;
+        let between = file(vec![
+            Expander::new(e(0), 9, true).link(TABLE, e(2), 0),
+            Expander::new(e(1), 0, false).empty(DIRECT),
+            Expander::new(e(2), 0, false).link(SUBTRACTIVE, e(0), 0),
+        ]);
+        self.wire("an island between", &between, 2, &[4, 0, 1])?;
+        self.judge_refused("an island between", &between, refused(12, 1, 0))?;
+        let alone = file(vec![
+            Expander::new(e(0), 0, false).drive(DIRECT, d(0, 0)),
+            Expander::new(e(1), 0, false).drive(DIRECT, d(1, 0)),
+        ]);
+        self.wire("two expanders and no link", &alone, 0, &[0, 0])?;
+        self.judge_refused("two expanders and no link", &alone, refused(12, 1, 0))?;
+        // 12 before 13 and 14.
+        let tables = file(vec![
+            Expander::new(e(0), 0, true).link(TABLE, e(1), 0),
+            Expander::new(e(1), 0, true)
+                .link(TABLE, e(0), 0)
+                .drive(DIRECT, d(1, 1)),
+            Expander::new(e(2), 0, false).empty(DIRECT),
+        ]);
+        self.wire("island and table-to-table", &tables, 2, &[2, 1, 0])?;
+        self.judge_refused("island and table-to-table", &tables, refused(12, 2, 0))
+    }
+
+    fn table_to_table(&mut self) -> Done {
+        let wide = |route_indexes| {
+            file(vec![
+                Expander::new(e(0), route_indexes, true)
+                    .drive(DIRECT, d(0, 0))
+                    .link(TABLE, e(1), 1)
+                    .link(TABLE, e(1), 0),
+                Expander::new(e(1), route_indexes, true)
+                    .link(TABLE, e(0), 2)
+                    .link(TABLE, e(0), 1)
+                    .drive(DIRECT, d(1, 2)),
+            ])
+        };
+        self.wire("wide table-to-table link", &wide(9), 2, &[2, 1])?;
+        self.judge_refused("wide table-to-table link", &wide(9), refused(13, 0, 1))?;
+        // 13 before 14.
+        self.judge_refused("wide table-to-table link, R 0", &wide(0), refused(13, 0, 1))?;
+        // The link is lower down, after a list that is too long.
+        let below = file(vec![
+            Expander::new(e(0), 0, true).link(TABLE, e(1), 0),
+            Expander::new(e(1), 9, true)
+                .link(SUBTRACTIVE, e(0), 0)
+                .link(TABLE, e(2), 0),
+            Expander::new(e(2), 9, true)
+                .link(TABLE, e(1), 1)
+                .drive(DIRECT, d(2, 1)),
+        ]);
+        self.wire("table to table below", &below, 4, &[2, 5, 2])?;
+        self.judge_refused("table to table below", &below, refused(13, 1, 1))
+    }
+
+    // ------------------------------------------------------------ many expanders
+
+    fn rows_stars_rings(&mut self) -> Done {
+        // A row: expander i has R as long as its list, 63 - i words.
+        let row = row(|i| 63 - i as u16);
+        let mut words = vec![0; 64];
+        for (i, word) in words.iter_mut().enumerate() {
+            *word = if i > 0 { 1 << (i - 1) } else { 0 } + if i < 63 { 2 << i } else { 0 };
+        }
+        self.wire("row of 64", &row, 126, &words)?;
+        self.judge("row of 64", &row, 64)?;
+        // Table i: the addresses of expanders i + 2 to 63, then the end device.
+        let mut tables = Vec::new();
+        for i in 0..63 {
+            for far in i + 2..64 {
+                tables.push(e(far));
+            }
+            tables.push(d(63, 1));
+        }
+        self.table_words("row of 64", &row, 63, &tables)?;
+        let up: Vec<u8> = (0..64).collect();
+        let down: Vec<u8> = (0..64).rev().collect();
+        self.trace(
+            "row of 64",
+            &row,
+            &tables,
+            (0, 255),
+            d(63, 1),
+            arrived(63, 1, 64),
+            &up,
+        )?;
+        self.trace(
+            "row of 64",
+            &row,
+            &tables,
+            (63, 1),
+            e(0),
+            arrived(0, 255, 64),
+            &down,
+        )?;
+        self.trace(
+            "row of 64",
+            &row,
+            &tables,
+            (63, 1),
+            FF,
+            no_destination(0, 64),
+            &down,
+        )?;
+        self.judge_refused(
+            "row of 64, R 62 at expander 0",
+            &self::row(|i| if i == 0 { 62 } else { 100 }),
+            refused(14, 0, 1),
+        )?;
+        self.judge_refused(
+            "row of 64, R 0 at expander 62",
+            &self::row(|i| if i == 62 { 0 } else { 100 }),
+            refused(14, 62, 1),
+        )?;
+
+        // A star: the hub is expander 0, then expander 63.
+        for hub in [0, 63] {
+            let star = star(hub, 1);
+            let mut words = vec![1 << hub; 64];
+            words[hub] = !(1 << hub);
+            self.wire("star of 64", &star, 126, &words)?;
+            self.judge("star of 64", &star, 64)?;
+            let leaves: Vec<usize> = (0..64).filter(|&i| i != hub).collect();
+            let tables: Vec<u64> = leaves.iter().map(|&i| d(i, 1)).collect();
+            self.table_words("star of 64", &star, 63, &tables)?;
+            let (one, two) = (leaves[0], leaves[62]);
+            self.trace(
+                "star of 64",
+                &star,
+                &tables,
+                (one as u8, 1),
+                d(two, 1),
+                arrived(two as u64, 1, 3),
+                &[one as u8, hub as u8, two as u8],
+            )?;
+            self.judge_refused(
+                "star of 64, R 0",
+                &self::star(hub, 0),
+                refused(14, hub as u64, 0),
+            )?;
+        }
+
+        let mut words = vec![0; 64];
+        for (i, word) in words.iter_mut().enumerate() {
+            *word = 1 << ((i + 63) % 64) | 1 << ((i + 1) % 64);
+        }
+        self.looped("ring of 64", &ring(64), 128, &words)
+    }
+
+    fn largest(&mut self) -> Done {
+        // The hub has 63 links and 65 end devices, each leaf one link and 127.
+        let mut hub = Expander::new(e(0), 127, true);
+        for leaf in 1..64 {
+            hub = hub.link(TABLE, e(leaf), 0);
+        }
+        for phy in 63..128 {
+            hub = hub.drive(DIRECT, d(0, phy));
+        }
+        let mut expanders = vec![hub];
+        for leaf in 1..64 {
+            let mut expander =
+                Expander::new(e(leaf), 0, false).link(SUBTRACTIVE, e(0), leaf as u8 - 1);
+            for phy in 1..128 {
+                expander = expander.drive(DIRECT, d(leaf, phy));
+            }
+            expanders.push(expander);
+        }
+        let mut file = file(expanders);
+        self.count += 1;
+        same(
+            || "length of the 64 x 128 file".into(),
+            428_290,
+            file.len() as u64,
+        )?;
+        self.judge("64 x 128", &file, 64)?;
+        let mut words = vec![1; 64];
+        words[0] = 0xffff_ffff_ffff_fffe;
+        self.wire("64 x 128", &file, 126, &words)?;
+        let mut tables = Vec::new();
+        for leaf in 1..64 {
+            for phy in 1..128 {
+                tables.push(d(leaf, phy));
+            }
+        }
+        self.table_words("64 x 128", &file, 63, &tables)?;
+        self.trace(
+            "64 x 128",
+            &file,
+            &tables,
+            (1, 5),
+            d(63, 127),
+            arrived(63, 127, 3),
+            &[1, 0, 63],
+        )?;
+        self.refuses("64 x 128 cut", &file[..428_289], 1, 63, 127)?;
+        file.push(0);
+        self.refuses("64 x 128 and a byte", &file, 1, 64, 0)
+    }
+
+    // ------------------------------------------------------------ the pair rig
+
+    fn pair_rig(&mut self) -> Done {
+        let rig = pair_rig();
+        self.judge("pair rig", &rig, 2)?;
+        self.wire("pair rig", &rig, 2, &[0b10, 0b01])?;
+        self.table_words("pair rig", &rig, 1, &[B1, 0, 0, 0])?;
+        let with_r = |r: u8| pair_bytes(|file| file[17] = r);
+        self.table_words("pair rig, R 2", &with_r(2), 1, &[B1, 0])?;
+        self.judge_refused("pair rig, R 1", &with_r(1), refused(14, 0, 0))?;
+        self.judge_refused("pair rig, R 0", &with_r(0), refused(14, 0, 0))?;
+        self.wire("pair rig, R 1", &with_r(1), 2, &[0b10, 0b01])?;
+        let large = pair_bytes(|file| file[16..18].fill(0xff));
+        let mut words = vec![0; 65535];
+        words[0] = B1;
+        self.table_words("pair rig, R 65,535", &large, 1, &words)?;
+
+        let words = [B1, 0, 0, 0];
+        self.trace(
+            "pair rig",
+            &rig,
+            &words,
+            (0, 255),
+            B1,
+            arrived(1, 1, 2),
+            &[0, 1],
+        )?;
+        self.trace(
+            "pair rig",
+            &rig,
+            &words,
+            (1, 1),
+            A1,
+            arrived(0, 1, 2),
+            &[1, 0],
+        )?;
+        self.trace(
+            "pair rig",
+            &rig,
+            &words,
+            (1, 255),
+            X10,
+            arrived(0, 255, 2),
+            &[1, 0],
+        )?;
+        self.trace(
+            "pair rig",
+            &rig,
+            &words,
+            (1, 255),
+            FF,
+            no_destination(0, 2),
+            &[1, 0],
+        )?;
+        self.trace(
+            "pair rig",
+            &rig,
+            &words,
+            (1, 1),
+            B1,
+            bad_destination(1, 1),
+            &[1],
+        )?;
+        self.trace(
+            "pair rig, entry 0 zeroed",
+            &rig,
+            &[0; 4],
+            (0, 255),
+            B1,
+            no_destination(0, 1),
+            &[0],
+        )
+    }
+
+    // ------------------------------------------------------------ levels and tables
+
+    fn level_lists(&mut self) -> Done {
+        // Expander 0 leads to 1, 1 to 2 and 3, 2 to 4.
+        let tree = file(vec![
+            Expander::new(e(0), 10, true).link(TABLE, e(1), 0),
+            Expander::new(e(1), 3, true)
+                .link(SUBTRACTIVE, e(0), 0)
+                .link(TABLE, e(2), 0)
+                .drive(DIRECT, d(1, 2))
+                .drive(DIRECT, d(1, 2))
+                .empty(DIRECT)
+                .vacant(1)
+                .link(TABLE, e(3), 0)
+                .drive(TABLE, d(1, 7))
+                .drive(TABLE, d(1, 7))
+                .empty(SUBTRACTIVE),
+            Expander::new(e(2), 1, true)
+                .link(SUBTRACTIVE, e(1), 1)
+                .drive(DIRECT, d(2, 1))
+                .link(TABLE, e(4), 0),
+            Expander::new(e(3), 0, false)
+                .link(SUBTRACTIVE, e(1), 6)
+                .drive(DIRECT, d(3, 1)),
+            Expander::new(e(4), 0, false)
+                .link(SUBTRACTIVE, e(2), 2)
+                .drive(DIRECT, d(4, 1)),
+        ]);
+        let words = [
+            // expander 0 phy 0
+            e(2),
+            d(1, 2),
+            d(1, 2),
+            0,
+            e(3),
+            d(1, 7),
+            d(2, 1),
+            e(4),
+            d(3, 1),
+            d(4, 1),
+            // expander 1 phy 1
+            d(2, 1),
+            e(4),
+            d(4, 1),
+            // expander 1 phy 6
+            d(3, 1),
+            0,
+            0,
+            // expander 1 phys 7 and 8
+            0,
+            0,
+            0,
+            0,
+            0,
+            0,
+            // expander 2 phy 2
+            d(4, 1),
+        ];
+        self.table_words("tree of five", &tree, 6, &words)?;
+        let name = "tree of five";
+        self.trace(
+            name,
+            &tree,
+            &words,
+            (4, 1),
+            d(3, 1),
+            arrived(3, 1, 4),
+            &[4, 2, 1, 3],
+        )?;
+        self.trace(
+            name,
+            &tree,
+            &words,
+            (0, 255),
+            d(4, 1),
+            arrived(4, 1, 4),
+            &[0, 1, 2, 4],
+        )?;
+        self.trace(
+            name,
+            &tree,
+            &words,
+            (3, 1),
+            d(1, 7),
+            arrived(1, 7, 2),
+            &[3, 1],
+        )?;
+        self.trace(
+            name,
+            &tree,
+            &words,
+            (1, 3),
+            d(1, 2),
+            bad_destination(1, 1),
+            &[1],
+        )?;
+        self.trace(
+            name,
+            &tree,
+            &words,
+            (1, 8),
+            d(1, 7),
+            bad_destination(1, 1),
+            &[1],
+        )?;
+        self.trace(
+            name,
+            &tree,
+            &words,
+            (1, 8),
+            e(4),
+            arrived(4, 255, 3),
+            &[1, 2, 4],
+        )?;
+        self.trace(
+            name,
+            &tree,
+            &words,
+            (4, 255),
+            FF,
+            no_destination(0, 4),
+            &[4, 2, 1, 0],
+        )?;
+
+        // The order in a level goes by the place in the level before, not by
+        // the number: 1 leads to 5 (phy 1) and 2 (phy 2), 5 to 4, 2 to 3.
+        let order = file(vec![
+            Expander::new(e(0), 7, true).link(TABLE, e(1), 0),
+            Expander::new(e(1), 3, true)
+                .link(SUBTRACTIVE, e(0), 0)
+                .link(TABLE, e(5), 1)
+                .link(TABLE, e(2), 1)
+                .empty(DIRECT),
+            Expander::new(e(2), 1, true)
+                .link(TABLE, e(3), 0)
+                .link(SUBTRACTIVE, e(1), 2),
+            Expander::new(e(3), 0, false)
+                .link(SUBTRACTIVE, e(2), 0)
+                .drive(DIRECT, d(3, 1)),
+            Expander::new(e(4), 0, false)
+                .link(SUBTRACTIVE, e(5), 0)
+                .drive(DIRECT, d(4, 1)),
+            Expander::new(e(5), 1, true)
+                .link(TABLE, e(4), 0)
+                .link(SUBTRACTIVE, e(1), 1),
+        ]);
+        self.table_words(
+            "order in a level",
+            &order,
+            5,
+            &[
+                // expander 0 phy 0
+                e(5),
+                e(2),
+                0,
+                e(4),
+                e(3),
+                d(4, 1),
+                d(3, 1),
+                // expander 1 phy 1
+                e(4),
+                d(4, 1),
+                0,
+                // expander 1 phy 2
+                e(3),
+                d(3, 1),
+                0,
+                // expander 2 phy 0
+                d(3, 1),
+                // expander 5 phy 0
+                d(4, 1),
+            ],
+        )?;
+
+        // A wide link below gives its expander once; both of its phys have tables.
+        let wide = file(vec![
+            Expander::new(e(0), 3, true).link(TABLE, e(1), 1),
+            Expander::new(e(1), 1, true)
+                .link(TABLE, e(2), 1)
+                .link(SUBTRACTIVE, e(0), 0)
+                .link(TABLE, e(2), 0)
+                .drive(DIRECT, d(1, 3)),
+            Expander::new(e(2), 0, false)
+                .link(SUBTRACTIVE, e(1), 2)
+                .link(SUBTRACTIVE, e(1), 0)
+                .drive(DIRECT, d(2, 2)),
+        ]);
+        self.table_words(
+            "wide link below",
+            &wide,
+            3,
+            &[e(2), d(1, 3), d(2, 2), d(2, 2), d(2, 2)],
+        )?;
+
+        // A top pair, subtractive at both ends, has no tables between.
+        let pair = file(vec![
+            Expander::new(e(0), 2, true)
+                .link(SUBTRACTIVE, e(1), 0)
+                .link(TABLE, e(2), 0),
+            Expander::new(e(1), 0, false)
+                .link(SUBTRACTIVE, e(0), 0)
+                .drive(DIRECT, d(1, 1)),
+            Expander::new(e(2), 0, false)
+                .link(SUBTRACTIVE, e(0), 1)
+                .drive(DIRECT, d(2, 1)),
+        ]);
+        self.wire("top pair", &pair, 4, &[6, 1, 1])?;
+        self.table_words("top pair", &pair, 1, &[d(2, 1), 0])?;
+        let words = [d(2, 1), 0];
+        let name = "top pair";
+        self.trace(
+            name,
+            &pair,
+            &words,
+            (1, 1),
+            d(2, 1),
+            arrived(2, 1, 3),
+            &[1, 0, 2],
+        )?;
+        self.trace(
+            name,
+            &pair,
+            &words,
+            (2, 1),
+            d(1, 1),
+            arrived(1, 1, 3),
+            &[2, 0, 1],
+        )?;
+        self.trace(
+            name,
+            &pair,
+            &words,
+            (2, 1),
+            FF,
+            no_destination(1, 3),
+            &[2, 0, 1],
+        )?;
+        self.trace(
+            name,
+            &pair,
+            &words,
+            (1, 1),
+            FF,
+            no_destination(0, 2),
+            &[1, 0],
+        )
+    }
+
+    fn tables(&mut self) -> Done {
+        let empty = file(vec![Expander::new(e(0), 0, true).empty(TABLE)]);
+        self.table_words("empty table phy, R 0", &empty, 1, &[])?;
+        let drive = file(vec![Expander::new(e(0), 2, true).drive(TABLE, d(0, 0))]);
+        self.table_words("table phy at an end device", &drive, 1, &[0, 0])?;
+        let none = file(vec![Expander::new(e(0), 65535, true).drive(DIRECT, d(0, 0))]);
+        self.table_words("no table phy, R 65,535", &none, 0, &[])?;
+        let vacant = file(vec![Expander::new(e(0), 3, true).vacant(255)]);
+        self.table_words("vacant phy alone", &vacant, 0, &[])?;
+        self.judge("vacant phy alone", &vacant, 1)?;
+        self.wire("vacant phy alone", &vacant, 0, &[0])?;
+        // A vacant phy gives no word: R 1 is enough for the pair rig then.
+        let shorter = pair_with(|rig| {
+            rig[0].route_indexes = 1;
+            rig[1].phys[2].result = 1;
+        });
+        self.table_words("pair rig, phy 1 2 vacant, R 1", &shorter, 1, &[B1])?;
+        // An empty subtractive phy gives none either.
+        let shorter = pair_with(|rig| {
+            rig[0].route_indexes = 1;
+            rig[1].phys[2].attribute = SUBTRACTIVE;
+        });
+        self.table_words("pair rig, phy 1 2 subtractive, R 1", &shorter, 1, &[B1])?;
+        // The lower of two lists that are too long.
+        let two = file(vec![
+            Expander::new(e(0), 1, true)
+                .link(TABLE, e(1), 0)
+                .link(TABLE, e(2), 0)
+                .link(TABLE, e(3), 0),
+            Expander::new(e(1), 0, false)
+                .link(SUBTRACTIVE, e(0), 0)
+                .empty(DIRECT),
+            Expander::new(e(2), 0, false)
+                .link(SUBTRACTIVE, e(0), 1)
+                .empty(DIRECT)
+                .empty(DIRECT),
+            Expander::new(e(3), 0, false)
+                .link(SUBTRACTIVE, e(0), 2)
+                .empty(DIRECT)
+                .empty(DIRECT),
+        ]);
+        self.judge_refused("two lists too long", &two, refused(14, 0, 1))
+    }
+
+    // ------------------------------------------------------------ tracing
+
+    fn traces(&mut self) -> Done {
+        let rig = pair_rig();
+        let given = [B1, 0, 0, 0];
+        let name = "pair rig";
+        self.trace(name, &rig, &given, (0, 255), X10, arrived(0, 255, 1), &[0])?;
+        self.trace(name, &rig, &given, (0, 1), X10, arrived(0, 255, 1), &[0])?;
+        self.trace(name, &rig, &given, (0, 1), X20, arrived(1, 255, 2), &[0, 1])?;
+        self.trace(name, &rig, &given, (0, 255), A1, arrived(0, 1, 1), &[0])?;
+        self.trace(name, &rig, &given, (0, 1), A1, bad_destination(0, 1), &[0])?;
+        self.trace(name, &rig, &given, (0, 255), FF, no_destination(0, 1), &[0])?;
+        self.trace(name, &rig, &given, (1, 1), X20, arrived(1, 255, 1), &[1])?;
+        self.trace(name, &rig, &given, (0, 1), B1, arrived(1, 1, 2), &[0, 1])?;
+        // Words behind the tables are not read.
+        let longer = [0, 0, 0, 0, B1, FF];
+        self.trace(
+            name,
+            &rig,
+            &longer,
+            (0, 255),
+            B1,
+            no_destination(0, 1),
+            &[0],
+        )?;
+        self.trace(
+            name,
+            &rig,
+            &[0, 0, 0, B1],
+            (0, 255),
+            B1,
+            arrived(1, 1, 2),
+            &[0, 1],
+        )?;
+        // A word that leads back is BAD DESTINATION, one that leads nowhere is
+        // NO DESTINATION at the next expander.
+        let wrong = [0, FF, 0, 0];
+        self.trace(
+            name,
+            &rig,
+            &wrong,
+            (1, 255),
+            FF,
+            bad_destination(0, 2),
+            &[1, 0],
+        )?;
+        self.trace(
+            name,
+            &rig,
+            &wrong,
+            (1, 1),
+            FF,
+            bad_destination(0, 2),
+            &[1, 0],
+        )?;
+        self.trace(
+            name,
+            &rig,
+            &wrong,
+            (0, 255),
+            FF,
+            no_destination(1, 2),
+            &[0, 1],
+        )?;
+        // An attached address comes before a table word, the expander's own
+        // address before both.
+        let all = [A1, X10, X20, B1];
+        self.trace(name, &rig, &all, (0, 255), A1, arrived(0, 1, 1), &[0])?;
+        self.trace(name, &rig, &all, (0, 255), X10, arrived(0, 255, 1), &[0])?;
+
+        // A wide end device asks for itself from its higher phy.
+        let wide = pair_with(|rig| {
+            rig[1].phys[2].device_type = END_DEVICE;
+            rig[1].phys[2].attached = B1;
+        });
+        self.trace(
+            "wide",
+            &wide,
+            &given,
+            (1, 2),
+            B1,
+            bad_destination(1, 1),
+            &[1],
+        )?;
+        self.trace("wide", &wide, &given, (0, 1), B1, arrived(1, 1, 2), &[0, 1])?;
+
+        // Three tables: each phy has its own stretch; a table phy at an end
+        // device is passed by.
+        let star = file(vec![
+            Expander::new(e(0), 2, true)
+                .drive(TABLE, d(0, 0))
+                .link(TABLE, e(1), 0)
+                .link(TABLE, e(2), 0),
+            Expander::new(e(1), 0, false)
+                .link(SUBTRACTIVE, e(0), 1)
+                .drive(DIRECT, d(1, 1)),
+            Expander::new(e(2), 0, false)
+                .link(SUBTRACTIVE, e(0), 2)
+                .drive(DIRECT, d(2, 1)),
+        ]);
+        let name = "two stretches";
+        self.table_words(name, &star, 3, &[0, 0, d(1, 1), 0, d(2, 1), 0])?;
+        let words = [0, 0, 0, 0, FF, d(2, 1)];
+        self.trace(
+            name,
+            &star,
+            &words,
+            (0, 255),
+            d(2, 1),
+            arrived(2, 1, 2),
+            &[0, 2],
+        )?;
+        self.trace(
+            name,
+            &star,
+            &words,
+            (1, 1),
+            FF,
+            no_destination(2, 3),
+            &[1, 0, 2],
+        )?;
+        let words = [FF, FF, 0, 0, 0, 0];
+        self.trace(
+            name,
+            &star,
+            &words,
+            (0, 255),
+            FF,
+            no_destination(0, 1),
+            &[0],
+        )?;
+        let words = [0, 0, 0, d(2, 1), d(2, 1), 0];
+        self.trace(
+            name,
+            &star,
+            &words,
+            (0, 0),
+            d(2, 1),
+            no_destination(1, 2),
+            &[0, 1],
+        )?;
+        // The lowest table phy leads back to where the request came from.
+        self.trace(
+            name,
+            &star,
+            &words,
+            (1, 1),
+            d(2, 1),
+            bad_destination(0, 2),
+            &[1, 0],
+        )?;
+        self.trace(
+            name,
+            &star,
+            &words,
+            (1, 1),
+            e(2),
+            arrived(2, 255, 3),
+            &[1, 0, 2],
+        )
+    }
+
+    fn trace_refusals(&mut self) -> Done {
+        let rig = pair_rig();
+        let vacant = pair_with(|rig| rig[1].phys[2].result = 1);
+        let words = [B1, 0, 0, 0];
+        for (name, file, start, arrival, address, length, room, number) in [
+            ("start 2", &rig, 2, 255, B1, 4, 2, 15),
+            ("start 255", &rig, 255, 255, B1, 4, 2, 15),
+            ("arrival at an expander", &rig, 0, 0, B1, 4, 2, 15),
+            ("arrival at an expander", &rig, 1, 0, B1, 4, 2, 15),
+            ("arrival phy missing", &rig, 0, 2, B1, 4, 2, 15),
+            ("arrival phy missing", &rig, 1, 254, B1, 4, 2, 15),
+            ("arrival phy empty", &rig, 1, 2, B1, 4, 2, 15),
+            ("arrival phy vacant", &vacant, 1, 2, B1, 4, 2, 15),
+            ("no bytes", &rig, 0, 255, X10, 4, 0, 16),
+            ("one byte short", &rig, 0, 255, X10, 4, 1, 16),
+            ("one word short", &rig, 1, 255, X20, 3, 2, 16),
+            ("no words", &rig, 1, 255, X20, 0, 2, 16),
+            ("address 0", &rig, 0, 255, 0, 4, 2, 17),
+            ("address 0", &rig, 1, 1, 0, 4, 2, 17),
+            ("15, 16 and 17", &rig, 2, 255, 0, 0, 0, 15),
+            ("15 and 17", &rig, 0, 0, 0, 4, 2, 15),
+            ("16 and 17, bytes", &rig, 0, 255, 0, 4, 1, 16),
+            ("16 and 17, words", &rig, 0, 255, 0, 3, 2, 16),
+        ] {
+            self.count += 1;
+            let mut passed = Lent::new(room, || 0x77);
+            let after = passed.after(&[]);
+            let got = self.subject.trace(
+                file,
+                &words[..length],
+                start,
+                arrival,
+                address,
+                passed.part(),
+            );
+            same(|| name.into(), refused(number, 0, 0), got)?;
+            passed.check(|| name.into(), &after)?;
+        }
+        // Two bytes are enough for two expanders.
+        self.count += 1;
+        let mut passed = Lent::new(2, || 0x77);
+        let after = passed.after(&[1, 0]);
+        let got = self.subject.trace(&rig, &words, 1, 1, A1, passed.part());
+        same(|| "two bytes".into(), arrived(0, 1, 2), got)?;
+        passed.check(|| "two bytes".into(), &after)
+    }
+
+    // ------------------------------------------------------------ frames
+
+    fn route_frames(&mut self) -> Done {
+        let mut expected = [0u8; 40];
+        expected[0] = 0x40;
+        expected[1] = 0x90;
+        expected[6] = 0x01;
+        expected[7] = 0x02;
+        expected[9] = 5;
+        expected[16] = 0x50;
+        expected[23] = 0xb1;
+        let mut disabled = [0u8; 40];
+        disabled[0] = 0x40;
+        disabled[1] = 0x90;
+        disabled[6] = 0xff;
+        disabled[7] = 0xff;
+        disabled[9] = 127;
+        disabled[12] = 0x80;
+        for (phy, index, entry, length, answer, frame) in [
+            (5, 0x0102, B1, 40, 40, Some(&expected)),
+            (5, 0x0102, B1, 60, 40, Some(&expected)),
+            (127, 0xffff, 0, 41, 40, Some(&disabled)),
+            (128, 0, B1, 40, refused(15, 0, 0), None),
+            (255, 0, 0, 0, refused(15, 0, 0), None),
+            (127, 0, B1, 39, refused(16, 0, 0), None),
+            (0, 0, 0, 0, refused(16, 0, 0), None),
+        ] {
+            self.count += 1;
+            let mut lent = Lent::new(length, || 0x77u8);
+            let after = lent.after(frame.map_or(&[][..], |frame| frame));
+            let got = self.subject.write_route(lent.part(), phy, index, entry);
+            let what = || format!("write_route, phy {phy}, index {index}, {length} bytes");
+            same(what, answer, got)?;
+            lent.check(what, &after)?;
+        }
+        let mut zero_address = expected;
+        zero_address[16..24].fill(0);
+        let mut disabled_address = expected;
+        disabled_address[12] = 0x80;
+        let mut other_bits = [0xff; 40];
+        other_bits[0] = 0x40;
+        other_bits[1] = 0x90;
+        other_bits[9] = 0;
+        other_bits[12] = 0x7f;
+        let mut byte_0 = expected;
+        byte_0[0] = 0x41;
+        let mut byte_1 = expected;
+        byte_1[1] = 0x10;
+        let mut phy_128 = expected;
+        phy_128[9] = 128;
+        let mut both = phy_128;
+        both[0] = 0;
+        for (name, frame, answer, entry) in [
+            ("written frame", &expected[..], 0x0005_0102, B1),
+            ("disabled entry", &disabled[..], 0x007f_ffff, 0),
+            ("address 0, enabled", &zero_address[..], 0x0005_0102, 0),
+            (
+                "address with the disable bit",
+                &disabled_address[..],
+                0x0005_0102,
+                0,
+            ),
+            ("all other bits", &other_bits[..], 0x0000_ffff, u64::MAX),
+            ("39 bytes", &expected[..39], refused(1, 0, 0), 0),
+            ("no bytes", &[][..], refused(1, 0, 0), 0),
+            (
+                "41 bytes",
+                &[&expected[..], &[0]].concat()[..],
+                refused(1, 0, 0),
+                0,
+            ),
+            ("byte 0", &byte_0[..], refused(2, 0, 0), 0),
+            ("byte 1", &byte_1[..], refused(2, 0, 0), 0),
+            ("phy 128", &phy_128[..], refused(15, 0, 0), 0),
+            ("byte 0 and phy 128", &both[..], refused(2, 0, 0), 0),
+        ] {
+            self.count += 2;
+            let got = self.subject.read_route(frame);
+            same(|| format!("{name}: read_route"), answer, got)?;
+            let got = self.subject.read_route_entry(frame);
+            same(|| format!("{name}: read_route_entry"), entry, got)?;
+        }
+        Ok(())
+    }
+
+    fn single_frames(&mut self) -> Done {
+        let rig = pair_rig();
+        let general = &rig[10..38];
+        let mut all_bits = vec![0xff; 28];
+        all_bits[..4].copy_from_slice(&[0x41, 0, 0, 0]);
+        let mut even = all_bits.clone();
+        even[10] = 0xfe;
+        even[9] = 0;
+        let with = |at: usize, value: u8| {
+            let mut frame = general.to_vec();
+            frame[at] = value;
+            frame
+        };
+        for (name, frame, answer) in [
+            ("expander 0", general.to_vec(), 0x0000_0004_0201),
+            ("expander 1", rig[150..178].to_vec(), 0x0000_0000_0300),
+            ("all other bits", all_bits, 0x0000_ffff_ff01),
+            ("bit 0 clear, no phys", even, 0x0000_ffff_0000),
+            ("27 bytes", general[..27].to_vec(), refused(1, 0, 0)),
+            ("29 bytes", rig[10..39].to_vec(), refused(1, 0, 0)),
+            ("no bytes", vec![], refused(1, 0, 0)),
+            ("byte 0", with(0, 0x40), refused(2, 0, 0)),
+            ("byte 1", with(1, 0x10), refused(2, 0, 0)),
+            ("result", with(2, 1), refused(2, 0, 0)),
+            ("byte 3", with(3, 1), refused(2, 0, 0)),
+        ] {
+            self.count += 1;
+            let got = self.subject.read_general(&frame);
+            same(|| format!("{name}: read_general"), answer, got)?;
+        }
+
+        let discover = &rig[230..282];
+        let with = |at: usize, value: u8| {
+            let mut frame = discover.to_vec();
+            frame[at] = value;
+            frame
+        };
+        let mut all_bits = vec![0xff; 52];
+        all_bits[..4].copy_from_slice(&[0x41, 0x10, 0, 0]);
+        let mut vacant = all_bits.clone();
+        vacant[2] = 0xfe;
+        let none = refused(2, 0, 0);
+        for (name, frame, answer, own, attached) in [
+            ("phy 1 1", discover.to_vec(), 0x0001_0100_0000, X20, B1),
+            ("phy 0 0", rig[38..90].to_vec(), 0x0000_0202_0000, X10, X20),
+            ("phy 1 2", rig[282..334].to_vec(), 0x0002_0000_0000, X20, 0),
+            (
+                "all other bits",
+                all_bits,
+                0x00ff_070f_00ff,
+                u64::MAX,
+                u64::MAX,
+            ),
+            ("vacant", vacant, 0x4000_0000_0000_00fe, 0, 0),
+            ("result 1", with(2, 1), 0x4000_0000_0000_0001, 0, 0),
+            (
+                "bit 7 of byte 12",
+                with(12, 0x8f),
+                0x0001_0000_0000,
+                X20,
+                B1,
+            ),
+            (
+                "bits 7 to 4 of byte 44",
+                with(44, 0xf1),
+                0x0001_0101_0000,
+                X20,
+                B1,
+            ),
+            ("attached phy 255", with(32, 255), 0x0001_0100_00ff, X20, B1),
+            ("51 bytes", discover[..51].to_vec(), refused(1, 0, 0), 0, 0),
+            ("53 bytes", rig[230..283].to_vec(), refused(1, 0, 0), 0, 0),
+            ("28 bytes", discover[..28].to_vec(), refused(1, 0, 0), 0, 0),
+            ("no bytes", vec![], refused(1, 0, 0), 0, 0),
+            ("byte 0", with(0, 0x40), none, 0, 0),
+            ("byte 1", with(1, 0x00), none, 0, 0),
+            ("byte 3", with(3, 0x10), none, 0, 0),
+        ] {
+            self.count += 3;
+            let got = self.subject.read_discover(&frame);
+            same(|| format!("{name}: read_discover"), answer, got)?;
+            let got = self.subject.discover_own(&frame);
+            same(|| format!("{name}: discover_own"), own, got)?;
+            let got = self.subject.discover_attached(&frame);
+            same(|| format!("{name}: discover_attached"), attached, got)?;
+        }
+        Ok(())
+    }
+}
+
+/// Each expander is table to the next and subtractive to the one before.
+fn ring(expanders: usize) -> Vec<u8> {
+    file(
+        (0..expanders)
+            .map(|i| {
+                Expander::new(e(i), 100, true)
+                    .link(SUBTRACTIVE, e((i + expanders - 1) % expanders), 1)
+                    .link(TABLE, e((i + 1) % expanders), 0)
+            })
+            .collect(),
+    )
+}
+
+/// 64 expanders in a row, expander 0 at the top, an end device at the last.
+fn row(route_indexes: impl Fn(usize) -> u16) -> Vec<u8> {
+    file(
+        (0..64)
+            .map(|i| {
+                let mut expander = Expander::new(e(i), route_indexes(i), i < 63);
+                expander = match i {
+                    0 => expander.empty(DIRECT),
+                    _ => expander.link(SUBTRACTIVE, e(i - 1), 1),
+                };
+                match i {
+                    63 => expander.drive(DIRECT, d(63, 1)),
+                    _ => expander.link(TABLE, e(i + 1), 0),
+                }
+            })
+            .collect(),
+    )
+}
+
+/// 63 expanders at one hub, an end device at each.
+fn star(hub: usize, route_indexes: u16) -> Vec<u8> {
+    let leaves: Vec<usize> = (0..64).filter(|&i| i != hub).collect();
+    file(
+        (0..64)
+            .map(|i| {
+                if i == hub {
+                    leaves
+                        .iter()
+                        .fold(Expander::new(e(i), route_indexes, true), |hub, &leaf| {
+                            hub.link(TABLE, e(leaf), 0)
+                        })
+                } else {
+                    let phy = leaves.iter().position(|&leaf| leaf == i).expect("a leaf");
+                    Expander::new(e(i), 0, false)
+                        .link(SUBTRACTIVE, e(hub), phy as u8)
+                        .drive(DIRECT, d(i, 1))
+                }
+            })
+            .collect(),
+    )
+}
+
+/// The typed answers of the Rust binding.
+pub fn typed() -> Done {
+    use metzurgo::{Discover, General, Outcome, Refusal, Route, Tables, Trace};
+
+    fn equal<T: PartialEq + std::fmt::Debug>(what: &str, expected: T, got: T) -> Done {
+        if expected == got {
+            return Ok(());
+        }
+        Err(Difference {
+            what: what.into(),
+            expected: format!("{expected:?}"),
+            got: format!("{got:?}"),
+        })
+    }
+    fn refusal(number: u8, expander: u8, phy: u8) -> Refusal {
+        Refusal {
+            number,
+            expander,
+            phy,
+        }
+    }
+
+    let rig = pair_rig();
+    let mut words = [7; 5];
+    equal("wire", Ok(2), metzurgo::wire(&rig, &mut words))?;
+    equal("wire", [2, 1, 7, 7, 7], words)?;
+    equal(
+        "wire",
+        Err(refusal(16, 0, 0)),
+        metzurgo::wire(&rig, &mut words[..1]),
+    )?;
+    equal("judge", Ok(2), metzurgo::judge(&rig))?;
+    equal("judge", Err(refusal(1, 1, 2)), metzurgo::judge(&rig[..333]))?;
+    let written = Tables {
+        tables: 1,
+        words: 4,
+    };
+    equal("tables", Ok(written), metzurgo::tables(&rig, &mut words))?;
+    equal("tables", [B1, 0, 0, 0, 7], words)?;
+    let mut passed = [7; 3];
+    for (start, arrival, address, outcome, last, phy, count) in [
+        (0, 255, B1, Outcome::Arrived, 1, Some(1), 2),
+        (1, 1, A1, Outcome::Arrived, 0, Some(1), 2),
+        (1, 255, X10, Outcome::Arrived, 0, None, 2),
+        (1, 255, FF, Outcome::NoDestination, 0, None, 2),
+        (1, 1, B1, Outcome::BadDestination, 1, None, 1),
+    ] {
+        let expected = Trace {
+            outcome,
+            last,
+            phy,
+            count,
+        };
+        let got = metzurgo::trace(&rig, &words, start, arrival, address, &mut passed);
+        equal("trace", Ok(expected), got)?;
+    }
+    equal("trace", [1, 0, 7], passed)?;
+    equal(
+        "trace",
+        Err(refusal(17, 0, 0)),
+        metzurgo::trace(&rig, &words, 0, 255, 0, &mut passed),
+    )?;
+    let mut buf = [7; 50];
+    let frame = metzurgo::write_route(&mut buf, 3, 0x0405, B1).map(|frame| frame.to_vec());
+    let route = Route {
+        phy: 3,
+        index: 0x0405,
+        entry: B1,
+    };
+    equal("write_route", Ok(40), frame.as_ref().map(Vec::len))?;
+    equal(
+        "read_route",
+        Ok(route),
+        metzurgo::read_route(&frame.unwrap_or_default()),
+    )?;
+    equal(
+        "write_route",
+        [7; 10],
+        buf[40..].try_into().unwrap_or_default(),
+    )?;
+    equal(
+        "write_route",
+        Some(refusal(15, 0, 0)),
+        metzurgo::write_route(&mut buf, 128, 0, 0).err(),
+    )?;
+    let general = General {
+        route_indexes: 4,
+        phys: 2,
+        configurable: true,
+    };
+    equal(
+        "read_general",
+        Ok(general),
+        metzurgo::read_general(&rig[10..38]),
+    )?;
+    let phy = Discover::Phy {
+        identifier: 1,
+        device_type: 1,
+        attribute: 0,
+        own: X20,
+        attached: B1,
+        attached_phy: 0,
+    };
+    equal(
+        "read_discover",
+        Ok(phy),
+        metzurgo::read_discover(&rig[230..282]),
+    )?;
+    let mut vacant = rig[230..282].to_vec();
+    vacant[2] = 0x1f;
+    let expected = Discover::Vacant { result: 0x1f };
+    equal(
+        "read_discover",
+        Ok(expected),
+        metzurgo::read_discover(&vacant),
+    )?;
+    equal(
+        "read_discover",
+        Err(refusal(1, 0, 0)),
+        metzurgo::read_discover(&[]),
+    )?;
+    Ok(())
+}

@@ -1,0 +1,124 @@
+/*
+ * Metzurgo: SAS domain files, route tables and request tracing.
+ *
+ * Every slice is a pointer and a length (in elements). Each pointer must be
+ * valid and aligned for its length; a lent buffer must not overlap the file or
+ * another buffer of the same call. Nothing is kept after a call returns.
+ *
+ * Refusals: bit 63 of the answer is set, and the answer is
+ *     2^63 + number * 65536 + expander * 256 + phy.
+ * After a refusal every lent buffer holds what it held before.
+ */
+#ifndef METZURGO_H
+#define METZURGO_H
+
+#include <stddef.h>
+#include <stdint.h>
+
+#ifdef __cplusplus
+extern "C" {
+#endif
+
+/* Bit 63: set in every refusal and in no other answer. */
+#define METZURGO_REFUSED ((uint64_t)1 << 63)
+/* Bit 62: set in the answer of metzurgo_read_discover for a vacant phy. */
+#define METZURGO_VACANT ((uint64_t)1 << 62)
+
+/* The parts of a refusal. */
+#define METZURGO_NUMBER(answer) ((unsigned)((answer) >> 16 & 0xff))
+#define METZURGO_EXPANDER(answer) ((unsigned)((answer) >> 8 & 0xff))
+#define METZURGO_PHY(answer) ((unsigned)((answer) & 0xff))
+
+/* Outcomes of a trace. */
+#define METZURGO_ARRIVED 0
+#define METZURGO_NO_DESTINATION 1
+#define METZURGO_BAD_DESTINATION 2
+
+/*
+ * Wiring. Tests causes 1 to 10, then 16 (fewer words than expanders). Writes
+ * one word for each expander: the bit worth 2^j is set when expander j is a
+ * neighbour. Later words stay. Answer: the number of bits set in all.
+ */
+uint64_t metzurgo_wire(const uint8_t *file, size_t file_len,
+                       uint64_t *words, size_t words_len);
+
+/*
+ * Judging. Tests causes 1 to 14. Answer: the number of expanders.
+ */
+uint64_t metzurgo_judge(const uint8_t *file, size_t file_len);
+
+/*
+ * Tables. Tests causes 1 to 14, then 16 (fewer words than the sum of the route
+ * indexes over the non-vacant table phys). Writes the tables by expander and
+ * then phy; later words stay. Answer: tables * 2^32 + words.
+ */
+uint64_t metzurgo_tables(const uint8_t *file, size_t file_len,
+                         uint64_t *words, size_t words_len);
+
+/*
+ * Tracing a connection request over the table words given. Tests causes 1 to
+ * 14, then 15 (start expander, or arrival phy neither 255 nor attached to an
+ * end device), 16 (fewer table words than needed, or fewer bytes in `passed`
+ * than expanders), 17 (address zero). Writes the numbers of the expanders
+ * passed, in order; later bytes stay.
+ * Answer: outcome * 2^24 + last expander * 2^16 + phy * 2^8 + count of
+ * expanders passed. The phy is 255 unless the request arrived at an end device.
+ */
+uint64_t metzurgo_trace(const uint8_t *file, size_t file_len,
+                        const uint64_t *words, size_t words_len,
+                        uint8_t start, uint8_t arrival, uint64_t address,
+                        uint8_t *passed, size_t passed_len);
+
+/*
+ * Writes one CONFIGURE ROUTE INFORMATION request into the first 40 bytes of
+ * `buf`; later bytes stay. Refuses a phy above 127 (15), then fewer than 40
+ * bytes (16). Answer: 40.
+ */
+uint64_t metzurgo_write_route(uint8_t *buf, size_t buf_len,
+                              uint8_t phy, uint16_t index, uint64_t entry);
+
+/*
+ * Reads a CONFIGURE ROUTE INFORMATION request. Refuses any length but 40 (1),
+ * wrong bytes 0 and 1 (2), a phy above 127 (15).
+ * Answer: phy * 65536 + route index.
+ */
+uint64_t metzurgo_read_route(const uint8_t *frame, size_t len);
+
+/*
+ * The entry of the same request: 0 when bit 7 of byte 12 is set, and 0 where
+ * metzurgo_read_route refuses.
+ */
+uint64_t metzurgo_read_route_entry(const uint8_t *frame, size_t len);
+
+/*
+ * Reads a REPORT GENERAL response by itself. Refuses any length but 28 (1) and
+ * wrong bytes 0 to 3 (2).
+ * Answer: route indexes * 65536 + number of phys * 256 + configurable bit.
+ */
+uint64_t metzurgo_read_general(const uint8_t *frame, size_t len);
+
+/*
+ * Reads a DISCOVER response by itself. Refuses any length but 52 (1) and wrong
+ * bytes 0, 1 and 3 (2). Answer: 2^62 + result where the result is not zero
+ * (vacant phy), else phy identifier * 2^32 + attached device type * 2^24 +
+ * routing attribute * 2^16 + attached phy identifier.
+ */
+uint64_t metzurgo_read_discover(const uint8_t *frame, size_t len);
+
+/*
+ * The expander's own SAS address in the same response; 0 where it is refused
+ * or vacant.
+ */
+uint64_t metzurgo_discover_own(const uint8_t *frame, size_t len);
+
+/*
+ * The attached SAS address in the same response; 0 where it is refused or
+ * vacant.
+ */
+uint64_t metzurgo_discover_attached(const uint8_t *frame, size_t len);
+
+#ifdef __cplusplus
+}
+#endif
+
+#endif
