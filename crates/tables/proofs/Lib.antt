@@ -12,3 +12,4 @@ pub mod Fills
 pub mod Puts
 pub mod Over
 pub mod Judging
+pub mod Worked

@@ -1,0 +1,50 @@
+-- Worked examples of 07-300r1: tables 3 and 4, on figure 50 with two expanders below E0 and two drives at each.
+use Prim.Native.Nat.{ℕ}
+use mathlib.Core.Path.{_≡_, refl}
+use mathlib.Core.List.{List, [], _∷_, map, flatMap}
+use lib.ListN.{replicate}
+use Rattle.wiring.specs.declared.Phy.{Phy}
+use Rattle.wiring.specs.declared.Phy.the-variants.{Vacant, Present}
+use Rattle.wiring.specs.Frames.{Result, good}
+use Rattle.wiring.specs.Lists.{numbers, any, keep, isIn}
+use Rattle.wiring.specs.Domain.{Domain, numberOf}
+use Rattle.wiring.specs.Causes.{unanswered, endAt, claimed, clash, clashing, fixed, phyPlaces, placesFrom, firstIn, wiredDomain}
+use Rattle.wiring.specs.Graph.{strip, reach}
+use Rattle.wiring.specs.Neighbours.{cabled, neighbours}
+use Rattle.wiring.specs.Links.{unlooped, joined, joinedIn, tableToTable, linkedDomain}
+use Rattle.tables.specs.Levels.{once, belowPhys, below, nextLevel, levelsFrom, levels}
+use Rattle.tables.specs.Tables.{heldBy, gives, give, giveAll, levelList, table}
+use Rattle.tables.specs.Judge.{overlong, judgedDomain}
+
+-- attached device type, routing attribute, attached address, attached phy
+abbrev phy : ℕ → ℕ → ℕ → ℕ → Phy
+phy type attribute address far = Present (record { device = type; attribute = attribute; address = address; far = record { 0 = far } })
+
+-- expanders F, E0, E1, E2 with addresses 1 to 4; drives D11, D12 with 11 and 12 at E1, D21, D22 with 21 and 22 at E2
+pub figure50 : Domain
+figure50 =
+    record { address = 1; indexes = 8; configurable = 1; phys = phy 2 2 2 0 ∷ [] }
+    ∷ record { address = 2; indexes = 4; configurable = 1; phys = phy 3 1 1 0 ∷ phy 2 2 3 0 ∷ phy 2 2 4 0 ∷ [] }
+    ∷ record { address = 3; indexes = 0; configurable = 0; phys = phy 2 1 2 1 ∷ phy 1 0 11 0 ∷ phy 1 0 12 0 ∷ [] }
+    ∷ record { address = 4; indexes = 0; configurable = 0; phys = phy 2 1 2 2 ∷ phy 1 0 21 0 ∷ phy 1 0 22 0 ∷ [] }
+    ∷ []
+
+-- it is accepted; table 3: E0 phy 1; table 4: F phy 0
+pub figure-50 : (judgedDomain figure50 ≡ good figure50)
+    × ((table figure50 1 1 ≡ 11 ∷ 12 ∷ 0 ∷ 0 ∷ [])
+    × (table figure50 0 0 ≡ 3 ∷ 4 ∷ 11 ∷ 12 ∷ 21 ∷ 22 ∷ 0 ∷ 0 ∷ []))
+unfolding figure50 numbers any keep isIn numberOf unanswered endAt claimed clash clashing fixed phyPlaces placesFrom firstIn wiredDomain
+    strip reach cabled neighbours unlooped joined joinedIn tableToTable linkedDomain once belowPhys below nextLevel levelsFrom levels heldBy
+    gives give giveAll levelList table overlong judgedDomain flatMap
+figure-50 = (refl, (refl, refl))
+
+-- from figure 50: an empty direct phy gives a disabled entry, a vacant phy none, and each direct phy of a wide drive one
+pub figure50′ : Domain
+figure50′ =
+    record { address = 1; indexes = 4; configurable = 1; phys = phy 2 2 2 0 ∷ [] }
+    ∷ record { address = 2; indexes = 0; configurable = 0; phys = phy 3 1 1 0 ∷ phy 0 0 9 9 ∷ Vacant 7 ∷ phy 1 0 11 0 ∷ phy 1 0 11 1 ∷ [] }
+    ∷ []
+
+pub other-phys : table figure50′ 0 0 ≡ 0 ∷ 11 ∷ 11 ∷ 0 ∷ []
+unfolding figure50′ numbers any keep isIn numberOf once belowPhys below nextLevel levelsFrom levels heldBy gives give giveAll levelList table flatMap
+other-phys = refl
