@@ -102,6 +102,23 @@ pub gives-by : (d : Domain) (x : ℕ) (l : List ℕ) (φ : Phy) {b₁ b₂ b₃ 
 unfolding gives
 gives-by d x l φ q₁ q₂ q₃ q₄ = rw (q₁, q₂, q₃, q₄)
 
+and-false : (b : Bool) → (b && false) ≡ false
+and-false true = refl
+and-false false = refl
+
+and-true : (b : Bool) → (b && true) ≡ b
+and-true true = refl
+and-true false = refl
+
+-- an attached phy that is not direct: nothing where its address is in the list, else its word unless x holds the address
+pub gives-listed : (d : Domain) (x : ℕ) (l : List ℕ) (φ : Phy) → eqb (attributeOf φ) 0 ≡ false → eqb (typeOf φ) 0 ≡ false
+    → isIn (addressOf φ) l ≡ true → gives d x l φ ≡ false
+gives-listed d x l φ a t i = gives-by d x l φ a t refl i ∙ and-false (not (heldBy d x (addressOf φ)))
+
+pub gives-new : (d : Domain) (x : ℕ) (l : List ℕ) (φ : Phy) → eqb (attributeOf φ) 0 ≡ false → eqb (typeOf φ) 0 ≡ false
+    → isIn (addressOf φ) l ≡ false → gives d x l φ ≡ not (heldBy d x (addressOf φ))
+gives-new d x l φ a t i = gives-by d x l φ a t refl i ∙ and-true (not (heldBy d x (addressOf φ)))
+
 pub give-by : (d : Domain) (x : ℕ) (l : List ℕ) (φ : Phy) {b : Bool} → gives d x l φ ≡ b → giveAll d x l (φ ∷ []) ≡ cond b (l ++ (word φ ∷ [])) l
 unfolding give giveAll
 give-by d x l φ q = rw q

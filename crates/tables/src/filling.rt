@@ -76,10 +76,10 @@ fn phy_gives(rows: &[u64], x: ExpanderNumber, list: &[u64], f: Phy) -> bool
         return false;
     }
     let s = wiring::phy_address(f);
-    if is_held(rows, x, s) {
+    if has_word(list, s) {
         return false;
     }
-    !has_word(list, s)
+    !is_held(rows, x, s)
 }
 
 // One phy's word, after the n words so far.

@@ -1,0 +1,4 @@
+pub mod Puts
+pub mod Numbers
+pub mod Marking
+pub mod Chunks

@@ -1,0 +1,26 @@
+use native.Mathlib.Omega.{arith}
+use Rattle.listing.proofs.Puts.{put-then}
+use Rattle.listing.proofs.Numbers.{hex-short}
+use Rattle.listing.specs.Text.{entryOf}
+use borrow.Author.Needs.{needs}
+use Rattle.listing.proofs.text.put_entry.Statement.{statement}
+use Rattle.listing.proofs.text.put_entry.Tie as tie
+
+put-hex-requires : tie.Need-put-hex-requires
+put-hex-requires c κs = search needs
+
+put-byte-requires : tie.Need-put-byte-requires
+put-byte-requires c κs =
+    let u = c .before .before .before .put-hex .ensures in
+    omega (arith, u .next, u .same, hex-short (c .before .before .before .before .before .before .args .w))
+
+same-length : tie.Need-same-length
+same-length c = search needs
+
+returns : tie.Need-returns
+unfolding entryOf
+returns c =
+    put-then (c .before .before .before .before .before .before .put-hex .ensures) (c .before .before .put-byte .ensures) (omega (arith, hex-short (c .before .before .before .before .before .before .before .before .before .args .w)))
+
+pub put-entry-spec : {M : Type 1} → statement M
+put-entry-spec = tie.close (tie.spec put-hex-requires put-byte-requires same-length returns)

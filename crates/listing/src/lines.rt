@@ -1,0 +1,79 @@
+// The lines of table words, in chunks of up to 65,536 bytes.
+use crate::Chunk;
+use crate::marks;
+use crate::text;
+use frames::ExpanderNumber;
+use frames::PhyId;
+use frames::RouteIndex;
+ghost use mathlib.Core.Path.{_≡_};
+ghost use Prim.Native.Nat.{_+_, _≤_, min};
+ghost use lib.ListN.{length};
+ghost use Rattle.tables.specs.Filling.{Put};
+ghost use Rattle.listing.specs.Lines.{lineAt, ChunkPut};
+
+// The line of a table word with this mark, and the place after it.
+fn put_marked(out: &mut [u8], at: usize, mark: u64, w: u64) -> usize
+    requires { ⌜ at + 80 ≤ length (now out) ⌝ }
+    ensures { λ r. ⌜ Put (now (out .entry)) (now (out .exit)) at r (lineAt mark w) ⌝ }
+{
+    let i = (mark / 16777216 % 256) as u8;
+    let p = (mark / 65536 % 256) as u8;
+    let k = (mark % 65536) as u16;
+    text::put_line(out, at, ExpanderNumber(i), PhyId(p), RouteIndex(k), w)
+}
+
+// How many words have a mark.
+fn marked(marks: &[u64], words: &[u64]) -> usize
+    ensures { λ r. ⌜ r ≡ min (length (now (marks .entry))) (length (now (words .entry))) ⌝ }
+{
+    if marks.len() < words.len() {
+        return marks.len();
+    }
+    words.len()
+}
+
+// The lines of the words from `from` on, as many as there is room for.
+pub fn put_chunk(marks: &[u64], words: &[u64], from: usize, out: &mut [u8; 65536]) -> Chunk
+    ensures { λ r. ⌜ ChunkPut (now (marks .entry)) (now (words .entry)) from (now (out .entry)) (now (out .exit)) (r .next) (r .end) ⌝ }
+{
+    let n = marked(marks, words);
+    let mut next = from;
+    let mut end: usize = 0;
+    while next < n {
+        if end > 65456 {
+            return Chunk {
+                next: next,
+                end: end,
+            };
+        }
+        end = put_marked(out, end, marks[next], words[next]);
+        next += 1;
+    }
+    Chunk {
+        next: next,
+        end: end,
+    }
+}
+
+// Writes the lines of the words to a descriptor, and answers whether all were written.
+fn print_marked(fd: i32, marks: &[u64], words: &[u64]) -> bool {
+    let n = marked(marks, words);
+    let mut out = io::large_buffer();
+    let mut next: usize = 0;
+    while next < n {
+        let chunk = put_chunk(marks, words, next, &mut out);
+        if !io::write_all(fd, &out[..chunk.end]) {
+            return false;
+        }
+        next = chunk.next;
+    }
+    true
+}
+
+// Writes the lines of the table words of a domain in rows, at most 8,192, and answers whether all
+// were written.
+pub fn print_lines(fd: i32, rows: &[u64], words: &[u64]) -> bool {
+    let mut places = [0u64; 8192];
+    let n = marks::put_marks(rows, &mut places[..]);
+    print_marked(fd, &places[..n], words)
+}

@@ -1,0 +1,40 @@
+// Reads a domain file on standard input and lists the entries of its route tables.
+use tables::TablesGiven;
+use wiring::DomainRead;
+
+// The lines of all entries, and the totals.
+fn print_tables(file: &[u8], words: &[u64], tables: u64, entries: u64) {
+    let mut rows = [0u64; 16512];
+    let read = wiring::read_domain(file, &mut rows[..]);
+    match read {
+        DomainRead::Refused(_) => {}
+        DomainRead::Expanders(n) => {
+            let e = 258 * (n as usize);
+            if listing::print_lines(1, &rows[..e], words) {
+                let mut line = [0u8; 80];
+                let end = listing::totals(&mut line, tables, entries);
+                io::write_all(1, &line[..end]);
+            }
+        }
+    }
+}
+
+fn main() {
+    let mut file = [0u8; 65537];
+    let mut line = [0u8; 80];
+    let n = io::read_full(0, &mut file[..]);
+    if n > 65536 {
+        let end = listing::too_long(&mut line);
+        io::write_all(1, &line[..end]);
+        return;
+    }
+    let mut words = [0u64; 8192];
+    let given = tables::give_tables(&file[..n], &mut words[..]);
+    match given {
+        TablesGiven::Refused(r) => {
+            let end = listing::refused(&mut line, r);
+            io::write_all(1, &line[..end]);
+        }
+        TablesGiven::Counts(t, w) => print_tables(&file[..n], &words[..], t as u64, w as u64),
+    }
+}
