@@ -12,6 +12,9 @@ use crate::vectors;
 /// How long one call of one version is measured.
 const LONG_ENOUGH: Duration = Duration::from_millis(400);
 
+/// A call is not repeated after this time.
+const TOO_LONG: Duration = Duration::from_secs(5);
+
 struct Case {
     name: &'static str,
     file: Vec<u8>,
@@ -135,7 +138,8 @@ pub fn run() {
         );
     }
     println!(
-        "The time is the shortest of all calls of each version within {LONG_ENOUGH:?}, at least 3."
+        "The time is the shortest of all calls within {LONG_ENOUGH:?}; a slow call is made 3 times, \
+         or fewer when these take {TOO_LONG:?}."
     );
     println!("No buffer was cleared between calls; the table call writes all its words each time.");
     println!("The fast version takes working memory from the allocator in each call.");
@@ -172,7 +176,7 @@ fn time(mut call: impl FnMut() -> u64) -> Duration {
     let began = Instant::now();
     let mut shortest = Duration::MAX;
     let mut rounds = 0;
-    while rounds < 3 || began.elapsed() < LONG_ENOUGH {
+    while began.elapsed() < LONG_ENOUGH || (rounds < 3 && began.elapsed() < TOO_LONG) {
         let start = Instant::now();
         black_box(call());
         shortest = shortest.min(start.elapsed());

@@ -11,6 +11,12 @@ use crate::reference::{self, Attached, Discover, General, Judged, Outcome, Refus
 /// Bytes or words kept before and behind each lent buffer.
 const EDGE: usize = 16;
 
+/// A file longer than this many bytes gets fewer calls.
+const LARGE: usize = 50_000;
+
+/// Time of the calls on one file, about, in nanoseconds.
+const TIME_PER_FILE: usize = 3_000_000;
+
 /// Tables longer than this many words are not written out.
 const MOST_WORDS: usize = 3_000_000;
 
@@ -185,6 +191,7 @@ impl Check<'_> {
         counts.wired_files += wired.is_ok() as u64;
         let needed = neighbours.len();
         let lengths = match wired {
+            Ok(_) if self.file.len() > LARGE => vec![needed - 1, random.between(needed, 70)],
             Ok(_) => vec![
                 0,
                 needed - 1,
@@ -275,11 +282,15 @@ impl Check<'_> {
         let mut lengths = Vec::new();
         if needed > 0 {
             lengths.push((needed - 1).min(MOST_WORDS));
-            lengths.push(0);
         }
         if needed <= MOST_WORDS {
-            lengths.push(needed);
-            lengths.push(needed + random.between(1, 20));
+            lengths.push(needed + random.below(2) * random.between(1, 20));
+        }
+        if self.file.len() <= LARGE {
+            lengths.push(0);
+            if needed <= MOST_WORDS {
+                lengths.push(needed);
+            }
         }
         let words = match needed <= MOST_WORDS {
             true => judged.table_words(),
@@ -306,17 +317,26 @@ impl Check<'_> {
         counts: &mut Counts,
     ) -> Result<(), Difference> {
         let requests = Requests::of(judged, random);
-        let budget = (150_000 / self.file.len()).clamp(4, 100);
+        let calls = TIME_PER_FILE / time_of_a_call(judged);
+        let wild = (calls / 4).clamp(2, 12);
         if judged.needed > MOST_WORDS {
             let words = Lent::new(10, || random.next());
-            return self.wild(judged, &requests, words, 12, random, counts);
+            return self.wild(judged, &requests, words, wild, random, counts);
         }
         let more = random.pick(&[0, 0, 1, 7]);
         let given = judged.table_words();
 
         let mut words = Lent::new(judged.needed + more, || requests.word(random));
         words.part()[..judged.needed].copy_from_slice(&given);
-        self.sample(judged, &requests, &mut words, budget, true, random, counts)?;
+        self.sample(
+            judged,
+            &requests,
+            &mut words,
+            calls.clamp(1, 200),
+            true,
+            random,
+            counts,
+        )?;
 
         // Some entries changed.
         for word in words.part() {
@@ -328,7 +348,7 @@ impl Check<'_> {
             judged,
             &requests,
             &mut words,
-            budget / 4 + 2,
+            (calls / 4).clamp(1, 50),
             false,
             random,
             counts,
@@ -342,13 +362,13 @@ impl Check<'_> {
             judged,
             &requests,
             &mut words,
-            budget / 2 + 2,
+            (calls / 2).clamp(1, 100),
             false,
             random,
             counts,
         )?;
 
-        self.wild(judged, &requests, words, 12, random, counts)
+        self.wild(judged, &requests, words, wild, random, counts)
     }
 
     /// Requests over given words: all of them, or a sample.
@@ -489,6 +509,23 @@ impl Check<'_> {
         }
         words.check(|| "trace, words".into(), &kept)
     }
+}
+
+/// An estimate in nanoseconds for a call that takes all level lists, by
+/// comparing every two phys and every phy with every word of each list.
+fn time_of_a_call(judged: &Judged) -> usize {
+    let expanders = &judged.domain.expanders;
+    let all: usize = expanders.values().map(|expander| expander.phys.len()).sum();
+    let lists: usize = expanders
+        .iter()
+        .flat_map(|(&number, expander)| {
+            expander.phys.keys().map(move |&phy| {
+                let list = judged.list_of((number, phy));
+                list.map_or(0, |list| expander.phys.len() + list.len())
+            })
+        })
+        .sum();
+    15_000 + 3 * all * all + 2 * all * lists
 }
 
 fn refused(number: u8) -> u64 {

@@ -17,10 +17,10 @@ pub struct Made {
     pub way: &'static str,
 }
 
-/// Makes one file. `large` allows the rare files of up to 64 x 128 phys.
-pub fn make(random: &mut Random, large: bool) -> Made {
+/// Makes one file. Most are small; a few have up to 64 x 128 phys.
+pub fn make(random: &mut Random) -> Made {
     let choice = random.below(100);
-    let size = Size::of(random, large);
+    let size = Size::of(random);
     let (way, file) = match choice {
         0..=44 => {
             let mut plan = tree(random, &size).lay_out(random);
@@ -73,16 +73,18 @@ struct Size {
 }
 
 impl Size {
-    fn of(random: &mut Random, large: bool) -> Size {
-        let (low, high, more, width) = match random.below(if large { 1000 } else { 990 }) {
-            0..=99 => (1, 1, (1, 8), 4),
-            100..=699 => (1, 5, (0, 5), 3),
-            700..=919 => (2, 12, (0, 7), 4),
-            920..=979 => (6, 40, (0, 6), 4),
-            980..=989 => (30, 64, (0, 5), 3),
-            990..=995 => (2, 10, (20, 128), 64),
-            996..=998 => (20, 64, (10, 60), 20),
-            _ => (64, 64, (120, 128), 64),
+    fn of(random: &mut Random) -> Size {
+        let (low, high, more, width) = match random.below(100_000) {
+            0..=9_999 => (1, 1, (1, 8), 4),
+            10_000..=69_999 => (1, 5, (0, 5), 3),
+            70_000..=91_999 => (2, 12, (0, 7), 4),
+            92_000..=97_999 => (6, 40, (0, 6), 4),
+            98_000..=99_499 => (30, 64, (0, 5), 3),
+            99_500..=99_749 => (2, 10, (20, 128), 64),
+            99_750..=99_949 => (20, 64, (10, 60), 8),
+            99_950..=99_998 => (64, 64, (90, 128), 4),
+            // Some calls take seconds on these.
+            _ => (60, 64, (110, 128), 40),
         };
         Size {
             expanders: random.between(low, high),

@@ -680,8 +680,8 @@ impl Judged {
         self.domain.expanders.len()
     }
 
-    /// Nothing for a phy that has no level list, or an empty one.
-    fn list_of(&self, place: Place) -> Option<&Vec<u64>> {
+    /// Nothing for a phy that is not a table phy attached to an expander.
+    pub fn list_of(&self, place: Place) -> Option<&Vec<u64>> {
         let phy = self.domain.phy_at(place)?;
         match phy.attribute {
             Attribute::Table => self.lists.get(&(place.0, self.domain.far_end(phy)?.0)),

@@ -9,20 +9,20 @@ use Rattle.wiring.specs.Frames.{Result, refused, good, then, refusal}
 use Rattle.wiring.specs.Domain.{Domain}
 use Rattle.wiring.specs.File.{limits, domainRead}
 use Rattle.wiring.specs.Causes.{firstOf, wiredDomain}
-use Rattle.wiring.specs.Links.{linkedDomain}
+use Rattle.wiring.specs.Links.{linkedDomain, checkedDomain}
 use Rattle.tables.specs.Tables.{tablePlaces, tables, needed}
 use Rattle.tables.specs.Judge.{overlong, judgedDomain, judged, expandersIn, tablesFor, tableCall, TablesDone}
 use Rattle.tables.specs.declared.TablesGiven.{TablesGiven}
 use Rattle.tables.specs.declared.TablesGiven.the-variants.{Refused, Counts}
 
--- causes 7 to 14 of a domain
-pub judge-wired : (d : Domain) (r : Refusal) → wiredDomain d ≡ refused r → judgedDomain d ≡ refused r
-unfolding judgedDomain
-judge-wired d r e = rw e
+then-then : {A B C : Type 0} (x : Result A) (y : Result B) (z : Result C) → then x (λ _. then y (λ _. z)) ≡ then (then x (λ _. y)) (λ _. z)
+then-then (refused r) y z = refl
+then-then (good a) y z = refl
 
-pub judge-linked : (d e : Domain) (x : Result Domain) → wiredDomain d ≡ good e → linkedDomain d ≡ x → judgedDomain d ≡ then x (λ _. firstOf 14 (overlong d) d)
-unfolding judgedDomain
-judge-linked d e x q p = rw (q, p)
+-- causes 7 to 14 of a domain
+pub judge-checked : (d : Domain) (x : Result Domain) → checkedDomain d ≡ x → judgedDomain d ≡ then x (λ _. firstOf 14 (overlong d) d)
+unfolding judgedDomain checkedDomain
+judge-checked d x e = then-then (wiredDomain d) (linkedDomain d) (firstOf 14 (overlong d) d) ∙ ap (λ y. then y (λ _. firstOf 14 (overlong d) d)) e
 
 -- the judging call
 pub judge-refused : (file : List ℕ) (r : Refusal) → domainRead limits file ≡ refused r → refused r ≡ then (judged file) expandersIn

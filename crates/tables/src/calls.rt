@@ -19,16 +19,10 @@ ghost use Rattle.tables.specs.Judge.{judgedDomain, judged, judgeAnswer, 
 pub fn judge_rows(rows: &[u64]) -> Check
     ensures { λ r. ⌜ checkAnswer (domainIn (now (rows .entry))) r ≡ judgedDomain (domainIn (now (rows .entry))) ⌝ }
 {
-    let wired = wiring::check_wiring(rows);
-    match wired {
+    let checked = wiring::check_domain(rows);
+    match checked {
         Check::Refused(r) => Check::Refused(r),
-        Check::Passed => {
-            let linked = wiring::check_links(rows);
-            match linked {
-                Check::Refused(r) => Check::Refused(r),
-                Check::Passed => overlong::first_overlong(rows),
-            }
-        }
+        Check::Passed => overlong::first_overlong(rows),
     }
 }
 

@@ -17,7 +17,7 @@ use Rattle.wiring.specs.Causes.{firstOf, wiredDomain}
 use Rattle.wiring.specs.Graph.{loopfree}
 use Rattle.wiring.specs.Neighbours.{neighbours, neighbourWord, neighbourWords, bitsIn, wordsFor, wordsAfter, wiringCall, WiringDone}
 use Rattle.wiring.specs.File.{limits, domainRead}
-use Rattle.wiring.specs.Links.{unlooped, joinedIn, tableToTable, linkedDomain}
+use Rattle.wiring.specs.Links.{unlooped, joinedIn, tableToTable, linkedDomain, checkedDomain}
 use Rattle.wiring.specs.Rounds.{Held}
 use Rattle.wiring.proofs.NeighbourWords.{getD-numbers, length-words}
 
@@ -44,6 +44,11 @@ module _ (d : Domain) where
       → linkedDomain d ≡ then x (λ _. firstOf 13 (tableToTable d) d)
   unfolding linkedDomain unlooped
   links-joined x q e = rw (q, e)
+
+  -- causes 7 to 13
+  pub checked-by : (x : Result Domain) → wiredDomain d ≡ x → checkedDomain d ≡ then x (λ _. linkedDomain d)
+  unfolding checkedDomain
+  checked-by x e = rw e
 
   -- the wiring call past causes 1 to 6
   module _ (room : ℕ) (before : List ℕ) where

@@ -19,3 +19,4 @@ pub mod NeighbourWords
 pub mod Bitsets
 pub mod Calls
 pub mod Opened
+pub mod Worked

@@ -6,7 +6,7 @@ use lib.ListN.{length}
 use Rattle.frames.specs.Refusals.{Result, refused, good, unless, then, refusal}
 use Rattle.wiring.specs.Lists.{upTo}
 use Rattle.wiring.specs.Domain.{Domain, phyAt, routes, toExpander}
-use Rattle.wiring.specs.Causes.{farPhy, firstOf}
+use Rattle.wiring.specs.Causes.{farPhy, firstOf, wiredDomain}
 use Rattle.wiring.specs.Graph.{loopfree, reached}
 use Rattle.wiring.specs.Neighbours.{neighbours}
 
@@ -33,3 +33,7 @@ linkedDomain d =
     then (unlooped d) (λ _.
     then (joinedIn (upTo (length d)) d) (λ _.
     firstOf 13 (tableToTable d) d))
+
+-- causes 7 to 13 in order
+unfoldable pub checkedDomain : Domain → Result Domain
+checkedDomain d = then (wiredDomain d) (λ _. linkedDomain d)

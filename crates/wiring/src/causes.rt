@@ -229,7 +229,7 @@ pub(crate) fn first_of(rows: &[u64], k: u8) -> Check
 }
 
 // Causes 7 to 10 in order, each over all rows.
-pub fn check_wiring(rows: &[u64]) -> Check
+pub(crate) fn check_wiring(rows: &[u64]) -> Check
     ensures { λ r. ⌜ checkAnswer (domainIn (now (rows .entry))) r ≡ wiredDomain (domainIn (now (rows .entry))) ⌝ }
 {
     let unanswered = first_of(rows, 7);

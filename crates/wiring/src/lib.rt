@@ -9,10 +9,9 @@ mod units;
 mod view;
 mod wiring_call;
 
-pub use causes::check_wiring;
 use frames::PhyId;
 use frames::Refusal;
-pub use links::check_links;
+pub use links::check_domain;
 pub use rows::read_domain;
 pub use view::configurable_bit;
 pub use view::expander_address;

@@ -13,7 +13,7 @@ ghost use Rattle.wiring.specs.Lists.{upTo};
 ghost use Rattle.wiring.specs.Rows.{domainIn};
 ghost use Rattle.wiring.specs.Graph.{loopfree};
 ghost use Rattle.wiring.specs.Neighbours.{neighbours};
-ghost use Rattle.wiring.specs.Links.{joinedIn, linkedDomain};
+ghost use Rattle.wiring.specs.Links.{joinedIn, linkedDomain, checkedDomain};
 ghost use Rattle.wiring.specs.Checks.{checkAnswer};
 ghost use Rattle.wiring.specs.Rounds.{Held};
 
@@ -38,7 +38,7 @@ fn check_joined(rows: &[u64], words: &[u64]) -> Check
     let seen = rounds::run_rounds(rows, words, 12, 1);
     let mut i: u8 = 0;
     while i < n {
-        if !rounds::has(seen, i) {
+        if !rounds::has(seen, ExpanderNumber(i)) {
             return Check::Refused(Refusal {
                 number: 12,
                 expander: ExpanderNumber(i),
@@ -51,7 +51,7 @@ fn check_joined(rows: &[u64], words: &[u64]) -> Check
 }
 
 // Causes 11 to 13 in order.
-pub fn check_links(rows: &[u64]) -> Check
+fn check_links(rows: &[u64]) -> Check
     ensures { λ r. ⌜ checkAnswer (domainIn (now (rows .entry))) r ≡ linkedDomain (domainIn (now (rows .entry))) ⌝ }
 {
     let mut words = [0u64; 64];
@@ -67,5 +67,16 @@ pub fn check_links(rows: &[u64]) -> Check
     match joined {
         Check::Refused(r) => Check::Refused(r),
         Check::Passed => causes::first_of(rows, 13),
+    }
+}
+
+// Causes 7 to 13 in order.
+pub fn check_domain(rows: &[u64]) -> Check
+    ensures { λ r. ⌜ checkAnswer (domainIn (now (rows .entry))) r ≡ checkedDomain (domainIn (now (rows .entry))) ⌝ }
+{
+    let wired = causes::check_wiring(rows);
+    match wired {
+        Check::Refused(r) => Check::Refused(r),
+        Check::Passed => check_links(rows),
     }
 }

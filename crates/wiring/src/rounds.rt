@@ -1,5 +1,6 @@
 // Rounds over sets of expanders, held as 64-bit words with a bit for each expander.
 use crate::view;
+use frames::ExpanderNumber;
 ghost use mathlib.Core.Path.{_≡_};
 ghost use Prim.Native.Nat.{_≤_, _<_};
 ghost use lib.ListN.{length};
@@ -8,12 +9,12 @@ ghost use Rattle.wiring.specs.Rows.{domainIn};
 ghost use Rattle.wiring.specs.Neighbours.{neighbours, setOf};
 ghost use Rattle.wiring.specs.Rounds.{hasBit, members, SetBelow, Held, nextTest, nextSet, RoundsRun};
 
-// Whether bit j of a set is set.
-pub(crate) fn has(set: u64, j: u8) -> bool
-    requires { ⌜ j < 64 ⌝ }
-    ensures { λ r. ⌜ r ≡ hasBit set j ⌝ }
+// Whether expander j is in a set.
+pub(crate) fn has(set: u64, j: ExpanderNumber) -> bool
+    requires { ⌜ j .0 < 64 ⌝ }
+    ensures { λ r. ⌜ r ≡ hasBit set (j .0) ⌝ }
 {
-    (set >> j) & 1 == 1
+    (set >> j.0) & 1 == 1
 }
 
 // The set of all n expanders.
@@ -28,9 +29,9 @@ pub(crate) fn all_of(n: u8) -> u64
 }
 
 // Whether expander v belongs to the next set, in a round of cause k. `word` has its neighbours.
-fn is_next(k: u8, word: u64, set: u64, v: u8) -> bool
-    requires { ⌜ v < 64 ⌝ }
-    ensures { λ r. ⌜ r ≡ nextTest k word set v ⌝ }
+fn is_next(k: u8, word: u64, set: u64, v: ExpanderNumber) -> bool
+    requires { ⌜ v .0 < 64 ⌝ }
+    ensures { λ r. ⌜ r ≡ nextTest k word set (v .0) ⌝ }
 {
     let near = u64::count_ones(set & word);
     if k == 11 {
@@ -58,7 +59,7 @@ fn round(rows: &[u64], words: &[u64], k: u8, set: u64) -> u64
     let mut v: u8 = 0;
     while v < n {
         let at = v as usize;
-        if is_next(k, words[at], set, v) {
+        if is_next(k, words[at], set, ExpanderNumber(v)) {
             next = next | (1u64 << v);
         }
         v += 1;

@@ -6,11 +6,14 @@ use borrow.Author.Needs.{needs}
 use Rattle.wiring.proofs.rounds.has.Statement.{statement}
 use Rattle.wiring.proofs.rounds.has.Tie as tie
 
+cast-result : tie.Need-cast-result
+cast-result c = search needs
+
 shr-result : tie.Need-shr-result
 shr-result c = search needs
 
 returns : tie.Need-returns
-returns c = ap (λ (x : ℕ). eqb x 1) (and-mask (c .args .set / 2 ^ c .args .j) 1)
+returns c = ap (λ (x : ℕ). eqb x 1) (and-mask (c .before .args .set / 2 ^ c .before .args .j .0) 1)
 
 pub has-spec : {M : Type 1} → statement M
-has-spec = tie.close (tie.spec shr-result returns)
+has-spec = tie.close (tie.spec cast-result shr-result returns)

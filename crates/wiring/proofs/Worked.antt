@@ -1,0 +1,32 @@
+-- Worked examples: expanders cabled to themselves pass causes 7 to 10, and neighbour themselves.
+use Prim.Native.Nat.{ℕ}
+use mathlib.Core.Path.{_≡_, refl}
+use mathlib.Core.List.{List, [], _∷_, map}
+use lib.Count.{ones, onesIn}
+use Rattle.frames.specs.Refusals.{Result, refused, good, refusal}
+use Rattle.wiring.specs.declared.Phy.{Phy}
+use Rattle.wiring.specs.declared.Phy.the-variants.{Present}
+use Rattle.wiring.specs.Lists.{numbers, any, keep, isIn}
+use Rattle.wiring.specs.Domain.{Domain, numberOf}
+use Rattle.wiring.specs.Causes.{unanswered, endAt, claimed, clash, clashing, fixed, phyPlaces, placesFrom, firstIn, wiredDomain}
+use Rattle.wiring.specs.Graph.{strip, reach}
+use Rattle.wiring.specs.Neighbours.{cabled, neighbours, setOf, neighbourWord, neighbourWords, bitsIn}
+use Rattle.wiring.specs.Links.{unlooped, joined, joinedIn, tableToTable, linkedDomain}
+
+-- one expander with address 1: a subtractive phy at its own address, with this far phy
+abbrev self : ℕ → Phy
+self far = Present (record { device = 2; attribute = 1; address = 1; far = record { 0 = far } })
+
+abbrev bench : List Phy → Domain
+bench φs = record { address = 1; indexes = 0; configurable = 0; phys = φs } ∷ []
+
+-- a domain passes 7 to 10, has one bit in all, its own, and is a loop
+abbrev SelfCabled : Domain → Type 0
+SelfCabled d =
+    (wiredDomain d ≡ good d) × ((neighbourWords d ≡ 1 ∷ []) × ((bitsIn (neighbourWords d) ≡ 1) × (linkedDomain d ≡ refused (refusal 11 0 0))))
+
+-- a phy that names itself, and two phys that name each other
+pub self-cabled : SelfCabled (bench (self 0 ∷ [])) × SelfCabled (bench (self 1 ∷ self 0 ∷ []))
+unfolding numbers any keep isIn numberOf unanswered endAt claimed clash clashing fixed phyPlaces placesFrom firstIn wiredDomain strip reach cabled
+    neighbours setOf neighbourWord neighbourWords bitsIn unlooped joined joinedIn tableToTable linkedDomain ones onesIn
+self-cabled = ((refl, (refl, (refl, refl))), (refl, (refl, (refl, refl))))
