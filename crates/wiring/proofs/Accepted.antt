@@ -347,11 +347,11 @@ clash-attribute φ ψ t u e n =
     let other = not-T (eqb (attributeOf φ) (attributeOf ψ)) (λ o. n (eqb→eq (attributeOf φ) (attributeOf ψ) o)) in
     rw (is-true (eqb (addressOf φ) (addressOf ψ)) (eq→eqb (addressOf φ) (addressOf ψ) e)) (search tests)
 
-clash-address : (φ ψ : Phy) → T (attached φ) → T (attached ψ) → T (routes 1 φ) → T (routes 1 ψ) → addressOf φ ≢ addressOf ψ → T (clash φ ψ)
+pub clash-address : (φ ψ : Phy) → T (attached φ) → T (attached ψ) → T (routes 1 φ) → T (routes 1 ψ) → addressOf φ ≢ addressOf ψ → T (clash φ ψ)
 unfolding clash
 clash-address φ ψ t u x y n = rw (is-false (eqb (addressOf φ) (addressOf ψ)) (λ o. n (eqb→eq (addressOf φ) (addressOf ψ) o))) (search tests)
 
-clash-why : (φ ψ : Phy) → (T (attached φ) → T (attached ψ) → addressOf φ ≡ addressOf ψ → attributeOf φ ≡ attributeOf ψ)
+pub clash-why : (φ ψ : Phy) → (T (attached φ) → T (attached ψ) → addressOf φ ≡ addressOf ψ → attributeOf φ ≡ attributeOf ψ)
     → (T (attached φ) → T (attached ψ) → T (routes 1 φ) → T (routes 1 ψ) → addressOf φ ≡ addressOf ψ) → T (clash φ ψ) → ⊥
 unfolding clash
 clash-why φ ψ k o c = go (eqb (addressOf φ) (addressOf ψ)) refl (search tests)
@@ -365,6 +365,13 @@ clash-why φ ψ k o c = go (eqb (addressOf φ) (addressOf ψ)) refl (search test
     go : (b : Bool) → eqb (addressOf φ) (addressOf ψ) ≡ b → T (cond b (not (eqb (attributeOf φ) (attributeOf ψ))) (routes 1 φ && routes 1 ψ)) → ⊥
     go true e v = T-not (eqb (attributeOf φ) (attributeOf ψ)) v (search (tests, k t u))
     go false e v = subst T e (eq→eqb (addressOf φ) (addressOf ψ) (o t u (search tests) (search tests)))
+
+-- a clash with a lower phy
+pub lower-clash : (d : Domain) (i p q : ℕ) → q < p → T (clash (phyAt d i p) (phyAt d i q)) → T (clashing d i p)
+unfolding clashing
+lower-clash d i p q h c =
+    let r = in-range d i p (clash-attached (phyAt d i p) (phyAt d i q) c) .1 in
+    any-of (clash (phyAt d i p)) (take p (expanderAt d i .phys)) (phyAt d i q) (in-take (expanderAt d i .phys) (Vacant 0) q p h (omega arith)) c
 
 -- past causes 1 to 6, none of 7 to 10 holds of a phy exactly when the domain is wired
 module _ (most : Limits) (d : Domain) (g : Read most d) (s : Passed d) where
@@ -407,11 +414,7 @@ module _ (most : Limits) (d : Domain) (g : Read most d) (s : Passed d) where
       s .eight j q (search tests)
 
   no-clash : (i p q : ℕ) → q < p → T (clash (phyAt d i p) (phyAt d i q)) → ⊥
-  unfolding clashing
-  no-clash i p q h c =
-      let r = in-range d i p (clash-attached (phyAt d i p) (phyAt d i q) c) .1 in
-      s .nine i p
-      (any-of (clash (phyAt d i p)) (take p (expanderAt d i .phys)) (phyAt d i q) (in-take (expanderAt d i .phys) (Vacant 0) q p h (omega arith)) c)
+  no-clash i p q h c = s .nine i p (lower-clash d i p q h c)
 
   -- two phys of one expander, of which either may be the lower
   either : (i p q : ℕ) → T (clash (phyAt d i p) (phyAt d i q)) → T (clash (phyAt d i q) (phyAt d i p)) → p ≢ q → ⊥

@@ -1,23 +1,23 @@
 -- Rounds over sets: the words that the code holds are the lists of the definitions.
-use Prim.Native.Nat.{ℕ, zero, suc, _+_, _-_, _*_, _/_, _%_, _^_, _≤_, _<_}
+use Prim.Native.Nat.{ℕ, zero, suc, _+_, _-_, _/_, _^_, _≤_, _<_}
 use mathlib.Core.Path.{_≡_, refl, sym, _∙_, ap, ap₂}
 use mathlib.Core.Bool.{Bool, true, false, cond, _||_, _&&_}
-use mathlib.Core.List.{List, [], _∷_, _++_}
+use mathlib.Core.List.{List, [], _∷_}
 use native.Mathlib.Omega.{arith}
-use lib.ListN.{length, getD}
-use lib.Dec.{T, eqb, leb}
+use lib.ListN.{length}
+use lib.Dec.{eqb, leb}
 use lib.Bits.{bitAnd, and-mask}
 use lib.Count.{ones}
 use lib.Pow.{pow-pos, ones-split, ones-lt, high}
 use native.Mathlib.Nat.{pow-suc}
-use borrow.Author.Tests.{eq-eqb, ne-eqb, le-leb, lt-leb}
-use Rattle.wiring.specs.Lists.{numbers, upTo, any, keep, isIn, In}
+use borrow.Author.Tests.{eq-eqb, ne-eqb, le-leb}
+use Rattle.wiring.specs.Lists.{numbers, upTo, any, keep, isIn}
 use Rattle.wiring.specs.Domain.{Domain}
-use Rattle.wiring.specs.Graph.{Symmetric, two, isNil, stays, strip, loopfree, near, reach, reached}
+use Rattle.wiring.specs.Graph.{two, isNil, stays, strip, loopfree, near, reach}
 use Rattle.wiring.specs.Neighbours.{neighbours, setOf, neighbourWord}
 use Rattle.frames.specs.Refusals.{Result, refused, good, refusal}
 use Rattle.wiring.specs.Links.{joined, joinedIn}
-use Rattle.wiring.specs.Rounds.{RoundsRun, hasBit, members, SetBelow, Held, roundTest, nextTest, nextSet, rounds}
+use Rattle.wiring.specs.Rounds.{RoundsRun, hasBit, members, SetBelow, roundTest, nextTest, nextSet, rounds}
 use Rattle.wiring.proofs.Members.{keep-keep, keep-same, isIn-keep, isIn-of, in-upTo, numbers-below, same-test, is-true}
 use Rattle.wiring.proofs.Sets.{wordBelow, bitOf, set-word, ones-word, and-word, word-bit, neighbour-word}
 use Rattle.wiring.proofs.Wires.{adj-symmetric}
@@ -30,12 +30,15 @@ bit-one false = refl
 pub has-bit : (t : ℕ → Bool) (n j : ℕ) → j < n → hasBit (wordBelow t n) j ≡ t j
 has-bit t n j h = ap (λ (x : ℕ). eqb x 1) (sym (and-mask (wordBelow t n / 2 ^ j) 1) ∙ word-bit t n j h) ∙ bit-one (t j)
 
+pub set-bit : (t : ℕ → Bool) (n j : ℕ) → j < n → hasBit (setOf (keep t (upTo n))) j ≡ t j
+set-bit t n j h = ap (λ (x : ℕ). hasBit x j) (set-word t n) ∙ has-bit t n j h
+
 -- the members of a set that a test gives
 pub members-set : (t : ℕ → Bool) (n : ℕ) → members n (setOf (keep t (upTo n))) ≡ keep t (upTo n)
 unfolding members
 members-set t n =
     keep-same (hasBit (setOf (keep t (upTo n)))) t (upTo n)
-    (λ w h. ap (λ (x : ℕ). hasBit x w) (set-word t n) ∙ has-bit t n w (numbers-below n w h))
+    (λ w h. set-bit t n w (numbers-below n w h))
 
 -- such a set holds numbers below n only
 pub set-below : (t : ℕ → Bool) (n : ℕ) → SetBelow n (setOf (keep t (upTo n)))

@@ -1,35 +1,28 @@
 -- The outcomes of the checks in order, and of the wiring call.
-use Prim.Native.Nat.{ℕ, _+_, _≤_, _<_}
+use Prim.Native.Nat.{ℕ, _≤_, _<_}
 use mathlib.Core.Path.{_≡_, refl, sym, _∙_, ap}
 use mathlib.Core.Bool.{true, false}
-use mathlib.Core.List.{List, _++_, map}
-use native.Mathlib.Omega.{arith}
-use lib.ListN.{length, getD, drop, length-append, List·getD-append}
-use lib.Dec.{leb}
+use mathlib.Core.List.{List, _++_}
+use lib.ListN.{length, drop}
 use borrow.Author.Tests.{le-leb, lt-leb}
-use Rattle.frames.specs.Refusals.{Result, refused, good, unless, then, refusal}
+use Rattle.frames.specs.Refusals.{Result, refused, good, then, refusal}
 use Rattle.frames.specs.declared.Refusal.{Refusal}
 use Rattle.wiring.specs.declared.Wiring.{Wiring}
 use Rattle.wiring.specs.declared.Wiring.the-variants.{Refused, Bits}
-use Rattle.wiring.specs.Lists.{numbers, upTo}
+use Rattle.wiring.specs.Lists.{upTo}
 use Rattle.wiring.specs.Domain.{Domain}
 use Rattle.wiring.specs.Causes.{firstOf, wiredDomain}
 use Rattle.wiring.specs.Graph.{loopfree}
-use Rattle.wiring.specs.Neighbours.{neighbours, neighbourWord, neighbourWords, bitsIn, wordsFor, wordsAfter, wiringCall, WiringDone}
+use Rattle.wiring.specs.Neighbours.{neighbours, neighbourWord, neighbourWords, bitsIn, wordsFor, wiringCall, WiringDone}
 use Rattle.wiring.specs.File.{limits, domainRead}
 use Rattle.wiring.specs.Links.{unlooped, joinedIn, tableToTable, linkedDomain, checkedDomain}
 use Rattle.wiring.specs.Rounds.{Held}
-use Rattle.wiring.proofs.NeighbourWords.{getD-numbers, length-words}
+use Rattle.wiring.proofs.NeighbourWords.{length-words, each-held}
 
 -- the neighbour words at the front of lent words
 pub held : (d : Domain) (words rest : List ℕ) → words ≡ neighbourWords d ++ rest → Held d words
 unfolding neighbourWords
-held d words rest e =
-    let l : length (neighbourWords d) ≡ length d = length-words d in
-    record {
-      enough = let m = ap length e ∙ length-append (neighbourWords d) rest in omega arith;
-      word = λ v h. ap (λ s. getD s v 0) e ∙ List·getD-append (neighbourWords d) rest 0 v (omega arith) ∙ getD-numbers (neighbourWord d) (length d) v h;
-    }
+held d words rest e = each-held (neighbourWord d) (length d) words rest e
 
 pub wiring-refused : (room : ℕ) (before : List ℕ) (r : Refusal) (x : Result Domain) → x ≡ refused r → WiringDone (then x (wordsFor room)) (Refused r) before before
 wiring-refused room before r x e = rw e (record { answers = refl; words = refl })

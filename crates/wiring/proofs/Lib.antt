@@ -17,6 +17,10 @@ pub mod Opening
 pub mod Sets
 pub mod NeighbourWords
 pub mod Bitsets
+pub mod Keys
+pub mod EndDevices
+pub mod LowerPhys
+pub mod Cables
 pub mod Calls
 pub mod Opened
 pub mod Worked

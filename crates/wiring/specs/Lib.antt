@@ -10,4 +10,8 @@ pub mod Checks
 pub mod Graph
 pub mod Neighbours
 pub mod Rounds
+pub mod Seen
+pub mod Claims
+pub mod Clashes
+pub mod Cables
 pub mod Links

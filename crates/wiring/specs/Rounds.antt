@@ -24,10 +24,14 @@ members n w = keep (hasBit w) (upTo n)
 abbrev pub SetBelow : ℕ → ℕ → Type 0
 SetBelow n w = w ≡ setOf (members n w)
 
+-- one word for each of n expanders
+pub record WordEach (n : ℕ) (f : ℕ → ℕ) (words : List ℕ) : Type 0 where
+  pub enough : n ≤ length words
+  pub word : (v : ℕ) → v < n → getD words v 0 ≡ f v
+
 -- one neighbour word for each expander
-pub record Held (d : Domain) (words : List ℕ) : Type 0 where
-  pub enough : length d ≤ length words
-  pub word : (v : ℕ) → v < length d → getD words v 0 ≡ neighbourWord d v
+abbrev pub Held : Domain → List ℕ → Type 0
+Held d words = WordEach (length d) (neighbourWord d) words
 
 -- does v belong to the next set, in a round of cause 11 (an expander that stays) or 12 (one that is seen)?
 unfoldable pub roundTest : ℕ → ℕ → (ℕ → ℕ → Bool) → List ℕ → ℕ → Bool

@@ -1,18 +1,18 @@
 // Causes 7 to 10 and 13: what is wrong with one phy, and the lowest phy with which it is.
 use crate::Check;
 use crate::Phy;
+use crate::claims;
+use crate::clashes;
 use crate::view;
 use frames::ExpanderNumber;
 use frames::PhyId;
 use frames::Refusal;
 ghost use mathlib.Core.Path.{_≡_};
-ghost use lib.ListN.{take};
-ghost use Rattle.wiring.specs.Lists.{any};
-ghost use Rattle.wiring.specs.Domain.{expanderAt};
+ghost use mathlib.Core.Logic.{_≢_};
 ghost use Rattle.wiring.specs.Rows.{domainIn};
-ghost use Rattle.wiring.specs.Causes.{farPhy, names, unanswered, endAt, claimed, clash, clashing, fixed, firstOf, wiredDomain};
+ghost use Rattle.wiring.specs.Causes.{farPhy, names, unanswered, fixed, firstOf, wiredDomain};
 ghost use Rattle.wiring.specs.Links.{tableToTable};
-ghost use Rattle.wiring.specs.Checks.{checkAnswer, causeOf, firstAt, toEndWith};
+ghost use Rattle.wiring.specs.Checks.{checkAnswer, causeOf, firstAt};
 
 // The far end of a phy: a vacant phy where it is missing.
 fn far_phy(rows: &[u64], f: Phy) -> Phy
@@ -50,99 +50,6 @@ fn is_unanswered(rows: &[u64], i: ExpanderNumber, p: PhyId) -> bool
     !is_naming(view::expander_address(rows, i), p, g)
 }
 
-// Whether f is attached to the end device with this address.
-fn is_end(s: u64, f: Phy) -> bool
-    ensures { λ r. ⌜ r ≡ toEndWith s f ⌝ }
-{
-    if view::phy_type(f) != 1 {
-        return false;
-    }
-    view::phy_address(f) == s
-}
-
-// Whether expander j has an end device with this address.
-fn is_end_at(rows: &[u64], s: u64, j: ExpanderNumber) -> bool
-    ensures { λ r. ⌜ r ≡ endAt s (expanderAt (domainIn (now (rows .entry))) (j .0)) ⌝ }
-{
-    let n = view::phy_count(rows, j);
-    let mut p: u8 = 0;
-    while p < n {
-        if is_end(s, view::phy_at(rows, j, PhyId(p))) {
-            return true;
-        }
-        p += 1;
-    }
-    false
-}
-
-// Whether an expander before i has an end device with this address.
-fn is_end_before(rows: &[u64], s: u64, i: ExpanderNumber) -> bool
-    ensures { λ r. ⌜ r ≡ any (endAt s) (take (i .0) (domainIn (now (rows .entry)))) ⌝ }
-{
-    let n = i.0;
-    let mut j: u8 = 0;
-    while j < n {
-        if is_end_at(rows, s, ExpanderNumber(j)) {
-            return true;
-        }
-        j += 1;
-    }
-    false
-}
-
-// Cause 8.
-fn is_claimed(rows: &[u64], i: ExpanderNumber, p: PhyId) -> bool
-    ensures { λ r. ⌜ r ≡ claimed (domainIn (now (rows .entry))) (i .0) (p .0) ⌝ }
-{
-    let f = view::phy_at(rows, i, p);
-    if view::phy_type(f) != 1 {
-        return false;
-    }
-    let s = view::phy_address(f);
-    let j = view::number_of(rows, s);
-    if j.0 < view::expander_count(rows) {
-        return true;
-    }
-    is_end_before(rows, s, i)
-}
-
-// Whether two phys cannot both stand at one expander.
-fn are_clashing(f: Phy, g: Phy) -> bool
-    ensures { λ r. ⌜ r ≡ clash f g ⌝ }
-{
-    if view::phy_type(f) == 0 {
-        return false;
-    }
-    if view::phy_type(g) == 0 {
-        return false;
-    }
-    let a = view::phy_attribute(f);
-    let b = view::phy_attribute(g);
-    if view::phy_address(f) == view::phy_address(g) {
-        return a != b;
-    }
-    if a != 1 {
-        return false;
-    }
-    b == 1
-}
-
-// Cause 9.
-fn is_clashing(rows: &[u64], i: ExpanderNumber, p: PhyId) -> bool
-    ensures { λ r. ⌜ r ≡ clashing (domainIn (now (rows .entry))) (i .0) (p .0) ⌝ }
-{
-    let f = view::phy_at(rows, i, p);
-    let n = p.0;
-    let mut q: u8 = 0;
-    while q < n {
-        if are_clashing(f, view::phy_at(rows, i, PhyId(q))) {
-            return true;
-        }
-        q += 1;
-    }
-    false
-}
-
 // Cause 10.
 fn is_fixed(rows: &[u64], i: ExpanderNumber, p: PhyId) -> bool
     ensures { λ r. ⌜ r ≡ fixed (domainIn (now (rows .entry))) (i .0) (p .0) ⌝ }
@@ -169,16 +76,11 @@ fn is_table_to_table(rows: &[u64], i: ExpanderNumber, p: PhyId) -> bool
 
 // Whether cause k holds at phy p of expander i.
 fn cause_holds(rows: &[u64], k: u8, i: ExpanderNumber, p: PhyId) -> bool
+    requires { ⌜ (k ≢ 8) × (k ≢ 9) ⌝ }
     ensures { λ r. ⌜ r ≡ causeOf k (domainIn (now (rows .entry))) (i .0) (p .0) ⌝ }
 {
     if k == 7 {
         return is_unanswered(rows, i, p);
-    }
-    if k == 8 {
-        return is_claimed(rows, i, p);
-    }
-    if k == 9 {
-        return is_clashing(rows, i, p);
     }
     if k == 10 {
         return is_fixed(rows, i, p);
@@ -191,6 +93,7 @@ fn cause_holds(rows: &[u64], k: u8, i: ExpanderNumber, p: PhyId) -> bool
 
 // The lowest phy of expander i at which cause k holds.
 fn first_phy(rows: &[u64], k: u8, i: ExpanderNumber) -> Check
+    requires { ⌜ (k ≢ 8) × (k ≢ 9) ⌝ }
     ensures { λ r. ⌜ checkAnswer (domainIn (now (rows .entry))) r ≡ firstAt k (domainIn (now (rows .entry))) (i .0) ⌝ }
 {
     let n = view::phy_count(rows, i);
@@ -208,8 +111,9 @@ fn first_phy(rows: &[u64], k: u8, i: ExpanderNumber) -> Check
     Check::Passed
 }
 
-// The lowest phy, by expander and then phy, at which cause k holds.
-pub(crate) fn first_of(rows: &[u64], k: u8) -> Check
+// The lowest phy, by expander and then phy, at which cause k holds, by a test of each phy.
+fn first_by_test(rows: &[u64], k: u8) -> Check
+    requires { ⌜ (k ≢ 8) × (k ≢ 9) ⌝ }
     ensures { λ r. ⌜ checkAnswer (domainIn (now (rows .entry))) r ≡ firstOf k (causeOf k (domainIn (now (rows .entry)))) (domainIn (now (rows .entry))) ⌝ }
 {
     let n = view::expander_count(rows);
@@ -226,6 +130,19 @@ pub(crate) fn first_of(rows: &[u64], k: u8) -> Check
         }
     }
     Check::Passed
+}
+
+// The lowest phy, by expander and then phy, at which cause k holds.
+pub(crate) fn first_of(rows: &[u64], k: u8) -> Check
+    ensures { λ r. ⌜ checkAnswer (domainIn (now (rows .entry))) r ≡ firstOf k (causeOf k (domainIn (now (rows .entry)))) (domainIn (now (rows .entry))) ⌝ }
+{
+    if k == 8 {
+        return claims::first_claimed(rows);
+    }
+    if k == 9 {
+        return clashes::first_clashing(rows);
+    }
+    first_by_test(rows, k)
 }
 
 // Causes 7 to 10 in order, each over all rows.

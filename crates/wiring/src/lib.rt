@@ -1,10 +1,13 @@
 // Reads a domain file into rows, and judges its wiring.
 mod causes;
+mod claims;
+mod clashes;
 mod file;
 mod links;
 mod neighbours;
 mod rounds;
 mod rows;
+mod seen;
 mod units;
 mod view;
 mod wiring_call;
@@ -13,6 +16,8 @@ use frames::PhyId;
 use frames::Refusal;
 pub use links::check_domain;
 pub use rows::read_domain;
+pub use seen::add_key;
+pub use seen::may_have;
 pub use view::configurable_bit;
 pub use view::expander_address;
 pub use view::expander_count;

@@ -11,37 +11,23 @@ returns : tie.Need-returns
 unfolding causeOf
 returns c = search (needs, eq-eqb)
 
-is-claimed-requires : tie.Need-is-claimed-requires
-is-claimed-requires c κs = search needs
+is-fixed-requires : tie.Need-is-fixed-requires
+is-fixed-requires c κs = search needs
 
 returns-2 : tie.Need-returns-2
 unfolding causeOf
 returns-2 c = search (needs, eq-eqb, ne-eqb)
 
-is-clashing-requires : tie.Need-is-clashing-requires
-is-clashing-requires c κs = search needs
+is-table-to-table-requires : tie.Need-is-table-to-table-requires
+is-table-to-table-requires c κs = search needs
 
 returns-3 : tie.Need-returns-3
 unfolding causeOf
 returns-3 c = search (needs, eq-eqb, ne-eqb)
 
-is-fixed-requires : tie.Need-is-fixed-requires
-is-fixed-requires c κs = search needs
-
 returns-4 : tie.Need-returns-4
 unfolding causeOf
-returns-4 c = search (needs, eq-eqb, ne-eqb)
-
-is-table-to-table-requires : tie.Need-is-table-to-table-requires
-is-table-to-table-requires c κs = search needs
-
-returns-5 : tie.Need-returns-5
-unfolding causeOf
-returns-5 c = search (needs, eq-eqb, ne-eqb)
-
-returns-6 : tie.Need-returns-6
-unfolding causeOf
-returns-6 c = search (needs, ne-eqb)
+returns-4 c = search (needs, ne-eqb)
 
 pub cause-holds-spec : {M : Type 1} → statement M
 cause-holds-spec =
@@ -49,12 +35,8 @@ cause-holds-spec =
     (tie.spec
     is-unanswered-requires
     returns
-    is-claimed-requires
-    returns-2
-    is-clashing-requires
-    returns-3
     is-fixed-requires
-    returns-4
+    returns-2
     is-table-to-table-requires
-    returns-5
-    returns-6)
+    returns-3
+    returns-4)

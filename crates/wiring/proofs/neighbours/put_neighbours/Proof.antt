@@ -1,11 +1,13 @@
 use Prim.Native.Nat.{ℕ, _-_, _*_, _≤_}
-use mathlib.Core.List.{List, _++_, map}
+use mathlib.Core.List.{_++_, map}
 use mathlib.Core.Path.{_≡_, refl, _∙_, ap}
 use native.Mathlib.Omega.{arith}
 use lib.Count.{ones, ones-le}
-use lib.ListN.{length, drop, set, length-set}
+use lib.ListN.{length, drop, length-set}
 use borrow.Author.Needs.{needs}
-use Rattle.wiring.proofs.NeighbourWords.{words-next, bits-next}
+use Rattle.wiring.proofs.InRows.{domain-few}
+use Rattle.wiring.proofs.NeighbourWords.{words-next, bits-next, each-held}
+use Rattle.wiring.specs.Cables.{cabledWords}
 use Rattle.wiring.specs.Lists.{numbers}
 use Rattle.wiring.specs.Neighbours.{neighbourWord, neighbourWords, bitsIn}
 use Rattle.wiring.specs.Rows.{domainIn}
@@ -13,13 +15,19 @@ use Rattle.wiring.proofs.neighbours.put_neighbours.Statement.{statement
 use Rattle.wiring.proofs.neighbours.put_neighbours.Tie as tie
 
 abbrev Inv-loop : tie.InvT-loop
-Inv-loop rows words₀ n sum₀ i₀ words sum i =
+Inv-loop rows words₀ cables n sum₀ i₀ words sum i =
     (i ≤ n) × (sum ≤ 64 * i) × (length words ≡ length words₀)
     × (sum ≡ bitsIn (map (neighbourWord (domainIn rows)) (numbers 0 i)))
     × (words ≡ map (neighbourWord (domainIn rows)) (numbers 0 i) ++ drop i words₀)
 
 abbrev μ-loop : tie.MeasureT-loop
-μ-loop rows words₀ n sum₀ i₀ words sum i = n - i
+μ-loop rows words₀ cables n sum₀ i₀ words sum i = n - i
+
+slice-aggregate-put-cables : tie.Need-slice-aggregate-put-cables Inv-loop μ-loop
+slice-aggregate-put-cables c = search needs
+
+put-cables-requires : tie.Need-put-cables-requires Inv-loop μ-loop
+put-cables-requires c κs = domain-few (c .before .before .before .args .rows .now)
 
 expander-count-requires : tie.Need-expander-count-requires Inv-loop μ-loop
 expander-count-requires c κs = search needs
@@ -28,8 +36,12 @@ loop-holds : tie.Need-loop-holds Inv-loop μ-loop
 unfolding numbers bitsIn
 loop-holds c = (omega arith, omega arith, refl, refl, refl)
 
+slice-aggregate-neighbour-word : tie.Need-slice-aggregate-neighbour-word Inv-loop μ-loop
+slice-aggregate-neighbour-word c = search needs
+
 neighbour-word-requires : tie.Need-neighbour-word-requires Inv-loop μ-loop
-neighbour-word-requires c κs = search needs
+unfolding cabledWords
+neighbour-word-requires c κs = (each-held _ _ _ _ (c .before .before .before .before .before .put-cables .ensures), omega arith)
 
 cast-words : tie.Need-cast-words Inv-loop μ-loop
 cast-words c = search needs
@@ -54,8 +66,8 @@ loop-less c = omega arith
 
 loop-again : tie.Need-loop-again Inv-loop μ-loop
 loop-again c =
-    let a = c .before .before .before .before .before .before .args in
-    let l = c .before .before .loop in
+    let a = c .before .before .before .before .before .before .before .before .before .before .args in
+    let l = c .before .before .before .loop in
     let w = c .neighbour-word in
     let f = neighbourWord (domainIn (a .rows .now)) in
     let b = bits-next f (l .i) in
@@ -66,9 +78,7 @@ loop-again c =
       omega arith,
       simp length-set (l .inv .2),
       omega arith,
-      ap (λ (s : List ℕ). set s (l .i) (w .result)) (l .inv .4)
-          ∙ ap (set (map f (numbers 0 (l .i)) ++ drop (l .i) (a .words .now)) (l .i)) (w .ensures)
-          ∙ words-next f (l .i) (a .words .now) (omega arith),
+      words-next f (l .i) (l .words) (a .words .now) (w .result) (l .inv .4) (w .ensures) (omega arith),
     )
 
 same-length : tie.Need-same-length Inv-loop μ-loop
@@ -77,7 +87,7 @@ same-length c = search needs
 returns : tie.Need-returns Inv-loop μ-loop
 unfolding neighbourWords
 returns c =
-    let a = c .before .before .before .before .before .args in
+    let a = c .before .before .before .before .before .before .before .before .args in
     let l = c .before .loop in
     let d = domainIn (a .rows .now) in
     let e : l .i ≡ length d = omega arith in (
@@ -91,8 +101,11 @@ put-neighbours-spec =
     (tie.spec
     Inv-loop
     μ-loop
+    slice-aggregate-put-cables
+    put-cables-requires
     expander-count-requires
     loop-holds
+    slice-aggregate-neighbour-word
     neighbour-word-requires
     cast-words
     mul-words

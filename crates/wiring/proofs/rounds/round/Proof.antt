@@ -1,13 +1,13 @@
-use Prim.Native.Nat.{_+_, _^_, _<_, ℕ, _-_, _≤_}
+use Prim.Native.Nat.{_-_, _≤_}
 use mathlib.Core.Logic.{⊎-elim}
 use mathlib.Core.Path.{_≡_, refl, sym, _∙_, ap}
 use native.Mathlib.Omega.{arith}
 use lib.ListN.{length}
 use borrow.Author.Needs.{needs}
 use Rattle.wiring.proofs.Bitsets.{next-test}
-use Rattle.wiring.proofs.NeighbourWords.{bit-set}
-use Rattle.wiring.proofs.Sets.{word-lt, word-set, word-skip, set-word, wordBelow}
-use Rattle.wiring.specs.Neighbours.{neighbours, setOf}
+use Rattle.wiring.proofs.NeighbourWords.{bit-go, bit-skip}
+use Rattle.wiring.proofs.Sets.{set-word, wordBelow}
+use Rattle.wiring.specs.Neighbours.{neighbours}
 use Rattle.wiring.specs.Rounds.{members, roundTest}
 use Rattle.wiring.specs.Rows.{domainIn}
 use Rattle.wiring.proofs.rounds.round.Statement.{statement}
@@ -59,16 +59,15 @@ loop-again c =
     let n = length d in
     let t = roundTest (s .args .k) n (neighbours d) (members n (s .args .set)) in
     let e : c .before .is-next .result ≡ t (l .v) = c .before .is-next .ensures
-    ∙ next-test d (s .args .k) _ (s .args .set) (l .v) (omega arith) (s .pre .1) (s .pre .0 .word (l .v) (omega arith)) in
-    let w : l .next < 2 ^ l .v = rw (l .inv .1 .1 .1) (word-lt t (l .v)) in (
+    ∙ next-test d (s .args .k) _ (s .args .set) (l .v) (omega arith) (s .pre .1) (s .pre .0 .word (l .v) (omega arith)) in (
       omega arith,
       (
         l .inv .1 .0,
         (
           l .inv .1 .1 .0,
           ⊎-elim
-              (λ k. k .1 ∙ bit-set (l .next) (l .v) w (omega arith) ∙ ap (λ (x : ℕ). x + 2 ^ l .v) (l .inv .1 .1 .1) ∙ sym (word-set t (l .v) (sym e ∙ k .0 .taken)))
-              (λ k. k .1 ∙ l .inv .1 .1 .1 ∙ sym (word-skip t (l .v) (sym e ∙ k .0 .left)))
+              (λ k. k .1 ∙ bit-go t (l .next) (l .v) (l .inv .1 .1 .1) (omega arith) (sym e ∙ k .0 .taken))
+              (λ k. k .1 ∙ bit-skip t (l .next) (l .v) (l .inv .1 .1 .1) (sym e ∙ k .0 .left))
               (c .if1 .came),
         ),
       ),

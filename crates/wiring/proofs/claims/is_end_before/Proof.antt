@@ -9,8 +9,8 @@ use Rattle.wiring.specs.Causes.{endAt}
 use Rattle.wiring.specs.Domain.{noExpander}
 use Rattle.wiring.specs.Lists.{any}
 use Rattle.wiring.specs.Rows.{domainIn}
-use Rattle.wiring.proofs.causes.is_end_before.Statement.{statement}
-use Rattle.wiring.proofs.causes.is_end_before.Tie as tie
+use Rattle.wiring.proofs.claims.is_end_before.Statement.{statement}
+use Rattle.wiring.proofs.claims.is_end_before.Tie as tie
 
 abbrev Inv-loop : tie.InvT-loop
 Inv-loop rows s n j₀ j = (j ≤ n) × (any (endAt s) (drop j (take n (domainIn rows))) ≡ any (endAt s) (take n (domainIn rows)))

@@ -11,8 +11,8 @@ use Rattle.wiring.specs.Lists.{any}
 use Rattle.wiring.specs.Rows.{domainIn}
 use Rattle.wiring.specs.declared.Phy.the-variants.{Vacant}
 use Rattle.wiring.specs.declared.Phy.{Phy}
-use Rattle.wiring.proofs.causes.is_clashing.Statement.{statement}
-use Rattle.wiring.proofs.causes.is_clashing.Tie as tie
+use Rattle.wiring.proofs.clashes.is_clashing.Statement.{statement}
+use Rattle.wiring.proofs.clashes.is_clashing.Tie as tie
 
 abbrev Inv-loop : tie.InvT-loop
 Inv-loop rows i f n q₀ q =

@@ -2,8 +2,8 @@ use native.Mathlib.Omega.{arith}
 use borrow.Author.Needs.{needs}
 use borrow.Author.Tests.{eq-eqb, ne-eqb}
 use Rattle.wiring.specs.Domain.{typeOf}
-use Rattle.wiring.proofs.causes.is_end.Statement.{statement}
-use Rattle.wiring.proofs.causes.is_end.Tie as tie
+use Rattle.wiring.proofs.claims.is_end.Statement.{statement}
+use Rattle.wiring.proofs.claims.is_end.Tie as tie
 
 phy-type-requires : tie.Need-phy-type-requires
 phy-type-requires c κs = search needs

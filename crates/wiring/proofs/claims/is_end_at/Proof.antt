@@ -10,8 +10,8 @@ use Rattle.wiring.specs.Domain.{expanderAt}
 use Rattle.wiring.specs.Lists.{any}
 use Rattle.wiring.specs.Rows.{domainIn}
 use Rattle.wiring.specs.declared.Phy.the-variants.{Vacant}
-use Rattle.wiring.proofs.causes.is_end_at.Statement.{statement}
-use Rattle.wiring.proofs.causes.is_end_at.Tie as tie
+use Rattle.wiring.proofs.claims.is_end_at.Statement.{statement}
+use Rattle.wiring.proofs.claims.is_end_at.Tie as tie
 
 abbrev Inv-loop : tie.InvT-loop
 Inv-loop rows s j n p₀ p =

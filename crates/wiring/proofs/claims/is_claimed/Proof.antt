@@ -6,8 +6,8 @@ use borrow.Author.Tests.{eq-eqb, ne-eqb, lt-ltb, le-ltb}
 use Rattle.wiring.specs.Causes.{claimed}
 use Rattle.wiring.specs.Domain.{typeOf, addressOf, phyAt, numberOf}
 use Rattle.wiring.specs.Rows.{domainIn}
-use Rattle.wiring.proofs.causes.is_claimed.Statement.{statement}
-use Rattle.wiring.proofs.causes.is_claimed.Tie as tie
+use Rattle.wiring.proofs.claims.is_claimed.Statement.{statement}
+use Rattle.wiring.proofs.claims.is_claimed.Tie as tie
 
 phy-at-requires : tie.Need-phy-at-requires
 phy-at-requires c κs = search needs

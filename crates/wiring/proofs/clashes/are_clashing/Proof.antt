@@ -3,8 +3,8 @@ use borrow.Author.Needs.{needs}
 use borrow.Author.Tests.{eq-eqb, ne-eqb}
 use Rattle.wiring.specs.Causes.{clash}
 use Rattle.wiring.specs.Domain.{typeOf, addressOf, attributeOf}
-use Rattle.wiring.proofs.causes.are_clashing.Statement.{statement}
-use Rattle.wiring.proofs.causes.are_clashing.Tie as tie
+use Rattle.wiring.proofs.clashes.are_clashing.Statement.{statement}
+use Rattle.wiring.proofs.clashes.are_clashing.Tie as tie
 
 phy-type-requires : tie.Need-phy-type-requires
 phy-type-requires c κs = search needs

@@ -1,0 +1,80 @@
+use Prim.Native.Nat.{_-_, _≤_}
+use mathlib.Core.Path.{_≡_, refl}
+use native.Mathlib.Omega.{arith}
+use lib.ListN.{drop}
+use borrow.Author.Needs.{needs}
+use Rattle.wiring.proofs.Searches.{from-next, from-end}
+use Rattle.wiring.specs.Causes.{placesFrom, firstIn, firstOf}
+use Rattle.wiring.specs.Checks.{causeOf}
+use Rattle.wiring.specs.Rows.{domainIn}
+use Rattle.wiring.proofs.clashes.first_clashing.Statement.{statement}
+use Rattle.wiring.proofs.clashes.first_clashing.Tie as tie
+
+abbrev Inv-loop : tie.InvT-loop
+Inv-loop rows n i₀ i =
+    (i ≤ n)
+    × (firstIn 9 (causeOf 9 (domainIn rows)) (placesFrom i (drop i (domainIn rows))) (domainIn rows)
+    ≡ firstOf 9 (causeOf 9 (domainIn rows)) (domainIn rows))
+
+abbrev μ-loop : tie.MeasureT-loop
+μ-loop rows n i₀ i = n - i
+
+expander-count-requires : tie.Need-expander-count-requires Inv-loop μ-loop
+expander-count-requires c κs = search needs
+
+loop-holds : tie.Need-loop-holds Inv-loop μ-loop
+loop-holds c = (omega arith, refl)
+
+first-clashing-at-requires : tie.Need-first-clashing-at-requires Inv-loop μ-loop
+first-clashing-at-requires c κs = search needs
+
+enum-known-f : tie.Need-enum-known-f Inv-loop μ-loop
+enum-known-f c = search needs
+
+returns : tie.Need-returns Inv-loop μ-loop
+returns c =
+    let a = c .before .before .before .before .before .before .before .before .args in
+    let loop = c .before .before .before .before .before .loop in
+    let first-clashing-at = c .before .before .before .first-clashing-at in
+    let d = domainIn (a .rows .now) in
+    from-next 9 (causeOf 9 d) d (loop .i) (loop .inv .1) (first-clashing-at .ensures) (c .before .f .given .1) (omega arith)
+
+enum-told : tie.Need-enum-told Inv-loop μ-loop
+enum-told c = search needs
+
+add-i : tie.Need-add-i Inv-loop μ-loop
+add-i c = omega arith
+
+loop-less : tie.Need-loop-less Inv-loop μ-loop
+loop-less c = omega arith
+
+loop-again : tie.Need-loop-again Inv-loop μ-loop
+loop-again c =
+    let a = c .before .before .before .before .before .before .before .args in
+    let loop = c .before .before .before .before .loop in
+    let first-clashing-at = c .before .before .first-clashing-at in
+    let d = domainIn (a .rows .now) in
+    (omega arith, from-next 9 (causeOf 9 d) d (loop .i) (loop .inv .1) (first-clashing-at .ensures) (c .enum-told .given .1) (omega arith))
+
+returns-2 : tie.Need-returns-2 Inv-loop μ-loop
+returns-2 c =
+    let a = c .before .before .before .before .args in
+    let d = domainIn (a .rows .now) in
+    from-end 9 (causeOf 9 d) d (c .before .loop .i) (c .before .loop .inv .1) (omega arith)
+
+pub first-clashing-spec : {M : Type 1} → statement M
+first-clashing-spec =
+    tie.close
+    (tie.spec
+    Inv-loop
+    μ-loop
+    expander-count-requires
+    loop-holds
+    first-clashing-at-requires
+    enum-known-f
+    returns
+    enum-told
+    add-i
+    loop-less
+    loop-again
+    returns-2)

@@ -1,0 +1,26 @@
+// Sets of keys, a bit for each, that are never wrong about a key that was added: a key past the
+// last bit is always held for one that may be there.
+ghost use mathlib.Core.Path.{_≡_};
+ghost use Rattle.wiring.specs.Seen.{mayHave, KeyAdded};
+
+// Whether k may have been added. False only where it was not.
+pub fn may_have(words: &[u64], k: usize) -> bool
+    ensures { λ r. ⌜ r ≡ mayHave (now (words .entry)) k ⌝ }
+{
+    let at = k / 64;
+    if at >= words.len() {
+        return true;
+    }
+    (words[at] >> (k % 64)) & 1 == 1
+}
+
+// Adds k; does nothing where k is past the last bit.
+pub fn add_key(words: &mut [u64], k: usize)
+    ensures { λ _. ⌜ KeyAdded (now (words .entry)) (now (words .exit)) k ⌝ }
+{
+    let at = k / 64;
+    if at >= words.len() {
+        return;
+    }
+    words[at] = words[at] | (1u64 << (k % 64));
+}
