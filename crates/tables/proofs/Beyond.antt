@@ -246,7 +246,7 @@ module _ (d : Domain) (w : Wired d) where
         (map-in (λ φ. numberOf d (addressOf φ)) (keep (down d) φs) (phyAt d i p) (keeps (down d) φs (phyAt d i p) here down?))
 
     -- the next level: below one of this level, and not in the one before
-    in-next : (before level : List ℕ) (v : ℕ) → In v (nextLevel d before level) → (u : ℕ) × In u level × Table d u v
+    pub in-next : (before level : List ℕ) (v : ℕ) → In v (nextLevel d before level) → (u : ℕ) × In u level × Table d u v
     unfolding nextLevel
     in-next before level v h =
         let all = flatMap (below d) level in
@@ -409,10 +409,10 @@ module _ (d : Domain) (w : Wired d) where
         (from-x x n (record { phy = p; to = t; routed = u; end = h; single = s }) m)
 
 -- no level where the phy does not lead down
-no-levels : (k : ℕ) (d : Domain) (before : List ℕ) → levelsFrom k d before [] ≡ []
+pub levels-none : (k : ℕ) (d : Domain) (before : List ℕ) → levelsFrom k d before [] ≡ []
 unfolding levelsFrom nextLevel flatMap keep once
-no-levels zero d before = refl
-no-levels (suc k) d before = no-levels k d []
+levels-none zero d before = refl
+levels-none (suc k) d before = levels-none k d []
 
 pub levels-down : (d : Domain) (x p m : ℕ) → In m (levels d x p) → T (down d (phyAt d x p))
 unfolding levels belowPhys keep
@@ -420,4 +420,4 @@ levels-down d x p m h = go (down d (phyAt d x p)) h
   where
     go : (b : Bool) → In m (levelsFrom (length d) d (x ∷ []) (map (λ φ. numberOf d (addressOf φ)) (cond b (phyAt d x p ∷ []) []))) → T b
     go true o = tt
-    go false o = subst (λ l. In m l) (no-levels (length d) d (x ∷ [])) o
+    go false o = subst (λ l. In m l) (levels-none (length d) d (x ∷ [])) o

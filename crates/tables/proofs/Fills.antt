@@ -1,14 +1,16 @@
 -- One table in words of its own: the list and zeros after it.
-use Prim.Native.Nat.{ℕ, _+_, _-_, _≤_, _<_}
+use Prim.Native.Nat.{ℕ, _+_, _-_, _≤_}
 use mathlib.Core.Path.{_≡_, sym, _∙_, ap}
-use mathlib.Core.List.{List, _++_}
+use mathlib.Core.List.{List, _++_, flatMap}
 use native.Mathlib.Omega.{arith}
 use lib.ListN.{length, take, replicate, length-append, length-replicate, replicate-append-replicate}
-use lib.Seq.{take-all, take-at, take-append-le, take-append-add, length-take-le}
+use lib.Seq.{take-at, take-append-add, length-take-le}
 use Rattle.wiring.specs.Domain.{Domain, expanderAt}
 use Rattle.tables.specs.Tables.{levelList, table}
-use Rattle.tables.specs.Filling.{Given, TableFilled}
-use Rattle.tables.proofs.Growing.{given-fit}
+use Rattle.tables.specs.Own.{own, ownList}
+use Rattle.tables.specs.Filling.{Grown, TableFilled}
+use Rattle.tables.specs.Prepared.{FilledFrom}
+use Rattle.tables.proofs.Growing.{grown-length}
 
 -- the list and zeros after it, n words
 abbrev pub filled : ℕ → List ℕ → List ℕ
@@ -32,22 +34,26 @@ zeros-after l m n q =
     ∙ ap (λ (y : List ℕ). l ++ take m y) t
     ∙ ap (λ (y : List ℕ). l ++ y) (take-at (replicate m o) (replicate (length l) o) m (length-replicate m o))
 
-module _ (d : Domain) (x p : ℕ) {part after : List ℕ} {r : ℕ} (g : Given part after r (levelList d x p)) where
-  pub filled-over : length part ≤ r → TableFilled d x p part after r
-  filled-over h =
-      let z = g .count in
-      record {
-        words = sym (take-all r after (omega (arith, g .same)))
-            ∙ g .whole ∙ sym (take-append-le (length part) (levelList d x p) (replicate (length part) 0) (omega arith));
-        count = g .count;
-      }
+-- the own lists of its levels, and zeros after them
+module _ (d : Domain) (x p : ℕ) {lists order : List ℕ} {room : ℕ} (f : FilledFrom d x p lists order room) where
+  from-own : flatMap (own d) order ≡ levelList d x p
+  unfolding ownList
+  from-own = ap (flatMap (own d)) (f .ordered) ∙ sym (f .same x p)
 
-  pub filled-fit : {end : List ℕ} → end ≡ take r after ++ replicate (length after - r) 0 → r < length part → TableFilled d x p part end r
-  filled-fit {end} q h =
-      let z = g .count in
+  pub filled-room : length (flatMap (own d) order) ≤ room
+  filled-room = omega (arith, ap length from-own, f .fits)
+
+  pub table-filled : {part after end : List ℕ} {r : ℕ} → Grown part after r (flatMap (own d) order)
+      → end ≡ take r after ++ replicate (length after - r) 0 → room ≡ length part → TableFilled d x p part end r
+  table-filled {part} {after} {end} {r} g q e =
+      let l : List ℕ = levelList d x p in
       let m : ℕ = length after - r in
+      let w : take r after ≡ l = g .whole ∙ from-own in
+      let s = g .same in
+      let h = g .fits in
+      let z = f .fits in
+      let n : r ≡ length l = grown-length g ∙ ap length from-own in
       record {
-        words = q ∙ ap (λ (y : List ℕ). y ++ replicate m 0) (given-fit g (omega arith))
-            ∙ sym (zeros-after (levelList d x p) m (length part) (omega (arith, g .same)));
-        count = g .count;
+        words = q ∙ ap (λ (y : List ℕ). y ++ replicate m 0) w ∙ sym (zeros-after l m (length part) (omega arith));
+        count = omega arith;
       }

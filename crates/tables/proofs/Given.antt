@@ -31,7 +31,7 @@ unfolding overlong
 overlong-range d i p t = routes-range d 2 i p (search tests) (omega arith)
 
 -- causes 7 to 14 leave a domain as it is, wired and routable
-judged-routable : (d e : Domain) → judgedDomain d ≡ good e → (d ≡ e) × (wiredDomain d ≡ good d) × Routable d
+pub judged-routable : (d e : Domain) → judgedDomain d ≡ good e → (d ≡ e) × (wiredDomain d ≡ good d) × Routable d
 unfolding judgedDomain overlong
 judged-routable d e f =
     let a = then-good (wiredDomain d) _ e f in

@@ -1,23 +1,23 @@
--- Lists that grow in loops: searches among numbers, a level with room for so many, a list with room for so many words, zeros after it.
+-- Lists that grow in loops: searches among numbers, a level with room for so many, words and lists copied one after the other, zeros after them.
 -- `inv` is the loop's invariant; a turn takes `piece` from what is left, `rest ≡ piece ++ rest'`.
 use Prim.Native.Nat.{ℕ, _+_, _-_, _≤_, _<_}
 use mathlib.Core.Path.{_≡_, refl, sym, _∙_, ap}
-use mathlib.Core.Bool.{Bool, true, false, cond, not, _||_, _&&_}
+use mathlib.Core.Bool.{Bool, true, false, cond, _||_, _&&_}
 use mathlib.Core.List.{List, [], _∷_, _++_, flatMap, append-nil, append-assoc}
 use native.Mathlib.Omega.{arith}
 use native.Mathlib.Numerals.{add-one}
 use lib.ListN.{length, getD, take, drop, set, replicate, length-set, length-append, length-replicate}
 use lib.ListN.{drop-of-length-le, take-append-drop, replicate-append-replicate}
-use lib.Seq.{drop-cons, set-at, take-suc-set, length-take-le, take-all, take-append-seam, take-append-le}
+use lib.Seq.{drop-cons, set-at, take-suc-set, length-take-le}
 use lib.Dec.{eqb, leb}
-use borrow.Author.Tests.{eq-eqb, ne-eqb}
+use borrow.Author.Tests.{ne-eqb}
 use Rattle.wiring.specs.declared.Phy.{Phy}
-use Rattle.wiring.specs.Lists.{any, isIn}
-use Rattle.wiring.specs.Domain.{Domain, expanderAt, addressOf, attributeOf, typeOf, bears}
+use Rattle.wiring.specs.Lists.{isIn}
+use Rattle.wiring.specs.Domain.{Domain}
 use Rattle.wiring.proofs.Members.{isIn-of, in-getD, in-cast, is-true}
 use Rattle.wiring.proofs.Searches.{any-go, any-end}
-use Rattle.tables.specs.Tables.{word, heldBy, gives, give, giveAll}
-use Rattle.tables.specs.Filling.{add, addAll, Grown, Given}
+use Rattle.tables.specs.Tables.{give, giveAll}
+use Rattle.tables.specs.Filling.{add, addAll, Grown}
 
 -- one place in what is left
 pub drop-next : {A : Type 0} (e : A) (l : List A) (k : ℕ) → k < length l → drop k l ≡ (getD l k e ∷ []) ++ drop (k + 1) l
@@ -75,6 +75,15 @@ grown-kept n next q h = record { same = refl; fits = h; whole = sym q }
 pub grown-more : (n : ℕ) (next : List ℕ) {l : List ℕ} (j : ℕ) → l ≡ take n next ++ (j ∷ []) → n < length next → Grown next (set next n j) (n + 1) l
 grown-more n next j q h = record { same = length-set next n j; fits = omega arith; whole = stored n next j h ∙ sym q }
 
+pub grown-again : {before after : List ℕ} {r : ℕ} {l : List ℕ} → Grown before after r l → Grown after after r l
+grown-again {before} {after} {r} g = let s = g .same in let h = g .fits in record { same = refl; fits = omega arith; whole = g .whole }
+
+pub grown-length : {before after : List ℕ} {r : ℕ} {l : List ℕ} → Grown before after r l → r ≡ length l
+grown-length {before} {after} {r} {l} g =
+    let s = g .same in
+    let f = g .fits in
+    sym (length-take-le r after (omega arith)) ∙ ap length (g .whole)
+
 pub grown-same : {before after : List ℕ} {r : ℕ} {l m : List ℕ} → Grown before after r l → l ≡ m → Grown before after r m
 grown-same g q = record { same = g .same; fits = g .fits; whole = g .whole ∙ q }
 
@@ -87,116 +96,46 @@ module _ (room : ℕ) (last l rest : List ℕ) {v : List ℕ} (inv : addAll room
   unfolding addAll
   add-end q = sym (ap (addAll room last l) q) ∙ inv
 
--- the address is expander x's, or is not
-pub held-own : (d : Domain) (x s : ℕ) → expanderAt d x .address ≡ s → true ≡ heldBy d x s
-unfolding heldBy
-held-own d x s q = rw (eq-eqb s (expanderAt d x .address) (sym q))
+-- words copied one by one after the first ones
+module _ (to k : ℕ) (part words : List ℕ) {v : List ℕ} (inv : take to part ++ drop k words ≡ v) where
+  pub copy-go : to < length part → k < length words → take (to + 1) (set part to (getD words k 0)) ++ drop (k + 1) words ≡ v
+  copy-go h i =
+      let w : List ℕ = getD words k 0 ∷ [] in
+      ap (λ (l : List ℕ). l ++ drop (k + 1) words) (stored to part (getD words k 0) h) ∙ append-assoc (take to part) w (drop (k + 1) words)
+      ∙ ap (λ (l : List ℕ). take to part ++ l) (sym (drop-next 0 words k i)) ∙ inv
 
-pub held-other : (d : Domain) (x s : ℕ) → (expanderAt d x .address ≡ s → ⊥) → any (bears s) (expanderAt d x .phys) ≡ heldBy d x s
-unfolding heldBy
-held-other d x s f = rw (ne-eqb s (expanderAt d x .address) (λ e. f (sym e)))
+  pub copy-end : length words ≤ k → take to part ≡ v
+  copy-end h = sym (append-nil (take to part)) ∙ ap (λ (l : List ℕ). take to part ++ l) (sym (drop-of-length-le words h)) ∙ inv
 
--- a list of words
-pub gives-by : (d : Domain) (x : ℕ) (l : List ℕ) (φ : Phy) {b₁ b₂ b₃ b₄ : Bool} → eqb (attributeOf φ) 0 ≡ b₁ → eqb (typeOf φ) 0 ≡ b₂
-    → heldBy d x (addressOf φ) ≡ b₃ → isIn (addressOf φ) l ≡ b₄ → gives d x l φ ≡ (b₁ || (not b₂ && (not b₃ && not b₄)))
-unfolding gives
-gives-by d x l φ q₁ q₂ q₃ q₄ = rw (q₁, q₂, q₃, q₄)
+-- lists copied one after the other, by a call for each
+module _ (f : ℕ → List ℕ) (m k : ℕ) (part order : List ℕ) {v : List ℕ} (inv : take m part ++ flatMap f (drop k order) ≡ v) where
+  lists-next : k < length order → take m part ++ (f (getD order k 0) ++ flatMap f (drop (k + 1) order)) ≡ v
+  lists-next h = ap (λ (l : List ℕ). take m part ++ l) (sym (flat-next f 0 order k h)) ∙ inv
 
-and-false : (b : Bool) → (b && false) ≡ false
+  pub lists-fit : k < length order → m ≤ length part → m + length (f (getD order k 0)) ≤ length v
+  lists-fit h i =
+      let o : List ℕ = f (getD order k 0) in
+      let rest : List ℕ = flatMap f (drop (k + 1) order) in
+      omega (arith, ap length (lists-next h), length-append (take m part) (o ++ rest), length-append o rest, length-take-le m part i)
+
+  pub lists-go : {after : List ℕ} {r : ℕ} → Grown part after r (take m part ++ f (getD order k 0)) → k < length order
+      → take r after ++ flatMap f (drop (k + 1) order) ≡ v
+  lists-go g h =
+      let rest : List ℕ = flatMap f (drop (k + 1) order) in
+      ap (λ (l : List ℕ). l ++ rest) (g .whole) ∙ append-assoc (take m part) (f (getD order k 0)) rest ∙ lists-next h
+
+  pub lists-end : length order ≤ k → take m part ≡ v
+  lists-end h = sym (append-nil (take m part)) ∙ ap (λ (l : List ℕ). take m part ++ l) (sym (flat-last f order k h)) ∙ inv
+
+pub and-false : (b : Bool) → (b && false) ≡ false
 and-false true = refl
 and-false false = refl
 
-and-true : (b : Bool) → (b && true) ≡ b
-and-true true = refl
-and-true false = refl
-
--- an attached phy that is not direct: nothing where its address is in the list, else its word unless x holds the address
-pub gives-listed : (d : Domain) (x : ℕ) (l : List ℕ) (φ : Phy) → eqb (attributeOf φ) 0 ≡ false → eqb (typeOf φ) 0 ≡ false
-    → isIn (addressOf φ) l ≡ true → gives d x l φ ≡ false
-gives-listed d x l φ a t i = gives-by d x l φ a t refl i ∙ and-false (not (heldBy d x (addressOf φ)))
-
-pub gives-new : (d : Domain) (x : ℕ) (l : List ℕ) (φ : Phy) → eqb (attributeOf φ) 0 ≡ false → eqb (typeOf φ) 0 ≡ false
-    → isIn (addressOf φ) l ≡ false → gives d x l φ ≡ not (heldBy d x (addressOf φ))
-gives-new d x l φ a t i = gives-by d x l φ a t refl i ∙ and-true (not (heldBy d x (addressOf φ)))
-
-pub give-by : (d : Domain) (x : ℕ) (l : List ℕ) (φ : Phy) {b : Bool} → gives d x l φ ≡ b → giveAll d x l (φ ∷ []) ≡ cond b (l ++ (word φ ∷ [])) l
-unfolding give giveAll
-give-by d x l φ q = rw q
-
-giveAll-append : (d : Domain) (x : ℕ) (l : List ℕ) (xs ys : List Phy) → giveAll d x l (xs ++ ys) ≡ giveAll d x (giveAll d x l xs) ys
+-- what phys give, piece by piece
+pub giveAll-append : (d : Domain) (x : ℕ) (l : List ℕ) (xs ys : List Phy) → giveAll d x l (xs ++ ys) ≡ giveAll d x (giveAll d x l xs) ys
 unfolding giveAll
 giveAll-append d x l [] ys = refl
 giveAll-append d x l (φ ∷ xs) ys = giveAll-append d x (give d x l φ) xs ys
-
--- none more, one more, and one too many
-module _ (n : ℕ) (part : List ℕ) where
-  pub given-kept : {l : List ℕ} → l ≡ take n part → n ≤ length part → Given part part n l
-  given-kept {l} q h =
-      let e : length l ≡ n = ap length q ∙ length-take-le n part h in
-      record { same = refl; count = omega arith; whole = sym q ∙ sym (take-all (length part) l (omega arith)) }
-
-  pub given-more : {l : List ℕ} (w : ℕ) → l ≡ take n part ++ (w ∷ []) → n < length part → Given part (set part n w) (n + 1) l
-  given-more {l} w q h =
-      let e : length l ≡ n + 1 = ap length q ∙ length-append (take n part) (w ∷ []) ∙ omega (arith, length-take-le n part (omega arith)) in
-      record { same = length-set part n w; count = omega arith; whole = stored n part w h ∙ sym q ∙ sym (take-all (length part) l (omega arith)) }
-
-  pub given-over : {l : List ℕ} (w : ℕ) → l ≡ take n part ++ (w ∷ []) → n ≡ length part → Given part part (n + 1) l
-  given-over {l} w q h =
-      let t : take n part ≡ part = take-all n part (omega arith) in
-      let u : l ≡ part ++ (w ∷ []) = q ∙ ap (λ (s : List ℕ). s ++ (w ∷ [])) t in
-      let e : length l ≡ n + 1 = ap length u ∙ length-append part (w ∷ []) ∙ omega arith in
-      record {
-        same = refl;
-        count = omega arith;
-        whole = take-all (n + 1) part (omega arith) ∙ sym (ap (take (length part)) u ∙ take-append-seam part (w ∷ []));
-      }
-
--- a list, and more after it
-record Ext (l v : List ℕ) : Type 0 where
-  more : List ℕ
-  joined : v ≡ l ++ more
-
-giveAll-ext : (d : Domain) (x : ℕ) (l : List ℕ) (φs : List Phy) → Ext l (giveAll d x l φs)
-unfolding giveAll give
-giveAll-ext d x l [] = record { more = []; joined = sym (append-nil l) }
-giveAll-ext d x l (φ ∷ φs) = go (gives d x l φ) (λ m. giveAll-ext d x m φs)
-  where
-    go : (b : Bool) → ((m : List ℕ) → Ext m (giveAll d x m φs)) → Ext l (giveAll d x (cond b (l ++ (word φ ∷ [])) l) φs)
-    go true r =
-        let e = r (l ++ (word φ ∷ [])) in
-        record { more = word φ ∷ e .more; joined = e .joined ∙ append-assoc l (word φ ∷ []) (e .more) }
-    go false r = r l
-
-pub given-fit : {part after : List ℕ} {r : ℕ} {l : List ℕ} → Given part after r l → r ≤ length part → take r after ≡ l
-given-fit {part} {after} {r} {l} g h = let z = g .count in g .whole ∙ take-all (length part) l (omega arith)
-
--- a turn that gives too many words, one that fits, and the end
-module _ (d : Domain) (x m : ℕ) (part : List ℕ) (rest : List Phy) {v : List ℕ} (inv : giveAll d x (take m part) rest ≡ v) (piece rest' : List Phy) where
-  give-next : rest ≡ piece ++ rest' → giveAll d x (giveAll d x (take m part) piece) rest' ≡ v
-  give-next q = sym (ap (giveAll d x (take m part)) q ∙ giveAll-append d x (take m part) piece rest') ∙ inv
-
-  pub give-stop : {part₀ after : List ℕ} {r : ℕ} → Given part after r (giveAll d x (take m part) piece) → rest ≡ piece ++ rest'
-      → length part ≡ length part₀ → length part < r → Given part₀ after r v
-  give-stop {part₀} {after} {r} g q s h =
-      let l : List ℕ = giveAll d x (take m part) piece in
-      let e = giveAll-ext d x l rest' in
-      let j : v ≡ l ++ e .more = sym (give-next q) ∙ e .joined in
-      let k : length v ≡ length l + length (e .more) = ap length j ∙ length-append l (e .more) in
-      let z = g .count in
-      let t : take (length part) v ≡ take (length part) l = ap (take (length part)) j ∙ take-append-le (length part) l (e .more) (omega arith) in
-      record { same = g .same ∙ s; count = omega arith; whole = g .whole ∙ sym t ∙ ap (λ (n : ℕ). take n v) s }
-
-  pub give-go : {after : List ℕ} {r : ℕ} → Given part after r (giveAll d x (take m part) piece) → rest ≡ piece ++ rest' → r ≤ length part
-      → giveAll d x (take r after) rest' ≡ v
-  give-go {after} {r} g q h = ap (λ (l : List ℕ). giveAll d x l rest') (given-fit g h) ∙ give-next q
-
-pub give-end : (d : Domain) (x m : ℕ) (part₀ part : List ℕ) (rest : List Phy) {v : List ℕ} → giveAll d x (take m part) rest ≡ v → rest ≡ []
-    → length part ≡ length part₀ → m ≤ length part₀ → Given part₀ part m v
-unfolding giveAll
-give-end d x m part₀ part rest {v} inv q s h =
-    let e : take m part ≡ v = sym (ap (giveAll d x (take m part)) q) ∙ inv in
-    let k : length v ≡ m = sym (ap length e) ∙ length-take-le m part (omega arith) in
-    record { same = s; count = omega arith; whole = e ∙ sym (take-all (length part₀) v (omega arith)) }
 
 -- zeros from n on
 pub fill-start : (n : ℕ) (l : List ℕ) → l ≡ (take n l ++ replicate (n - n) 0) ++ drop n l

@@ -7,9 +7,14 @@ pub mod Listed
 pub mod Tables
 pub mod Given
 pub mod Growing
+pub mod Cells
+pub mod Owns
 pub mod Queues
+pub mod Orders
+pub mod Law
 pub mod Fills
 pub mod Puts
 pub mod Over
 pub mod Judging
+pub mod Lawful
 pub mod Worked

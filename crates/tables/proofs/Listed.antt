@@ -1,7 +1,7 @@
 -- What a level list holds: a non-zero address that is neither X's nor attached at X is in it exactly when a device beyond bears it.
 use mathlib.Core.Path.{_≡_, refl, sym, ap, subst, _∙_}
 use mathlib.Core.Logic.{_⊎_, inl, inr, _≢_, _↔_, ⊎-elim}
-use mathlib.Core.List.{List, [], _∷_, _++_, flatMap}
+use mathlib.Core.List.{List, [], _∷_, _++_}
 use mathlib.Core.Bool.{Bool, true, false, cond, not, _&&_}
 use Prim.Native.Nat.{ℕ, _<_}
 use native.Mathlib.Omega.{arith}
@@ -16,6 +16,7 @@ use Rattle.wiring.proofs.Wires.{Way, To, Wired, Home, end-attached, expander-at
 use Rattle.wiring.proofs.Accepted.{Linked}
 use Rattle.tables.specs.Levels.{levels}
 use Rattle.tables.specs.Tables.{word, heldBy, gives, give, giveAll, levelList}
+use Rattle.tables.specs.Filling.{physOf}
 use Rattle.tables.proofs.Beyond.{FarTable, Link, Table, Sub, Clear, Descent, last-snoc, table-start, table-back, one-sub, fall-chain, fall-snoc, descent-chain, descent-clear, chain-descent, linked-clear, down-leads, levels-down, levels-are-beyond}
 
 module _ (d : Domain) (x s : ℕ) where
@@ -51,7 +52,7 @@ module _ (d : Domain) (x s : ℕ) where
       go true q f = (was-true (attached φ) q, f)
       go false q f = absurd (k (sym f))
 
-  in-give : (l : List ℕ) (φ : Phy) → s ≢ 0 → In s (give d x l φ) → In s l ⊎ GivenBy φ
+  pub in-give : (l : List ℕ) (φ : Phy) → s ≢ 0 → In s (give d x l φ) → In s l ⊎ GivenBy φ
   unfolding give gives
   in-give l φ k h = go (gives d x l φ) refl h
     where
@@ -75,7 +76,7 @@ module _ (d : Domain) (x s : ℕ) where
       ⊎-elim (λ o. ⊎-elim inl (λ g. inr (φ, inl refl, g)) (in-give l φ k o)) (λ g. inr (g .0, inr (g .1), g .2)) (in-giveAll φs (give d x l φ) k h)
 
   -- what is in the list stays, and an attached address that x does not hold is in it afterwards
-  give-old : (l : List ℕ) (φ : Phy) → In s l → In s (give d x l φ)
+  pub give-old : (l : List ℕ) (φ : Phy) → In s l → In s (give d x l φ)
   unfolding give
   give-old l φ h = go (gives d x l φ)
     where
@@ -88,7 +89,7 @@ module _ (d : Domain) (x s : ℕ) where
   giveAll-old [] l h = h
   giveAll-old (φ ∷ φs) l h = giveAll-old φs (give d x l φ) (give-old l φ h)
 
-  give-new : (l : List ℕ) (φ : Phy) → T (attached φ) → addressOf φ ≡ s → ¬ (T (heldBy d x s)) → In s (give d x l φ)
+  pub give-new : (l : List ℕ) (φ : Phy) → T (attached φ) → addressOf φ ≡ s → ¬ (T (heldBy d x s)) → In s (give d x l φ)
   unfolding give gives
   give-new l φ t e k = go (gives d x l φ) refl
     where
@@ -107,22 +108,30 @@ module _ (d : Domain) (x s : ℕ) where
       giveAll-old φs (give d x l ψ) (give-new l ψ (subst (λ χ. T (attached χ)) q t) (sym (ap addressOf q) ∙ e) k)
   giveAll-new (ψ ∷ φs) l φ (inr h) t e k = giveAll-new φs (give d x l ψ) φ h t e k
 
-  -- in the list: some phy of a level gives it
-  pub in-list : (p : ℕ) → s ≢ 0 → In s (levelList d x p) → (m q : ℕ) × In m (levels d x p) × GivenBy (phyAt d m q)
-  unfolding levelList
-  in-list p k o =
+  -- in what these expanders give: some phy of theirs gives it
+  pub in-given : (es : List ℕ) → s ≢ 0 → In s (giveAll d x [] (physOf d es)) → (m q : ℕ) × In m es × GivenBy (phyAt d m q)
+  in-given es k o =
       ⊎-elim (λ z. absurd z)
-      (λ g. let f = in-flatMap (λ i. expanderAt d i .phys) (levels d x p) (g .0) (g .1) in
+      (λ g. let f = in-flatMap (λ i. expanderAt d i .phys) es (g .0) (g .1) in
       let c = getD-in (expanderAt d (f .0) .phys) (Vacant 0) (g .0) (f .2) in
       (f .0, c .0, f .1, subst GivenBy (sym (c .2)) (g .2)))
-      (in-giveAll (flatMap (λ i. expanderAt d i .phys) (levels d x p)) [] k o)
+      (in-giveAll (physOf d es) [] k o)
 
-  -- an address attached in a level that x does not hold is in the list
+  -- an address attached to one of them that x does not hold is in it
+  pub given-in : (es : List ℕ) (m q : ℕ) → In m es → T (attached (phyAt d m q)) → addressOf (phyAt d m q) ≡ s → ¬ (T (heldBy d x s))
+      → In s (giveAll d x [] (physOf d es))
+  given-in es m q h u e k =
+      giveAll-new (physOf d es) [] (phyAt d m q)
+      (flatMap-in (λ i. expanderAt d i .phys) es (phyAt d m q) m h (in-getD (expanderAt d m .phys) (Vacant 0) q (in-range d m q u .1))) u e k
+
+  -- the same of the expanders of the levels
+  pub in-list : (p : ℕ) → s ≢ 0 → In s (levelList d x p) → (m q : ℕ) × In m (levels d x p) × GivenBy (phyAt d m q)
+  unfolding levelList
+  in-list p k o = in-given (levels d x p) k o
+
   pub list-in : (p m q : ℕ) → In m (levels d x p) → T (attached (phyAt d m q)) → addressOf (phyAt d m q) ≡ s → ¬ (T (heldBy d x s)) → In s (levelList d x p)
   unfolding levelList
-  list-in p m q h u e k =
-      giveAll-new (flatMap (λ i. expanderAt d i .phys) (levels d x p)) [] (phyAt d m q)
-      (flatMap-in (λ i. expanderAt d i .phys) (levels d x p) (phyAt d m q) m h (in-getD (expanderAt d m .phys) (Vacant 0) q (in-range d m q u .1))) u e k
+  list-in p m q h u e k = given-in (levels d x p) m q h u e k
 
 module _ (d : Domain) (w : Wired d) (r : Linked d) where
   -- up from the end of a descent is where it came from

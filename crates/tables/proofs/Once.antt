@@ -9,6 +9,15 @@ use Rattle.wiring.specs.Lists.{In, isIn, Distinct}
 use Rattle.wiring.proofs.Members.{in-cast, isIn-of, of-isIn, was-true}
 use Rattle.tables.specs.Levels.{once}
 
+-- one number that was seen, and one that was not
+pub once-skip : (seen : List ℕ) (x : ℕ) (xs : List ℕ) → isIn x seen ≡ true → once seen (x ∷ xs) ≡ once seen xs
+unfolding once
+once-skip seen x xs q = rw q
+
+pub once-take : (seen : List ℕ) (x : ℕ) (xs : List ℕ) → isIn x seen ≡ false → once seen (x ∷ xs) ≡ x ∷ once (x ∷ seen) xs
+unfolding once
+once-take seen x xs q = rw q
+
 pub in-once : (seen l : List ℕ) (w : ℕ) → In w (once seen l) → In w l
 unfolding once
 in-once seen [] w h = h

@@ -1,32 +1,26 @@
--- A level list that is too long: what the filled table's answer says of it.
-use Prim.Native.Nat.{ℕ, _+_, min}
-use mathlib.Core.Path.{_≡_, sym, _∙_, ap}
-use mathlib.Core.Bool.{true, false}
-use mathlib.Core.List.{List}
-use native.Mathlib.Omega.{arith}
-use native.Mathlib.Decide.{decLt}
-use mathlib.Core.Logic.{by-cases}
+-- A level list that is too long, by own lists: one phy's test, and the tests of all phys.
+use Prim.Native.Nat.{ℕ}
+use mathlib.Core.Path.{_≡_, refl, sym, _∙_, ap}
+use mathlib.Core.Bool.{Bool, true, false, _&&_}
+use mathlib.Core.List.{List, flatMap}
 use lib.ListN.{length}
-use lib.Dec.{ltb}
-use borrow.Author.Tests.{lt-ltb, le-ltb}
-use Rattle.wiring.specs.Domain.{Domain, expanderAt, phyAt, routes}
-use Rattle.tables.specs.Tables.{levelList}
-use Rattle.tables.specs.Filling.{TableFilled}
-use Rattle.tables.specs.Judge.{overlong}
+use lib.Dec.{eqb, ltb}
+use Rattle.wiring.specs.declared.Phy.{Phy}
+use Rattle.wiring.specs.Domain.{Domain, expanderAt, phyAt, attributeOf, routes}
+use Rattle.tables.specs.Own.{own, ownList}
+use Rattle.tables.specs.Prepared.{orderOf, overOwn}
+use Rattle.tables.proofs.Orders.{order-levels}
 
-module _ (d : Domain) (i p : ℕ) where
-  pub no-table : routes 2 (phyAt d i p) ≡ false → false ≡ overlong d i p
-  unfolding overlong
-  no-table q = rw q
+pub no-table : (φ : Phy) (b : Bool) → eqb (attributeOf φ) 2 ≡ false → false ≡ (routes 2 φ && b)
+no-table φ b q = rw q
 
-  longer : (r k n : ℕ) → r ≡ min k (n + 1) → ltb n r ≡ ltb n k
-  longer r k n q =
-      by-cases (decLt n k) (λ h. lt-ltb n r (omega arith) ∙ sym (lt-ltb n k h))
-      (λ h. le-ltb n r (omega arith) ∙ sym (le-ltb n k (omega arith)))
+pub is-table : (φ : Phy) (b : Bool) → eqb (attributeOf φ) 2 ≡ true → b ≡ (routes 2 φ && b)
+is-table φ b q = rw q
 
-  pub over-table : {part after : List ℕ} {r : ℕ} → TableFilled d i p part after r → routes 2 (phyAt d i p) ≡ true → (n : ℕ) → length part ≡ n
-      → n ≡ expanderAt d i .indexes → ltb n r ≡ overlong d i p
-  unfolding overlong
-  over-table {part} {after} {r} t b n q e =
-      longer r (length (levelList d i p)) n (t .count ∙ ap (λ (m : ℕ). min (length (levelList d i p)) (m + 1)) q)
-      ∙ ap (λ (m : ℕ). ltb m (length (levelList d i p))) e ∙ rw b
+-- phy p of expander i, by the order of its levels
+pub over-order : (d : Domain) (i p : ℕ) (φ : Phy) (order : List ℕ) → φ ≡ phyAt d i p → order ≡ orderOf d i φ
+    → (routes 2 φ && ltb (expanderAt d i .indexes) (length (flatMap (own d) order))) ≡ overOwn d i p
+unfolding overOwn ownList
+over-order d i p φ order q e =
+    let f = e ∙ ap (orderOf d i) q ∙ order-levels d i p in
+    rw (q, f) refl

@@ -129,11 +129,11 @@ module _ (d : Domain) where
       ∙ omega (arith, length-one q, length-tables qs)
 
 -- words put one after the other
-overlay-none : (ws : List ℕ) (at : ℕ) → overlay ws at [] ≡ ws
+pub overlay-none : (ws : List ℕ) (at : ℕ) → overlay ws at [] ≡ ws
 unfolding overlay
 overlay-none ws at = let e : at + 0 ≡ at = add-zero at in rw e (take-append-drop at ws)
 
-overlay-next : (ws : List ℕ) (at : ℕ) (r new : List ℕ) → at + length r ≤ length ws → overlay (overlay ws at r) (at + length r) new ≡ overlay ws at (r ++ new)
+pub overlay-next : (ws : List ℕ) (at : ℕ) (r new : List ℕ) → at + length r ≤ length ws → overlay (overlay ws at r) (at + length r) new ≡ overlay ws at (r ++ new)
 unfolding overlay
 overlay-next ws at r new h =
     let f : List ℕ = take at ws ++ r in

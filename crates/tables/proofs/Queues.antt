@@ -16,7 +16,8 @@ use Rattle.wiring.proofs.Members.{was-false, isIn-of, in-map, in-flatMap, all-c
 use Rattle.tables.specs.Levels.{once, down, belowPhys, below, nextLevel, levelsFrom, levels}
 use Rattle.tables.specs.Tables.{giveAll, levelList}
 use Rattle.tables.specs.Filling.{add, addAll, physOf}
-use Rattle.tables.proofs.Growing.{drop-next, flat-append}
+use Rattle.tables.proofs.Once.{once-skip, once-take}
+use Rattle.tables.proofs.Growing.{drop-next}
 
 -- the expanders below some phys
 module _ (d : Domain) where
@@ -53,14 +54,14 @@ number-le (e ∷ d) s = go (eqb (e .address) s) (number-le d s)
     go true h = omega arith
     go false h = omega arith
 
-phys-under : (d : Domain) (n : ℕ) → length d < n → (φs : List Phy) → Below n (belowPhys d φs)
+pub phys-under : (d : Domain) (n : ℕ) → length d < n → (φs : List Phy) → Below n (belowPhys d φs)
 unfolding belowPhys
 phys-under d n h φs w i =
     let m = in-map (λ φ. numberOf d (addressOf φ)) (keep (down d) φs) w i in
     let e = m .2 in
     omega (arith, number-le d (addressOf (m .0)))
 
-level-under : (d : Domain) (n : ℕ) → length d < n → (level : List ℕ) → Below n (flatMap (below d) level)
+pub level-under : (d : Domain) (n : ℕ) → length d < n → (level : List ℕ) → Below n (flatMap (below d) level)
 unfolding below
 level-under d n h level w i =
     let m = in-flatMap (below d) level w i in
@@ -93,14 +94,6 @@ module _ (n : ℕ) where
     under = all-cons (λ w. w < n) x seen h (k .under);
   }
 
-  once-skip : (seen : List ℕ) (x : ℕ) (xs : List ℕ) → isIn x seen ≡ true → once seen (x ∷ xs) ≡ once seen xs
-  unfolding once
-  once-skip seen x xs q = rw q
-
-  once-take : (seen : List ℕ) (x : ℕ) (xs : List ℕ) → isIn x seen ≡ false → once seen (x ∷ xs) ≡ x ∷ once (x ∷ seen) xs
-  unfolding once
-  once-take seen x xs q = rw q
-
   module _ (last : List ℕ) where
     abbrev new : List ℕ → List ℕ
     new js = keep (λ i. not (isIn i last)) js
@@ -123,11 +116,11 @@ module _ (n : ℕ) where
             ∙ append-assoc l (x ∷ []) (once (x ∷ seen) (new js))
             ∙ ap (λ (m : List ℕ). l ++ m) (sym (once-take seen x (new js) (sym (k .same x) ∙ q)))
 
-pub next-level : (d : Domain) (last level : List ℕ) → length d ≤ 64 → addAll 65 last [] (flatMap (below d) level) ≡ nextLevel d last level
-unfolding nextLevel
-next-level d last level h =
+-- so a level is whole
+pub all-new : (last js : List ℕ) → Below 65 js → addAll 65 last [] js ≡ once [] (keep (λ i. not (isIn i last)) js)
+all-new last js h =
     let k : Kept 65 [] [] = record { same = λ w. refl; long = refl; distinct = tt; under = λ w i. absurd i } in
-    all-added 65 last (flatMap (below d) level) [] [] k (level-under d 65 (omega arith) level)
+    all-added 65 last js [] [] k h
 
 pub first-level : (d : Domain) (φ : Phy) → addAll 65 [] [] (belowPhys d (φ ∷ [])) ≡ belowPhys d (φ ∷ [])
 unfolding addAll add belowPhys keep isIn any
@@ -136,21 +129,3 @@ first-level d φ = go (down d φ)
     go : (b : Bool) → addAll 65 [] [] (map (λ φ. numberOf d (addressOf φ)) (cond b (φ ∷ []) [])) ≡ map (λ φ. numberOf d (addressOf φ)) (cond b (φ ∷ []) [])
     go true = refl
     go false = refl
-
--- the phys of the levels left
-pub levels-start : (d : Domain) (x p n : ℕ) (last level : List ℕ) → n ≡ length d → last ≡ x ∷ [] → level ≡ belowPhys d (phyAt d x p ∷ [])
-    → giveAll d x [] (physOf d (levelsFrom (n - 0) d last level)) ≡ levelList d x p
-unfolding levelList levels
-levels-start d x p n last level q e f = let z : n - 0 ≡ length d = omega arith in rw (z, e, f)
-
-module _ (d : Domain) (n k : ℕ) (last level : List ℕ) where
-  pub levels-next : {next : List ℕ} → next ≡ nextLevel d last level → k < n
-      → physOf d (levelsFrom (n - k) d last level) ≡ physOf d level ++ physOf d (levelsFrom (n - (k + 1)) d level next)
-  unfolding levelsFrom
-  levels-next q h =
-      let e : n - k ≡ suc (n - (k + 1)) = omega arith in
-      rw (e, q) (flat-append (λ i. expanderAt d i .phys) level (levelsFrom (n - (k + 1)) d level (nextLevel d last level)))
-
-  pub levels-last : n ≤ k → physOf d (levelsFrom (n - k) d last level) ≡ []
-  unfolding levelsFrom flatMap
-  levels-last h = let e : n - k ≡ 0 = omega arith in rw e

@@ -1,4 +1,4 @@
--- What the functions that fill tables make: a level with room for so many, a list with room for so many words, words put at a place.
+-- What the functions that fill tables make: a level with room for so many, a list that grows, words put at a place.
 use Prim.Native.Nat.{ℕ, _+_, _≤_, min}
 use mathlib.Core.Path.{_≡_}
 use mathlib.Core.Bool.{cond, _||_}
@@ -9,7 +9,7 @@ use Rattle.wiring.specs.declared.Phy.{Phy}
 use Rattle.wiring.specs.Lists.{keep, isIn}
 use Rattle.wiring.specs.Domain.{Domain, expanderAt, phyAt, routes}
 use Rattle.wiring.specs.Causes.{Place, phyPlaces}
-use Rattle.tables.specs.Tables.{giveAll, levelList, table}
+use Rattle.tables.specs.Tables.{levelList, table}
 
 -- a level so far, and one number more: none of the level before it, none twice, at most `room`
 unfoldable pub add : ℕ → List ℕ → List ℕ → ℕ → List ℕ
@@ -28,16 +28,6 @@ pub record Grown (before after : List ℕ) (r : ℕ) (l : List ℕ) : Type 0 whe
 -- n numbers, and these after them, as far as they are new
 abbrev pub Added : List ℕ → List ℕ → List ℕ → ℕ → ℕ → List ℕ → Type 0
 Added last before after n r js = Grown before after r (addAll (length before) last (take n before) js)
-
--- as much of l as has room, and its length, or one more than there is room for
-pub record Given (before after : List ℕ) (r : ℕ) (l : List ℕ) : Type 0 where
-  pub same : length after ≡ length before
-  pub count : r ≡ min (length l) (length before + 1)
-  pub whole : take r after ≡ take (length before) l
-
--- n words of expander x's list, and what these phys give after them
-abbrev pub Gave : Domain → ℕ → List ℕ → List ℕ → ℕ → ℕ → List Phy → Type 0
-Gave d x before after n r φs = Given before after r (giveAll d x (take n before) φs)
 
 -- the phys of these expanders
 abbrev pub physOf : Domain → List ℕ → List Phy

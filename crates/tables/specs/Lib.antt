@@ -1,5 +1,7 @@
 pub mod Wiring
 pub mod Levels
 pub mod Tables
+pub mod Own
+pub mod Prepared
 pub mod Judge
 pub mod Filling

@@ -1,7 +1,11 @@
 // All tables, one after the other in lent words: by expander and then phy.
+use crate::below;
 use crate::filling;
+use crate::order;
+use crate::own;
 use frames::ExpanderNumber;
 use frames::PhyId;
+use wiring::Phy;
 ghost use mathlib.Core.Path.{_≡_};
 ghost use mathlib.Core.List.{[], _∷_, _++_};
 ghost use Prim.Native.Nat.{_+_, _^_, _≤_, _<_};
@@ -10,7 +14,9 @@ ghost use Rattle.wiring.specs.Domain.{phyAt, routes};
 ghost use Rattle.wiring.specs.Causes.{place};
 ghost use Rattle.wiring.specs.Rows.{domainIn};
 ghost use Rattle.tables.specs.Tables.{tablePlaces, tables, size, sizes, needed};
+ghost use Rattle.tables.specs.Levels.{levels};
 ghost use Rattle.tables.specs.Filling.{placesAt, withTables, tablesOf, Put};
+ghost use Rattle.tables.specs.Prepared.{OwnHeld, BelowHeld, Fillable};
 
 // Is phy p of expander i a table phy?
 pub(crate) fn is_table(rows: &[u64], i: ExpanderNumber, p: PhyId) -> bool
@@ -95,9 +101,18 @@ pub fn table_count(rows: &[u64]) -> usize
     sum
 }
 
-// The table of phy p from `at` on, and the place after it.
-fn put_table(rows: &[u64], i: ExpanderNumber, p: PhyId, words: &mut [u64], at: usize) -> usize
-    requires { ⌜ at + size (domainIn (now rows)) (place (i .0) (p .0)) ≤ length (now words) ⌝ }
+// The table of phy p from `at` on, and the place after it. `order` has its levels.
+fn put_table(
+    rows: &[u64],
+    lists: &[u64],
+    order: &[u8],
+    i: ExpanderNumber,
+    p: PhyId,
+    words: &mut [u64],
+    at: usize,
+) -> usize
+    requires { ⌜ OwnHeld (domainIn (now rows)) (now lists) × ((now order ≡ levels (domainIn (now rows)) (i .0) (p .0))
+        × (Fillable (domainIn (now rows)) × (at + size (domainIn (now rows)) (place (i .0) (p .0)) ≤ length (now words)))) ⌝ }
     ensures { λ r. ⌜ Put (now (words .entry)) (now (words .exit)) at r
         (tablesOf (domainIn (now (rows .entry))) (place (i .0) (p .0) ∷ [])) ⌝ }
 {
@@ -105,21 +120,35 @@ fn put_table(rows: &[u64], i: ExpanderNumber, p: PhyId, words: &mut [u64], at: u
         return at;
     }
     let e = at + wiring::index_count(rows, i) as usize;
-    filling::fill_table(rows, i, p, &mut words[at..e]);
+    filling::fill_table(rows, lists, order, i, p, &mut words[at..e]);
     e
 }
 
 // The tables of expander i from `at` on, and the place after them.
-fn put_tables(rows: &[u64], i: ExpanderNumber, words: &mut [u64], at: usize) -> usize
-    requires { ⌜ at + sizes (domainIn (now rows)) (placesAt (domainIn (now rows)) (i .0)) ≤ length (now words) ⌝ }
+fn put_tables(
+    rows: &[u64],
+    lists: &[u64],
+    below: &[u8],
+    order: &mut [u8],
+    i: ExpanderNumber,
+    words: &mut [u64],
+    at: usize,
+) -> usize
+    requires { ⌜ OwnHeld (domainIn (now rows)) (now lists) × (BelowHeld (domainIn (now rows)) (now below) × ((length (now order) ≡ 4160)
+        × (Fillable (domainIn (now rows)) × (at + sizes (domainIn (now rows)) (placesAt (domainIn (now rows)) (i .0)) ≤ length (now words))))) ⌝ }
     ensures { λ r. ⌜ Put (now (words .entry)) (now (words .exit)) at r
         (tablesOf (domainIn (now (rows .entry))) (placesAt (domainIn (now (rows .entry))) (i .0))) ⌝ }
 {
     let n = wiring::phy_count(rows, i);
     let mut to = at;
+    let mut g = Phy::Vacant(0);
+    let mut m: usize = 0;
     let mut p: u8 = 0;
     while p < n {
-        to = put_table(rows, i, PhyId(p), words, to);
+        let f = wiring::phy_at(rows, i, PhyId(p));
+        m = order::order_for(rows, below, i, g, m, f, order);
+        g = f;
+        to = put_table(rows, lists, &order[..m], i, PhyId(p), words, to);
         p += 1;
     }
     to
@@ -127,14 +156,27 @@ fn put_tables(rows: &[u64], i: ExpanderNumber, words: &mut [u64], at: usize) -> 
 
 // All tables from the front on; the words after them stay.
 pub(crate) fn put_all(rows: &[u64], words: &mut [u64])
-    requires { ⌜ needed (domainIn (now rows)) ≤ length (now words) ⌝ }
+    requires { ⌜ Fillable (domainIn (now rows)) × (needed (domainIn (now rows)) ≤ length (now words)) ⌝ }
     ensures { λ _. ⌜ now (words .exit) ≡ tables (domainIn (now (rows .entry))) ++ drop (needed (domainIn (now (rows .entry)))) (now (words .entry)) ⌝ }
 {
+    let mut lists = [0u64; 8256];
+    let mut below = [0u8; 4224];
+    let mut order = [0u8; 4160];
+    own::put_owns(rows, &mut lists[..]);
+    below::put_below(rows, &mut below[..]);
     let n = wiring::expander_count(rows);
     let mut to: usize = 0;
     let mut i: u8 = 0;
     while i < n {
-        to = put_tables(rows, ExpanderNumber(i), words, to);
+        to = put_tables(
+            rows,
+            &lists[..],
+            &below[..],
+            &mut order[..],
+            ExpanderNumber(i),
+            words,
+            to,
+        );
         i += 1;
     }
 }

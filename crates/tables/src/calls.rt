@@ -14,10 +14,11 @@ ghost use Rattle.wiring.specs.Frames.{then};
 ghost use Rattle.wiring.specs.Rows.{domainIn};
 ghost use Rattle.wiring.specs.Checks.{checkAnswer};
 ghost use Rattle.tables.specs.Judge.{judgedDomain, judged, judgeAnswer, expandersIn, tablesFor, tableCall, TablesDone};
+ghost use Rattle.tables.specs.Prepared.{judgedOwn, Lawful};
 
-// Causes 7 to 14 in order.
+// Causes 7 to 14 in order, 14 by own lists: on a domain that was read from a file, `judgedDomain`.
 pub fn judge_rows(rows: &[u64]) -> Check
-    ensures { λ r. ⌜ checkAnswer (domainIn (now (rows .entry))) r ≡ judgedDomain (domainIn (now (rows .entry))) ⌝ }
+    ensures { λ r. ⌜ checkAnswer (domainIn (now (rows .entry))) r ≡ judgedOwn (domainIn (now (rows .entry))) ⌝ }
 {
     let checked = wiring::check_domain(rows);
     match checked {
@@ -47,6 +48,7 @@ pub fn judge(file: &[u8]) -> Judgement
 
 // Causes 7 to 14, then 16, then all tables.
 fn give_rows(rows: &[u64], words: &mut [u64]) -> TablesGiven
+    requires { ⌜ Lawful (domainIn (now rows)) ⌝ }
     ensures { λ r. ⌜ TablesDone (then (judgedDomain (domainIn (now (rows .entry)))) (tablesFor (length (now (words .entry))))) r (now (words .entry)) (now (words .exit)) ⌝ }
 {
     let verdict = judge_rows(rows);

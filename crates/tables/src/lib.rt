@@ -1,18 +1,19 @@
 // Level lists, routing tables, the judging call and the table call.
 mod all_tables;
+mod below;
 mod calls;
 mod filling;
 mod levels;
+mod order;
 mod overlong;
+mod own;
 
 pub use all_tables::needed_words;
 pub use all_tables::table_count;
 pub use calls::give_tables;
 pub use calls::judge;
 pub use calls::judge_rows;
-pub use filling::fill_table;
 use frames::Refusal;
-pub use overlong::first_overlong;
 
 // What the layer above uses of the layers below.
 pub use wiring::Check;

@@ -8,6 +8,7 @@ use tables::DomainRead;
 ghost use lib.ListN.{length};
 ghost use Rattle.tracing.specs.Trace.{traceCall};
 ghost use Rattle.tracing.specs.Answers.{judgedRequest, Answered};
+ghost use Rattle.tables.specs.Prepared.{Lawful};
 ghost use Rattle.tables.specs.Wiring.{domainIn};
 
 // Causes 7 to 17 of a request over rows, then the walk.
@@ -19,6 +20,7 @@ fn request_rows(
     s: u64,
     passed: &mut [u8],
 ) -> TraceAnswer
+    requires { ⌜ Lawful (domainIn (now rows)) ⌝ }
     ensures { λ r. ⌜ Answered
         (judgedRequest (domainIn (now (rows .entry))) (now (words .entry)) (length (now (passed .entry))) (start .0) (arrival .0) s)
         r (now (passed .entry)) (now (passed .exit)) ⌝ }

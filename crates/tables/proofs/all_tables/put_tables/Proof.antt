@@ -1,47 +1,76 @@
 use Prim.Native.Nat.{ℕ, _+_, _-_, _≤_}
 use mathlib.Core.List.{List, [], _∷_}
-use mathlib.Core.Path.{_≡_, refl, _∙_, ap}
+use mathlib.Core.Path.{_≡_, refl, sym, _∙_, ap}
 use native.Mathlib.Omega.{arith}
 use lib.ListN.{length}
+use lib.Seq.{length-take-le}
 use Rattle.wiring.specs.Domain.{Domain, expanderAt}
 use Rattle.wiring.specs.Causes.{Place, place, phyPlaces}
 use Rattle.wiring.specs.Rows.{domainIn}
 use Rattle.tables.specs.Tables.{sizes}
-use Rattle.tables.specs.Filling.{placesAt, tablesOf, overlay}
+use Rattle.tables.specs.Filling.{Grown, placesAt, tablesOf, overlay}
+use Rattle.tables.specs.Prepared.{orderOf}
+use Rattle.tables.proofs.Growing.{grown-kept, grown-again}
+use Rattle.tables.proofs.Orders.{order-none, order-levels}
 use Rattle.tables.proofs.Puts.{phys-next, phys-last, phys-sizes, sizes-none, length-tables, put-go, put-long, put-end}
 use borrow.Author.Needs.{needs}
 use Rattle.tables.proofs.all_tables.put_tables.Statement.{statement}
 use Rattle.tables.proofs.all_tables.put_tables.Tie as tie
 
 abbrev Inv-loop : tie.InvT-loop
-Inv-loop rows i words₀ at n to₀ p₀ words to p =
+Inv-loop rows lists below order₀ i words₀ at n to₀ g₀ m₀ p₀ order words to g m p =
     (p ≤ n)
+    × ((length order ≡ length order₀)
+    × (Grown order order m (orderOf (domainIn rows) (i .0) g)
     × ((length words ≡ length words₀)
     × ((to + sizes (domainIn rows) (phyPlaces (i .0) p (n - p)) ≡ at + sizes (domainIn rows) (placesAt (domainIn rows) (i .0)))
     × (overlay words to (tablesOf (domainIn rows) (phyPlaces (i .0) p (n - p)))
-    ≡ overlay words₀ at (tablesOf (domainIn rows) (placesAt (domainIn rows) (i .0))))))
+    ≡ overlay words₀ at (tablesOf (domainIn rows) (placesAt (domainIn rows) (i .0))))))))
 
 abbrev μ-loop : tie.MeasureT-loop
-μ-loop rows i words₀ at n to₀ p₀ words to p = n - p
+μ-loop rows lists below order₀ i words₀ at n to₀ g₀ m₀ p₀ order words to g m p = n - p
 
 phy-count-requires : tie.Need-phy-count-requires Inv-loop μ-loop
 phy-count-requires c κs = search needs
 
 loop-holds : tie.Need-loop-holds Inv-loop μ-loop
 loop-holds c =
-    let a = c .before .before .before .args in
+    let a = c .before .before .before .before .before .before .args in
     let d : Domain = domainIn (a .rows .now) in
     let e : c .phy-count .result - 0 ≡ length (expanderAt d (a .i .0) .phys) = omega arith in
+    let o = grown-kept 0 (a .order .now) (order-none d (a .i .0) 0) (omega arith) in
     let s = ap (λ (x : ℕ). a .at + sizes d (phyPlaces (a .i .0) 0 x)) e in
-    (omega arith, (refl, (s, ap (λ (x : ℕ). overlay (a .words .now) (a .at) (tablesOf d (phyPlaces (a .i .0) 0 x))) e)))
+    (omega arith, (refl, (o, (refl, (s, ap (λ (x : ℕ). overlay (a .words .now) (a .at) (tablesOf d (phyPlaces (a .i .0) 0 x))) e)))))
+
+phy-at-requires : tie.Need-phy-at-requires Inv-loop μ-loop
+phy-at-requires c κs = search needs
+
+order-for-requires : tie.Need-order-for-requires Inv-loop μ-loop
+order-for-requires c κs =
+    let s = c .before .before .before .before .before .before .before .before .before .before in
+    let l = c .before .before .before .loop in
+    (s .pre .1 .0, (omega arith, l .inv .1 .1 .0))
+
+slice-reshare-prefix-put-table : tie.Need-slice-reshare-prefix-put-table Inv-loop μ-loop
+slice-reshare-prefix-put-table c =
+    let g = c .before .before .order-for .ensures in
+    omega (arith, g .same, g .fits)
+
+slice-aggregate-put-table : tie.Need-slice-aggregate-put-table Inv-loop μ-loop
+slice-aggregate-put-table c =
+    let g = c .before .before .before .order-for .ensures in
+    sym (length-take-le (c .before .before .before .order-for .result) _ (omega (arith, g .same, g .fits)))
 
 put-table-requires : tie.Need-put-table-requires Inv-loop μ-loop
 put-table-requires c κs =
-    let a = c .before .before .before .before .before .before .args in
-    let l = c .before .before .loop in
+    let s = c .before .before .before .before .before .before .before .before .before .before .before .before .before .before .before in
+    let a = s .args in
+    let l = c .before .before .before .before .before .before .before .before .loop in
     let d : Domain = domainIn (a .rows .now) in
-    let n : ℕ = c .before .before .before .phy-count .result in
-    omega (arith, phys-sizes d (a .i .0) n (l .p) (omega arith))
+    let n : ℕ = c .before .before .before .before .before .before .before .before .before .phy-count .result in
+    let o = c .before .before .before .before .order-for .ensures in
+    let q = o .whole ∙ ap (orderOf d (a .i .0)) (c .before .before .before .before .before .before .phy-at .ensures) ∙ order-levels d (a .i .0) (l .p) in
+    (s .pre .0, (q, (s .pre .1 .1 .1 .0, omega (arith, phys-sizes d (a .i .0) n (l .p) (omega arith)))))
 
 add-p : tie.Need-add-p Inv-loop μ-loop
 add-p c = omega arith
@@ -51,31 +80,43 @@ loop-less c = omega arith
 
 loop-again : tie.Need-loop-again Inv-loop μ-loop
 loop-again c =
-    let a = c .before .before .before .before .before .before .before .before .before .args in
-    let l = c .before .before .before .before .before .loop in
+    let a = c .before .before .before .before .before .before .before .before .before .before .before .before .before .before .before .before .before .before .args in
+    let l = c .before .before .before .before .before .before .before .before .before .before .before .loop in
     let d : Domain = domainIn (a .rows .now) in
-    let n : ℕ = c .before .before .before .before .before .before .phy-count .result in
+    let n : ℕ = c .before .before .before .before .before .before .before .before .before .before .before .before .phy-count .result in
+    let o = c .before .before .before .before .before .before .before .order-for .ensures in
     let u = c .before .before .put-table .ensures in
     let rest : List Place = phyPlaces (a .i .0) (l .p) (n - l .p) in
     let piece : List Place = place (a .i .0) (l .p) ∷ [] in
     let e = phys-next (a .i .0) n (l .p) (omega arith) in
-    let s = put-long d (l .to) rest piece _ (u .next) e ∙ l .inv .1 .1 .0 in
-    (omega arith, (u .same ∙ l .inv .1 .0, (s, put-go d (l .words) (l .to) rest (l .inv .1 .1 .1) piece _ u e (omega arith))))
+    let v = l .inv .1 .1 .1 in
+    let h = c .before .before .before .before .before .before .before .before .before .before .before .before .before .before .before .before .before .before .pre .1 .1 .1 .1 in
+    let s = put-long d (l .to) rest piece _ (u .next) e ∙ v .1 .0 in (
+      omega arith,
+      (
+        o .same ∙ l .inv .1 .0,
+        (grown-again o, (u .same ∙ v .0, (s, put-go d (l .words) (l .to) rest (v .1 .1) piece _ u e (omega (arith, h, v .0, v .1 .0))))),
+      ),
+    )
 
 same-length : tie.Need-same-length Inv-loop μ-loop
 same-length c = search needs
 
+same-length-2 : tie.Need-same-length-2 Inv-loop μ-loop
+same-length-2 c = search needs
+
 returns : tie.Need-returns Inv-loop μ-loop
 returns c =
-    let a = c .before .before .before .before .before .args in
+    let a = c .before .before .before .before .before .before .before .before .args in
     let l = c .before .loop in
     let d : Domain = domainIn (a .rows .now) in
     let n : ℕ = c .before .before .phy-count .result in
+    let v = l .inv .1 .1 .1 in
     let e = phys-last (a .i .0) n (l .p) (omega arith) in
     record {
-      same = l .inv .1 .0;
+      same = v .0;
       next = omega (arith, sizes-none d _ e, length-tables d (placesAt d (a .i .0)));
-      words = put-end d (l .words) (l .to) _ (l .inv .1 .1 .1) e;
+      words = put-end d (l .words) (l .to) _ (v .1 .1) e;
     }
 
 pub put-tables-spec : {M : Type 1} → statement M
@@ -86,9 +127,14 @@ put-tables-spec =
     μ-loop
     phy-count-requires
     loop-holds
+    phy-at-requires
+    order-for-requires
+    slice-reshare-prefix-put-table
+    slice-aggregate-put-table
     put-table-requires
     add-p
     loop-less
     loop-again
     same-length
+    same-length-2
     returns)

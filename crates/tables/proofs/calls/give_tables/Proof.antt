@@ -5,6 +5,7 @@ use lib.ListN.{length-replicate}
 use lib.Seq.{length-take-le}
 use borrow.Author.Needs.{needs}
 use Rattle.tables.proofs.Judging.{call-refused, call-done}
+use Rattle.tables.proofs.Lawful.{lawful}
 use Rattle.wiring.proofs.Opening.{opened-as}
 use Rattle.tables.proofs.calls.give_tables.Statement.{statement}
 use Rattle.tables.proofs.calls.give_tables.Tie as tie
@@ -44,7 +45,10 @@ slice-aggregate-give-rows c =
     sym (length-take-le _ (r .last .1 .0) (omega arith))
 
 give-rows-requires : tie.Need-give-rows-requires
-give-rows-requires c κs = search needs
+give-rows-requires c κs =
+    let r = c .before .before .before .before .before .before .read-domain in
+    let o = opened-as _ _ _ _ _ (length-replicate {A = ℕ} 16512 0) (r .ensures) (c .before .before .before .read2 .given .1) in
+    lawful _ _ (o .0)
 
 returns : tie.Need-returns
 returns c =

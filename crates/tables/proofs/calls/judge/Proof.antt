@@ -5,6 +5,7 @@ use lib.ListN.{length-replicate}
 use lib.Seq.{length-take-le}
 use borrow.Author.Needs.{needs}
 use Rattle.tables.proofs.Judging.{judge-refused, judge-by}
+use Rattle.tables.proofs.Lawful.{lawful, judged-own}
 use Rattle.wiring.proofs.Opening.{opened-as}
 use Rattle.wiring.specs.Checks.{checkAnswer}
 use Rattle.wiring.specs.Frames.{good}
@@ -64,14 +65,14 @@ returns-2 c =
     let f = c .before .before .before .before .before .before in
     let r = f .before .before .before .read-domain in
     let o = opened-as _ _ _ _ _ (length-replicate {A = ℕ} 16512 0) (r .ensures) (f .read2 .given .1) in
-    judge-by _ _ _ (o .0) (sym (c .before .before .before .judge-rows .ensures) ∙ ap (checkAnswer _) (c .before .verdict .given .1))
+    judge-by _ _ _ (o .0) (sym (judged-own _ (lawful _ _ (o .0))) ∙ sym (c .before .before .before .judge-rows .ensures) ∙ ap (checkAnswer _) (c .before .verdict .given .1))
 
 returns-3 : tie.Need-returns-3
 returns-3 c =
     let f = c .before .before .before .before .before in
     let r = f .before .before .before .read-domain in
     let o = opened-as _ _ _ _ _ (length-replicate {A = ℕ} 16512 0) (r .ensures) (f .read2 .given .1) in
-    ap good (o .1 .1) ∙ judge-by _ _ _ (o .0) (sym (c .before .before .judge-rows .ensures) ∙ ap (checkAnswer _) (c .enum-told .given .1))
+    ap good (o .1 .1) ∙ judge-by _ _ _ (o .0) (sym (judged-own _ (lawful _ _ (o .0))) ∙ sym (c .before .before .judge-rows .ensures) ∙ ap (checkAnswer _) (c .enum-told .given .1))
 
 pub judge-spec : {M : Type 1} → statement M
 judge-spec =

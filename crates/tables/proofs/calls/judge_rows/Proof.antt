@@ -1,6 +1,6 @@
 use mathlib.Core.Path.{sym, _∙_, ap}
 use borrow.Author.Needs.{needs}
-use Rattle.tables.proofs.Judging.{judge-checked}
+use Rattle.tables.proofs.Lawful.{own-checked}
 use Rattle.wiring.specs.Checks.{checkAnswer}
 use Rattle.tables.proofs.calls.judge_rows.Statement.{statement}
 use Rattle.tables.proofs.calls.judge_rows.Tie as tie
@@ -18,11 +18,11 @@ first-overlong-requires : tie.Need-first-overlong-requires
 first-overlong-requires c κs = search needs
 
 returns : tie.Need-returns
-returns c = sym (judge-checked _ _ (sym (c .before .before .before .check-domain .ensures) ∙ ap (checkAnswer _) (c .before .checked .given .1)))
+returns c = sym (own-checked _ _ (sym (c .before .before .before .check-domain .ensures) ∙ ap (checkAnswer _) (c .before .checked .given .1)))
 
 returns-2 : tie.Need-returns-2
 returns-2 c =
-    c .first-overlong .ensures ∙ sym (judge-checked _ _ (sym (c .before .before .before .check-domain .ensures) ∙ ap (checkAnswer _) (c .before .enum-told .given .1)))
+    c .first-overlong .ensures ∙ sym (own-checked _ _ (sym (c .before .before .before .check-domain .ensures) ∙ ap (checkAnswer _) (c .before .enum-told .given .1)))
 
 pub judge-rows-spec : {M : Type 1} → statement M
 judge-rows-spec =

@@ -18,7 +18,7 @@ returns c =
     let a = c .before .before .before .before .args in
     let room : ℕ = length (a .next .now) in
     let l : List ℕ = take (a .n) (a .next .now) in
-    grown-kept (a .n) (a .next .now) (add-by room (a .last .now) l (a .j) (sym (c .before .has-number .ensures) ∙ c .if1 .taken) refl refl) (omega arith)
+    grown-kept (a .n) (a .next .now) (add-by room (a .last .now) l (a .j .0) (sym (c .before .has-number .ensures) ∙ c .if1 .taken) refl refl) (omega arith)
 
 slice-reshare-prefix-has-number : tie.Need-slice-reshare-prefix-has-number
 slice-reshare-prefix-has-number c = search needs
@@ -38,7 +38,7 @@ returns-2 c =
     let room : ℕ = length (a .next .now) in
     let l : List ℕ = take (a .n) (a .next .now) in
     let other = sym (c .before .before .before .before .has-number .ensures) ∙ c .before .before .before .if1 .left in
-    grown-kept (a .n) (a .next .now) (add-by room (a .last .now) l (a .j) other (sym (c .before .has-number2 .ensures) ∙ c .if2 .taken) refl) (omega arith)
+    grown-kept (a .n) (a .next .now) (add-by room (a .last .now) l (a .j .0) other (sym (c .before .has-number2 .ensures) ∙ c .if2 .taken) refl) (omega arith)
 
 slice-write-next : tie.Need-slice-write-next
 slice-write-next c = search needs
@@ -57,7 +57,7 @@ returns-3 c =
     let other = sym (c .before .before .before .before .before .has-number .ensures) ∙ c .before .before .before .before .if1 .left in
     let new = sym (c .before .before .has-number2 .ensures) ∙ c .before .if2 .left in
     let s = length-take-le (a .n) (a .next .now) (omega arith) in
-    grown-more (a .n) (a .next .now) (a .j) (add-by room (a .last .now) l (a .j) other new (lt-leb room (length l) (omega arith))) (omega arith)
+    grown-more (a .n) (a .next .now) (a .j .0) (add-by room (a .last .now) l (a .j .0) other new (lt-leb room (length l) (omega arith))) (omega arith)
 
 same-length-3 : tie.Need-same-length-3
 same-length-3 c = search needs
@@ -70,7 +70,7 @@ returns-4 c =
     let other = sym (c .before .before .before .before .before .has-number .ensures) ∙ c .before .before .before .before .if1 .left in
     let new = sym (c .before .before .has-number2 .ensures) ∙ c .before .if2 .left in
     let s = length-take-le (a .n) (a .next .now) (omega arith) in
-    grown-kept (a .n) (a .next .now) (add-by room (a .last .now) l (a .j) other new (le-leb room (length l) (omega arith))) (omega arith)
+    grown-kept (a .n) (a .next .now) (add-by room (a .last .now) l (a .j .0) other new (le-leb room (length l) (omega arith))) (omega arith)
 
 pub add-number-spec : {M : Type 1} → statement M
 add-number-spec =

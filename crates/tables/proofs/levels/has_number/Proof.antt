@@ -8,7 +8,7 @@ use Rattle.tables.proofs.levels.has_number.Statement.{statement}
 use Rattle.tables.proofs.levels.has_number.Tie as tie
 
 abbrev Inv-loop : tie.InvT-loop
-Inv-loop l j i₀ i = (i ≤ length l) × (isIn j (drop i l) ≡ isIn j l)
+Inv-loop l j i₀ i = (i ≤ length l) × (isIn (j .0) (drop i l) ≡ isIn (j .0) l)
 
 abbrev μ-loop : tie.MeasureT-loop
 μ-loop l j i₀ i = length l - i
@@ -20,7 +20,7 @@ shared-slice-read-if1 : tie.Need-shared-slice-read-if1 Inv-loop μ-loop
 shared-slice-read-if1 c = omega arith
 
 returns : tie.Need-returns Inv-loop μ-loop
-returns c = isIn-stop _ (c .before .before .before .loop .i) (c .before .before .before .before .args .l .now) (c .if1 .taken) (omega arith)
+returns c = isIn-stop _ (c .before .before .before .before .loop .i) (c .before .before .before .before .before .args .l .now) (c .if1 .taken) (omega arith)
 
 add-i : tie.Need-add-i Inv-loop μ-loop
 add-i c = omega arith
@@ -30,8 +30,8 @@ loop-less c = omega arith
 
 loop-again : tie.Need-loop-again Inv-loop μ-loop
 loop-again c =
-    let l = c .before .before .before .loop in
-    (omega arith, isIn-go _ (l .i) (c .before .before .before .before .args .l .now) (l .inv .1) (c .if1 .left))
+    let l = c .before .before .before .before .loop in
+    (omega arith, isIn-go _ (l .i) (c .before .before .before .before .before .args .l .now) (l .inv .1) (c .if1 .left))
 
 returns-2 : tie.Need-returns-2 Inv-loop μ-loop
 returns-2 c = let l = c .before .loop in isIn-end _ (l .i) (c .before .before .args .l .now) (l .inv .1) (omega arith)

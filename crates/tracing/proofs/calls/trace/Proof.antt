@@ -4,6 +4,7 @@ use native.Mathlib.Omega.{arith}
 use lib.ListN.{length-replicate}
 use lib.Seq.{length-take-le}
 use borrow.Author.Needs.{needs}
+use Rattle.tables.proofs.Lawful.{lawful}
 use Rattle.tables.proofs.Wiring.{opened-as}
 use Rattle.tracing.proofs.Asked.{call-refused, call-done}
 use Rattle.tracing.proofs.calls.trace.Statement.{statement}
@@ -44,7 +45,10 @@ slice-aggregate-request-rows c =
     sym (length-take-le _ (r .last .1 .0) (omega arith))
 
 request-rows-requires : tie.Need-request-rows-requires
-request-rows-requires c κs = search needs
+request-rows-requires c κs =
+    let r = c .before .before .before .before .before .before .read-domain in
+    let o = opened-as _ _ _ _ _ (length-replicate {A = ℕ} 16512 0) (r .ensures) (c .before .before .before .read2 .given .1) in
+    lawful _ _ (o .0)
 
 returns : tie.Need-returns
 returns c =

@@ -1,0 +1,315 @@
+-- The law of level lists: past causes 1 to 13, each expander of the levels gives its own list, whatever the table.
+use mathlib.Core.Path.{_≡_, refl, sym, ap, subst, _∙_}
+use mathlib.Core.Logic.{_⊎_, inl, inr, _≢_, _↔_, ⊎-elim}
+use mathlib.Core.List.{List, [], _∷_, _++_, flatMap, append-assoc, append-nil}
+use mathlib.Core.Bool.{Bool, true, false, cond, not}
+use Prim.Native.Nat.{ℕ, zero, suc, _≤_, _<_}
+use native.Mathlib.Omega.{arith}
+use lib.ListN.{length}
+use lib.Dec.{T, eqb}
+use Rattle.wiring.specs.declared.Phy.{Phy}
+use Rattle.wiring.specs.declared.Phy.the-variants.{Vacant}
+use Rattle.wiring.specs.Lists.{any, isIn, In, Distinct, last}
+use Rattle.wiring.specs.Domain.{Domain, expanderAt, phyAt, addressOf, attributeOf, routes, attached, toExpander, bears, numberOf}
+use Rattle.wiring.proofs.Members.{tests, or-cases, or-left, or-right, T?, is-true, is-false, same-test, in-cast, in-append, in-left, in-right, getD-in, isIn-of, of-isIn, last-in}
+use Rattle.wiring.proofs.Wires.{Wired, expander-attached, attached-cases, routes-one, plain-attribute, in-range, differ, far-below, far-is, to-adj, adj-symmetric}
+use Rattle.wiring.proofs.Accepted.{Linked}
+use Rattle.tables.specs.Levels.{down, nextLevel, levelsFrom, levels}
+use Rattle.tables.specs.Tables.{word, heldBy, gives, give, giveAll, levelList}
+use Rattle.tables.specs.Own.{owns, ownFrom, own, ownList}
+use Rattle.tables.specs.Filling.{physOf}
+use Rattle.tables.proofs.Beyond.{Leads, Table, Sub, Descent, last-snoc, linked-clear, table-start, table-back, adj-cases, one-sub, descent-chain, descent-snoc, in-next, down-leads, levels-few, levels-none}
+use Rattle.tables.proofs.Listed.{held-cases, held-self, held-phy, in-give, give-old, give-new, in-given, given-in, end-far}
+use Rattle.tables.proofs.Growing.{flat-append, and-false, giveAll-append}
+use Rattle.tables.proofs.Queues.{below-none, below-one}
+
+-- the phys of one expander, after the list `before`
+module _ (d : Domain) (x : ℕ) (before : List ℕ) where
+  -- an address that x does not hold, and that is not in the list before
+  record New (s : ℕ) : Type 0 where
+    borne : s ≢ 0
+    far : ¬ (T (heldBy d x s))
+    fresh : ¬ (In s before)
+
+  -- a phy of it: nothing attached, direct, subtractive with an address that x holds or that is listed, or table with a new one
+  data Fits (φ : Phy) : Type 0 where
+    unattached : ¬ (T (attached φ)) → Fits φ
+    direct : T (routes 0 φ) → Fits φ
+    held : T (routes 1 φ) → T (heldBy d x (addressOf φ)) → Fits φ
+    listed : T (routes 1 φ) → In (addressOf φ) before → Fits φ
+    beyond : T (attached φ) → T (routes 2 φ) → New (addressOf φ) → Fits φ
+
+  -- the list so far, and the lower phys: what was listed stays, and a new address is listed where a lower phy bears it
+  record Agree (l : List ℕ) (lower : List Phy) : Type 0 where
+    old : (s : ℕ) → In s before → In s l
+    new : (s : ℕ) → New s → T (isIn s l) ↔ T (any (bears s) lower)
+
+  no-table : (φ : Phy) → T (routes 1 φ) → routes 2 φ ≡ false
+  no-table φ t = is-false (routes 2 φ) (λ u. let e = routes-one 1 2 φ t u in omega arith)
+
+  -- a phy gives its word to the list where its expander's own list has it
+  gives-owns : (φ : Phy) (lower : List Phy) (l : List ℕ) → Agree l lower → Fits φ → gives d x l φ ≡ owns lower φ
+  unfolding gives owns
+  gives-owns φ lower l g (unattached k) = rw (is-false (attached φ) k, and-false (routes 2 φ)) refl
+  gives-owns φ lower l g (direct t) = rw (is-true (routes 0 φ) t) refl
+  gives-owns φ lower l g (held t o) = rw (no-table φ t, is-true (heldBy d x (addressOf φ)) o, and-false (attached φ)) refl
+  gives-owns φ lower l g (listed t o) =
+      let s = addressOf φ in
+      rw (no-table φ t, is-true (isIn s l) (isIn-of s l (g .old s o)), and-false (not (heldBy d x s)), and-false (attached φ)) refl
+  gives-owns φ lower l g (beyond t u n) =
+      let s = addressOf φ in
+      let same = same-test (isIn s l) (any (bears s) lower) (g .new s n .0) (g .new s n .1) in
+      rw (is-true (attached φ) t, is-true (routes 2 φ) u, is-false (heldBy d x s) (n .far), same) refl
+
+  agree-next : (φ : Phy) (lower : List Phy) (l : List ℕ) → Agree l lower → Agree (give d x l φ) (φ ∷ lower)
+  unfolding any
+  agree-next φ lower l g = record {
+    old = λ s h. give-old d x s l φ (g .old s h);
+    new = λ s n. (
+      λ t. ⊎-elim (λ o. or-right (bears s φ) (any (bears s) lower) (g .new s n .0 (isIn-of s l o)))
+          (λ o. let y = o .0 in let e = o .1 in or-left (bears s φ) (any (bears s) lower) (search tests))
+          (in-give d x s l φ (n .borne) (of-isIn s (give d x l φ) t)),
+      λ t. isIn-of s (give d x l φ)
+          (⊎-elim (λ o. give-new d x s l φ (search tests) (search tests) (n .far)) (λ o. give-old d x s l φ (of-isIn s l (g .new s n .1 o)))
+          (or-cases (bears s φ) (any (bears s) lower) t)),
+    );
+  }
+
+  -- a word, or none, and the rest
+  joins : (b : Bool) (l rest : List ℕ) (v : ℕ) → cond b (l ++ (v ∷ [])) l ++ rest ≡ l ++ cond b (v ∷ rest) rest
+  joins true l rest v = append-assoc l (v ∷ []) rest
+  joins false l rest v = refl
+
+  -- the phys of an expander give its own list
+  gives-own : (φs lower : List Phy) (l : List ℕ) → ((φ : Phy) → In φ φs → Fits φ) → Agree l lower → giveAll d x l φs ≡ l ++ ownFrom lower φs
+  unfolding giveAll ownFrom give
+  gives-own [] lower l f g = sym (append-nil l)
+  gives-own (φ ∷ φs) lower l f g =
+      gives-own φs (φ ∷ lower) (give d x l φ) (λ ψ h. f ψ (inr h)) (agree-next φ lower l g)
+      ∙ rw (gives-owns φ lower l g (f φ (inl refl))) (joins (owns lower φ) l (ownFrom (φ ∷ lower) φs) (word φ))
+
+-- cause 6 leaves direct, subtractive and table
+attribute-cases : (m : ℕ) → m ≤ 2 → T (eqb m 0) ⊎ (T (eqb m 1) ⊎ T (eqb m 2))
+attribute-cases zero h = inl tt
+attribute-cases (suc zero) h = inr (inl tt)
+attribute-cases (suc (suc zero)) h = inr (inr tt)
+attribute-cases (suc (suc (suc m))) h = absurd (omega arith)
+
+module _ (d : Domain) (w : Wired d) (r : Linked d) where
+  -- an expander has one expander above it: the one whose table phys are attached to it
+  table-to : (i p : ℕ) → T (toExpander (phyAt d i p)) → T (routes 2 (phyAt d i p)) → Table d i (numberOf d (addressOf (phyAt d i p)))
+  table-to i p t u = record { phy = p; to = far-is d w i p t; routed = u; end = far-below d w i p t; single = r .noTables i p t u }
+
+  one-above : (u v e : ℕ) → Table d u e → Table d v e → u ≡ v
+  one-above u v e s t = one-sub d w e u v (table-back d w r u e s) (table-back d w r v e t)
+
+  -- the subtractive phys of an expander bear the address of the one above it
+  sub-address : (u e q : ℕ) → Table d u e → T (attached (phyAt d e q)) → T (routes 1 (phyAt d e q))
+      → addressOf (phyAt d e q) ≡ expanderAt d u .address
+  sub-address u e q k t y =
+      let b = table-back d w r u e k in
+      w .oneWay e q (b .phy) t (expander-attached (phyAt d e (b .phy)) (b .to .expander)) y (b .routed) ∙ b .to .address
+
+  -- the link from expander j back to an expander to which it is attached
+  link-back : (i p j : ℕ) → j < length d → T (attached (phyAt d i p)) → addressOf (phyAt d i p) ≡ expanderAt d j .address
+      → Sub d j i ⊎ Table d j i
+  link-back i p j h t e =
+      ⊎-elim (λ y. absurd (w .apart i p j y h e))
+      (λ y. let adj = to-adj d w i p j (record { expander = y; address = e }) in
+      adj-cases d w j i h (in-range d i p t .0) (adj-symmetric d i j adj) (linked-clear d r j (i ∷ []) .0))
+      (attached-cases (phyAt d i p) t)
+
+  -- the address at a table phy of e is not held by another expander m that is neither below that phy nor one level further
+  table-far : (e q m : ℕ) → m < length d → e ≢ m → T (attached (phyAt d e q)) → T (routes 2 (phyAt d e q))
+      → ((v : ℕ) → Table d e v → (v ≢ m) × ¬ (Table d v m)) → ¬ (T (heldBy d m (addressOf (phyAt d e q))))
+  table-far e q m h k t u f o =
+      ⊎-elim (λ y. end-far d w r e q m (addressOf (phyAt d e q)) y refl k h o)
+      (λ y. let c = table-to e q y u in
+      let v = numberOf d (addressOf (phyAt d e q)) in
+      let to = far-is d w e q y .address in
+      ⊎-elim (λ g. f v c .0 (differ d w v m (c .end) h (sym to ∙ sym g)))
+      (λ g. ⊎-elim (λ z. k (one-sub d w v e m (table-back d w r e v c) z)) (f v c .1) (link-back m (g .0) v (c .end) (g .1) (g .2 ∙ to)))
+      (held-cases d m (addressOf (phyAt d e q)) o))
+      (attached-cases (phyAt d e q) t)
+
+  module _ (x : ℕ) where
+    -- expander v lies down the tables from x
+    abbrev Under : ℕ → Type 0
+    Under v = (y : ℕ) × (l : List ℕ) × Descent d x (y ∷ l) × (last y l ≡ v)
+
+    under-start : (v : ℕ) → Under v → x < length d
+    under-start v b = table-start d w x (b .0) (b .2 .0)
+
+    under-off : (v : ℕ) → Under v → v ≢ x
+    under-off v b e =
+        let c = descent-chain d w r x v (b .0 ∷ b .1) (under-start v b) (b .2) (b .3) in
+        c .diff .0 (in-cast (b .0 ∷ b .1) (sym e ∙ sym (b .3)) (last-in (b .0) (b .1)))
+
+    under-next : (u v : ℕ) → Under u → Table d u v → Under v
+    under-next u v b t =
+        (b .0, b .1 ++ (v ∷ []), descent-snoc d w r x (b .0 ∷ b .1) v (b .2) (subst (λ y. Table d y v) (sym (b .3)) t), last-snoc (b .0) (b .1) v)
+
+    -- expander e lies below x or below one of those done
+    record Follows (done : List ℕ) (e : ℕ) : Type 0 where
+      above : ℕ
+      earlier : In above (x ∷ done)
+      link : Table d above e
+      under : Under e
+
+    -- so does each of those done
+    abbrev Closed : List ℕ → Type 0
+    Closed done = (m : ℕ) → In m done → Follows done m
+
+    follows-more : (done more : List ℕ) (e : ℕ) → Follows done e → Follows (done ++ more) e
+    follows-more done more e o =
+        let h = ⊎-elim inl (λ h. inr (in-left done more (o .above) h)) (o .earlier) in
+        record { above = o .above; earlier = h; link = o .link; under = o .under }
+
+    closed-more : (done : List ℕ) (e : ℕ) → Closed done → Follows done e → Closed (done ++ (e ∷ []))
+    closed-more done e c o m h =
+        follows-more done (e ∷ []) m (⊎-elim (c m) (⊎-elim (λ q. subst (Follows done) (sym q) o) (λ z. absurd z)) (in-append done (e ∷ []) m h))
+
+    -- levels in order: each expander comes after the one above it
+    abbrev Ordered : List ℕ → List ℕ → Type 0
+    Ordered done [] = Unit {0}
+    Ordered done (e ∷ es) = Follows done e × Ordered (done ++ (e ∷ [])) es
+
+    ordered-append : (done es fs : List ℕ) → ((e : ℕ) → In e es → Follows done e) → Ordered (done ++ es) fs → Ordered done (es ++ fs)
+    ordered-append done [] fs f g = subst (λ v. Ordered v fs) (append-nil done) g
+    ordered-append done (e ∷ es) fs f g = (
+      f e (inl refl),
+      ordered-append (done ++ (e ∷ [])) es fs (λ m h. follows-more done (e ∷ []) m (f m (inr h)))
+          (subst (λ v. Ordered v fs) (sym (append-assoc done (e ∷ []) es)) g),
+    )
+
+    ordered-levels : (k : ℕ) (done before level : List ℕ) → ((e : ℕ) → In e level → Follows done e) → Ordered done (levelsFrom k d before level)
+    unfolding levelsFrom
+    ordered-levels zero done before level f = tt
+    ordered-levels (suc k) done before level f =
+        ordered-append done level (levelsFrom k d level (nextLevel d before level)) f
+        (ordered-levels k (done ++ level) level (nextLevel d before level)
+        (λ e h. let o = in-next d w r before level e h in
+        let u = under-next (o .0) e (f (o .0) (o .1) .under) (o .2) in
+        record { above = o .0; earlier = inr (in-right done level (o .0) (o .1)); link = o .2; under = u }))
+
+    -- what those done give to x's list
+    abbrev given : List ℕ → List ℕ
+    given done = giveAll d x [] (physOf d done)
+
+    given-more : (done : List ℕ) (e : ℕ) → given (done ++ (e ∷ [])) ≡ giveAll d x (given done) (expanderAt d e .phys)
+    unfolding flatMap
+    given-more done e =
+        let φs = expanderAt d e .phys in
+        ap (giveAll d x []) (flat-append (λ i. expanderAt d i .phys) done (e ∷ []) ∙ ap (λ v. physOf d done ++ v) (append-nil φs))
+        ∙ giveAll-append d x [] (physOf d done) φs
+
+    module _ (done : List ℕ) (c : Closed done) where
+      -- with an expander, the one above it is done
+      above-done : (u m : ℕ) → u ≢ x → Table d u m → In m done → In u done
+      above-done u m k t h =
+          let o = c m h in
+          let e = one-above u (o .above) m t (o .link) in
+          ⊎-elim (λ q. absurd (k (e ∙ q))) (in-cast done e) (o .earlier)
+
+      -- an address attached at x or at one of those done is held by x or listed, and so is the address of such an expander
+      attached-old : (m q s : ℕ) → In m (x ∷ done) → T (attached (phyAt d m q)) → addressOf (phyAt d m q) ≡ s → T (heldBy d x s) ⊎ In s (given done)
+      attached-old m q s (inl f) t e = inl (subst (λ v. T (heldBy d v s)) f (held-phy d m s q t e))
+      attached-old m q s (inr h) t e = ⊎-elim inl (λ k. inr (given-in d x s done m q h t e k)) (T? (heldBy d x s))
+
+      expander-old : (m s : ℕ) → In m (x ∷ done) → expanderAt d m .address ≡ s → T (heldBy d x s) ⊎ In s (given done)
+      expander-old m s (inl f) e = inl (subst (λ v. T (heldBy d v s)) f (held-self d m s e))
+      expander-old m s (inr h) e =
+          let o = c m h in
+          let k = o .link in
+          attached-old (o .above) (k .phy) s (o .earlier) (expander-attached (phyAt d (o .above) (k .phy)) (k .to .expander)) (k .to .address ∙ e)
+
+      -- the next expander: its table phys have new addresses, its subtractive phys old ones
+      module _ (e : ℕ) (o : Follows done e) (out : ¬ (In e done)) where
+        off : e ≢ x
+        off = under-off e (o .under)
+
+        below-off : (v : ℕ) → Table d e v → (v ≢ x) × ¬ (Table d v x)
+        below-off v t =
+            let b = under-next e v (o .under) t in
+            (under-off v b, λ k. under-off x (under-next v x b k) refl)
+
+        below-out : (v : ℕ) → Table d e v → ¬ (In v done)
+        below-out v t h = out (above-done e v off t h)
+
+        table-fresh : (q : ℕ) → T (attached (phyAt d e q)) → T (routes 2 (phyAt d e q)) → ¬ (In (addressOf (phyAt d e q)) (given done))
+        table-fresh q t u h =
+            let s = addressOf (phyAt d e q) in
+            let g = in-given d x s done (w .attachedBorne e q t) h in
+            let m = g .0 in
+            table-far e q m (in-range d m (g .1) (g .3 .0) .0) (λ f. out (in-cast done f (g .2))) t u
+            (λ v k. (λ f. below-out v k (in-cast done f (g .2)), λ z. below-out v k (above-done v m (below-off v k .0) z (g .2))))
+            (held-phy d m s (g .1) (g .3 .0) (g .3 .1))
+
+        table-new : (q : ℕ) → T (attached (phyAt d e q)) → T (routes 2 (phyAt d e q)) → New d x (given done) (addressOf (phyAt d e q))
+        table-new q t u = record {
+          borne = w .attachedBorne e q t;
+          far = table-far e q x (under-start e (o .under)) off t u below-off;
+          fresh = table-fresh q t u;
+        }
+
+        phy-fits : (q : ℕ) → Fits d x (given done) (phyAt d e q)
+        phy-fits q =
+            let φ = phyAt d e q in
+            ⊎-elim
+            (λ t. ⊎-elim direct (⊎-elim
+            (λ u. ⊎-elim (held u) (listed u) (expander-old (o .above) (addressOf φ) (o .earlier) (sym (sub-address (o .above) e q (o .link) t u))))
+            (λ u. beyond t u (table-new q t u)))
+            (attribute-cases (attributeOf φ) (plain-attribute φ (w .plain e q) t)))
+            unattached (T? (attached φ))
+
+        one-gives : given (done ++ (e ∷ [])) ≡ given done ++ own d e
+        unfolding own any
+        one-gives =
+            given-more done e
+            ∙ gives-own d x (given done) (expanderAt d e .phys) [] (given done)
+            (λ φ h. let g = getD-in (expanderAt d e .phys) (Vacant 0) φ h in subst (Fits d x (given done)) (g .2) (phy-fits (g .0)))
+            (record { old = λ s h. h; new = λ s n. (λ t. absurd (n .fresh (of-isIn s (given done) t)), λ t. absurd t) })
+
+    -- one expander after the other
+    all-give : (es done : List ℕ) → Closed done → Ordered done es → Distinct es → ((e : ℕ) → In e es → ¬ (In e done))
+        → given (done ++ es) ≡ given done ++ flatMap (own d) es
+    unfolding flatMap
+    all-give [] done c o di out = ap given (append-nil done) ∙ sym (append-nil (given done))
+    all-give (e ∷ es) done c o di out =
+        ap given (sym (append-assoc done (e ∷ []) es))
+        ∙ all-give es (done ++ (e ∷ [])) (closed-more done e c (o .0)) (o .1) (di .1)
+        (λ m h i. ⊎-elim (out m (inr h)) (⊎-elim (λ q. di .0 (in-cast es (sym q) h)) (λ z. z)) (in-append done (e ∷ []) m i))
+        ∙ ap (λ l. l ++ flatMap (own d) es) (one-gives done c e (o .0) (out e (inl refl)))
+        ∙ append-assoc (given done) (own d e) (flatMap (own d) es)
+
+-- the law, whether the phy leads down or not
+levels-empty : (d : Domain) (x p : ℕ) → ¬ (T (down d (phyAt d x p))) → levels d x p ≡ []
+unfolding levels
+levels-empty d x p k = rw (below-none d (phyAt d x p) (is-false (down d (phyAt d x p)) k)) (levels-none (length d) d (x ∷ []))
+
+law-down : (d : Domain) → Wired d → Linked d → (x p : ℕ) → T (down d (phyAt d x p)) → levelList d x p ≡ ownList d x p
+unfolding levelList ownList levels giveAll flatMap
+law-down d w r x p t =
+    all-give d w r x (levels d x p) [] (λ m h. absurd h)
+    (subst (λ v. Ordered d w r x [] (levelsFrom (length d) d (x ∷ []) v)) (sym (below-one d φ (is-true (down d φ) t)))
+    (ordered-levels d w r x (length d) [] (x ∷ []) (n ∷ []) (λ e. ⊎-elim (λ q. subst (Follows d w r x []) (sym q) first) (λ z. absurd z))))
+    (levels-few d w r x p n (far-below d w x p (l .expander)) (far-is d w x p (l .expander)) (l .routed) (l .single) .0 .1) (λ e h k. k)
+  where
+    φ : Phy
+    φ = phyAt d x p
+
+    n : ℕ
+    n = numberOf d (addressOf φ)
+
+    l : Leads d x p
+    l = down-leads d w r x p t
+
+    a : Table d x n
+    a = table-to d w r x p (l .expander) (l .routed)
+
+    first : Follows d w r x [] n
+    first = record { above = x; earlier = inl refl; link = a; under = (n, [], (a, tt), refl) }
+
+pub law : (d : Domain) → Wired d → Linked d → (x p : ℕ) → levelList d x p ≡ ownList d x p
+unfolding levelList ownList flatMap giveAll
+law d w r x p = ⊎-elim (law-down d w r x p) (λ k. rw (levels-empty d x p k) refl) (T? (down d (phyAt d x p)))

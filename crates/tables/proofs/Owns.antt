@@ -1,0 +1,159 @@
+-- Own lists: the search among lower phys, the set of their addresses, and lists that grow phy by phy.
+use Prim.Native.Nat.{ℕ, suc, _+_, _*_, _≤_, _<_}
+use mathlib.Core.Path.{_≡_, refl, sym, _∙_, ap, subst}
+use mathlib.Core.Logic.{⊎-elim, by-cases}
+use mathlib.Core.Bool.{Bool, true, false, cond, not, _||_, _&&_}
+use mathlib.Core.List.{List, [], _∷_, _++_, append-nil, append-assoc}
+use native.Mathlib.Decide.{decLt}
+use native.Mathlib.Omega.{arith}
+use native.Mathlib.Numerals.{add-one}
+use lib.ListN.{length, getD, take, drop, length-take, length-append, drop-of-length-le, List·getD-eq-default}
+use lib.Seq.{drop-cons, length-take-le}
+use lib.Dec.{T, eqb, eqb→eq}
+use Rattle.wiring.specs.declared.Phy.{Phy}
+use Rattle.wiring.specs.declared.Phy.the-variants.{Vacant}
+use Rattle.wiring.specs.Lists.{any}
+use Rattle.wiring.specs.Domain.{Domain, Expander, noExpander, expanderAt, addressOf, attributeOf, typeOf, attached, bears}
+use Rattle.wiring.specs.Rows.{domainIn}
+use Rattle.wiring.specs.Seen.{mayHave, KeyAdded}
+use Rattle.wiring.proofs.Members.{or-cases, and-right, is-false, was-false}
+use Rattle.wiring.proofs.InRows.{head-in, no-head}
+use Rattle.tables.specs.Tables.{word}
+use Rattle.tables.specs.Own.{lower, owns, ownFrom, own}
+use Rattle.tables.specs.Filling.{Grown}
+use Rattle.tables.specs.Prepared.{OwnHeld, keyOf, Noted, PhyNoted}
+use Rattle.tables.proofs.Cells.{cell-count, cell-list, cell-fits}
+
+-- the search below phy q, from q - 1 down. `inv` is the loop's invariant
+module _ (s : ℕ) (φs : List Phy) (q : ℕ) {v : Bool} (inv : any (bears s) (lower φs q) ≡ v) where
+  lower-next : (p : ℕ) {b : Bool} → q ≡ suc p → bears s (getD φs p (Vacant 0)) ≡ b → (b || any (bears s) (lower φs p)) ≡ v
+  unfolding any lower
+  lower-next p e t = sym (rw (e, t)) ∙ inv
+
+  pub lower-stop : (p : ℕ) → q ≡ suc p → bears s (getD φs p (Vacant 0)) ≡ true → true ≡ v
+  lower-stop p e t = lower-next p e t
+
+  pub lower-go : (p : ℕ) → q ≡ suc p → bears s (getD φs p (Vacant 0)) ≡ false → any (bears s) (lower φs p) ≡ v
+  lower-go p e t = lower-next p e t
+
+  pub lower-end : q ≡ 0 → false ≡ v
+  unfolding any lower
+  lower-end e = sym (rw e) ∙ inv
+
+-- is a phy its expander's own?
+pub owns-by : (l : List Phy) (φ : Phy) {b₁ b₂ b₃ b₄ : Bool} → eqb (attributeOf φ) 0 ≡ b₁ → eqb (attributeOf φ) 2 ≡ b₂ → eqb (typeOf φ) 0 ≡ b₃
+    → any (bears (addressOf φ)) l ≡ b₄ → owns l φ ≡ (b₁ || (b₂ && (not b₃ && not b₄)))
+unfolding owns
+owns-by l φ q₁ q₂ q₃ q₄ = rw (q₁, q₂, q₃, q₄)
+
+-- no phy bears an address whose key the set lacks
+pub not-noted : (φs : List Phy) (words : List ℕ) (s : ℕ) → Noted φs words → mayHave words (keyOf s) ≡ false → any (bears s) φs ≡ false
+not-noted φs words s n q = is-false (any (bears s) φs) (λ t. was-false (mayHave words (keyOf s)) q (n .noted s t))
+
+pub noted-none : (words : List ℕ) → Noted [] words
+unfolding any
+noted-none words = record { noted = λ s t. absurd t }
+
+-- one phy more, with nothing attached or with the key of its address added
+pub noted-vacant : (φ : Phy) (words : List ℕ) → eqb (typeOf φ) 0 ≡ true → PhyNoted φ words words
+unfolding any
+noted-vacant φ words q = record { more = λ φs n. record { noted = λ s t. n .noted s (rw q at t) } }
+
+pub noted-more : (φ : Phy) (before after : List ℕ) → KeyAdded before after (keyOf (addressOf φ)) → PhyNoted φ before after
+unfolding any
+noted-more φ before after a =
+    record {
+      more = λ φs n.
+          record {
+            noted = λ s t.
+                ⊎-elim
+                (λ u. subst (λ (x : ℕ). T (mayHave after (keyOf x))) (eqb→eq (addressOf φ) s (and-right (attached φ) (eqb (addressOf φ) s) u)) (a .here))
+                (λ u. a .kept (keyOf s) (n .noted s u)) (or-cases (bears s φ) (any (bears s) φs) t);
+          };
+    }
+
+-- the set after phy p
+pub noted-next : (φs : List Phy) (p : ℕ) (φ : Phy) (before after : List ℕ) → PhyNoted φ before after → φ ≡ getD φs p (Vacant 0)
+    → Noted (lower φs p) before → Noted (lower φs (p + 1)) after
+unfolding lower
+noted-next φs p φ before after m q n = rw (add-one p, sym q) (m .more (lower φs p) n)
+
+-- the words so far and what is left, phy by phy. `inv` is the loop's invariant
+module _ (φs : List Phy) (p : ℕ) (l : List ℕ) {v : List ℕ} (inv : l ++ ownFrom (lower φs p) (drop p φs) ≡ v) where
+  own-next : (φ : Phy) {b : Bool} → φ ≡ getD φs p (Vacant 0) → owns (lower φs p) φ ≡ b → p < length φs
+      → ownFrom (lower φs p) (drop p φs) ≡ cond b (word φ ∷ []) [] ++ ownFrom (lower φs (p + 1)) (drop (p + 1) φs)
+  unfolding ownFrom lower
+  own-next φ {b} q t h =
+      let e : drop p φs ≡ φ ∷ drop (suc p) φs = drop-cons φs p (Vacant 0) h ∙ rw q in
+      rw (add-one p, e, t, sym q) (by b)
+    where
+      by : (c : Bool) → cond c (word φ ∷ ownFrom (φ ∷ lower φs p) (drop (suc p) φs)) (ownFrom (φ ∷ lower φs p) (drop (suc p) φs))
+          ≡ cond c (word φ ∷ []) [] ++ ownFrom (φ ∷ lower φs p) (drop (suc p) φs)
+      by true = refl
+      by false = refl
+
+  pub own-go : (φ : Phy) {b : Bool} {l' : List ℕ} → φ ≡ getD φs p (Vacant 0) → b ≡ owns (lower φs p) φ → l' ≡ l ++ cond b (word φ ∷ []) []
+      → p < length φs → l' ++ ownFrom (lower φs (p + 1)) (drop (p + 1) φs) ≡ v
+  own-go φ {b} {l'} q t e h =
+      let rest : List ℕ = ownFrom (lower φs (p + 1)) (drop (p + 1) φs) in
+      ap (λ (x : List ℕ). x ++ rest) e ∙ append-assoc l (cond b (word φ ∷ []) []) rest ∙ sym (ap (λ (x : List ℕ). l ++ x) (own-next φ q (sym t) h)) ∙ inv
+
+  pub own-end : length φs ≤ p → l ≡ v
+  unfolding ownFrom
+  own-end h = sym (rw (drop-of-length-le φs h, append-nil)) ∙ inv
+
+-- a phy gives one word at most
+pub put-most : (m : ℕ) (b : Bool) (w : ℕ) {before after : List ℕ} {r : ℕ} → Grown before after r (take m before ++ cond b (w ∷ []) []) → r ≤ m + 1
+put-most m b w {before} {after} {r} g =
+    let s = g .same in
+    let f = g .fits in
+    let n : length (take r after) ≡ length (take m before) + length (cond b (w ∷ []) []) =
+    ap length (g .whole) ∙ length-append (take m before) (cond b (w ∷ []) []) in
+    omega (arith, length-take m before, length-take-le r after (omega arith), by b)
+  where
+    by : (c : Bool) → length (cond c (w ∷ []) []) ≤ 1
+    by true = omega arith
+    by false = omega arith
+
+-- before the first phy
+pub own-start : (d : Domain) (i : ℕ) → ownFrom (lower (expanderAt d i .phys) 0) (expanderAt d i .phys) ≡ own d i
+unfolding own lower
+own-start d i = refl
+
+-- an own list has at most as many words as the expander has phys
+from-few : (l φs : List Phy) → length (ownFrom l φs) ≤ length φs
+unfolding ownFrom
+from-few l [] = omega arith
+from-few l (φ ∷ φs) = go (owns l φ) (from-few (φ ∷ l) φs)
+  where
+    go : (b : Bool) → length (ownFrom (φ ∷ l) φs) ≤ length φs
+        → length (cond b (word φ ∷ ownFrom (φ ∷ l) φs) (ownFrom (φ ∷ l) φs)) ≤ suc (length φs)
+    go true h = omega arith
+    go false h = omega arith
+
+-- an expander of rows has at most 128 phys
+pub phys-few : (ws : List ℕ) (i : ℕ) → length (expanderAt (domainIn ws) i .phys) ≤ 128
+phys-few ws i =
+    by-cases (decLt i (length (domainIn ws)))
+    (λ h. let e = head-in ws i h .phys in omega arith)
+    (λ h. let e = no-head ws i (omega arith) .phys in omega arith)
+
+pub own-few : (ws : List ℕ) (i : ℕ) → length (own (domainIn ws) i) ≤ 128
+unfolding own
+own-few ws i = omega (arith, from-few [] (expanderAt (domainIn ws) i .phys), phys-few ws i)
+
+-- past the last expander
+pub own-none : (d : Domain) (i : ℕ) → length d ≤ i → own d i ≡ []
+unfolding own ownFrom
+own-none d i h = ap (λ (e : Expander). ownFrom [] (e .phys)) (List·getD-eq-default d noExpander h)
+
+-- the own list of an expander, where they stand in words
+module _ (d : Domain) (words : List ℕ) (held : OwnHeld d words) (i : ℕ) (h : i < length d) where
+  pub own-count : getD words (129 * i) 0 ≡ length (own d i)
+  own-count = cell-count 129 (own d) (length d) words (held .cell) i h
+
+  pub own-list : take (length (own d i)) (drop (129 * i + 1) words) ≡ own d i
+  own-list = cell-list 129 (own d) (length d) words (held .cell) i h
+
+  pub own-fits : 129 * i + 1 + length (own d i) ≤ length words
+  own-fits = cell-fits 129 (own d) (length d) words (held .cell) i h

@@ -1,0 +1,32 @@
+-- What one expander gives to every level list in whose levels it is, on a domain past causes 1 to 13.
+use Prim.Native.Nat.{ℕ, zero, suc}
+use mathlib.Core.Bool.{Bool, cond, not, _||_, _&&_}
+use mathlib.Core.List.{List, [], _∷_, flatMap}
+use lib.ListN.{getD}
+use Rattle.wiring.specs.declared.Phy.{Phy}
+use Rattle.wiring.specs.declared.Phy.the-variants.{Vacant}
+use Rattle.wiring.specs.Lists.{any}
+use Rattle.wiring.specs.Domain.{Domain, expanderAt, addressOf, routes, attached, bears}
+use Rattle.tables.specs.Levels.{levels}
+use Rattle.tables.specs.Tables.{word}
+
+-- the phys below p, the highest first
+unfoldable pub lower : List Phy → ℕ → List Phy
+lower φs zero = []
+lower φs (suc p) = getD φs p (Vacant 0) ∷ lower φs p
+
+-- a direct phy always; an attached table phy whose address no lower attached phy bears
+unfoldable pub owns : List Phy → Phy → Bool
+owns lower φ = routes 0 φ || (routes 2 φ && (attached φ && not (any (bears (addressOf φ)) lower)))
+
+unfoldable pub ownFrom : List Phy → List Phy → List ℕ
+ownFrom lower [] = []
+ownFrom lower (φ ∷ φs) = cond (owns lower φ) (word φ ∷ ownFrom (φ ∷ lower) φs) (ownFrom (φ ∷ lower) φs)
+
+-- the own list of expander e
+unfoldable pub own : Domain → ℕ → List ℕ
+own d e = ownFrom [] (expanderAt d e .phys)
+
+-- the own lists of the levels of phy p of expander x, one after the other
+unfoldable pub ownList : Domain → ℕ → ℕ → List ℕ
+ownList d x p = flatMap (own d) (levels d x p)

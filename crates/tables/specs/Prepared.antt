@@ -1,0 +1,88 @@
+-- What the judging and table calls prepare before they go through the table phys: each expander's own list, the expanders below each,
+-- and the expanders of a phy's levels in their order.
+use Prim.Native.Nat.{ℕ, suc, _*_, _%_, _≤_, _<_}
+use mathlib.Core.Path.{_≡_}
+use mathlib.Core.Bool.{Bool, cond, not, _&&_}
+use mathlib.Core.List.{List, [], _∷_}
+use lib.ListN.{length, take, drop}
+use lib.Dec.{T, eqb, ltb}
+use Rattle.wiring.specs.Frames.{Result, good, then}
+use Rattle.wiring.specs.declared.Phy.{Phy}
+use Rattle.wiring.specs.Lists.{any}
+use Rattle.wiring.specs.Domain.{Domain, expanderAt, phyAt, addressOf, routes, toExpander, bears}
+use Rattle.wiring.specs.Causes.{firstOf}
+use Rattle.wiring.specs.Links.{checkedDomain}
+use Rattle.wiring.specs.Seen.{mayHave}
+use Rattle.tables.specs.Levels.{once, belowPhys, below, levelsFrom, levels}
+use Rattle.tables.specs.Tables.{levelList}
+use Rattle.tables.specs.Own.{own, ownList}
+
+-- from word stride * i on stand the length of list i and the list, for each i below n
+abbrev pub Cells : ℕ → (ℕ → List ℕ) → ℕ → List ℕ → Type 0
+Cells stride list n words = (i : ℕ) → i < n → take (suc (length (list i))) (drop (stride * i) words) ≡ length (list i) ∷ list i
+
+pub record Stored (stride : ℕ) (list : ℕ → List ℕ) (n : ℕ) (words : List ℕ) : Type 0 where
+  pub enough : stride * n ≤ length words
+  pub cell : Cells stride list n words
+
+-- the own lists of all expanders, one every 129 words
+abbrev pub OwnHeld : Domain → List ℕ → Type 0
+OwnHeld d words = Stored 129 (own d) (length d) words
+
+-- the key of an address in a set of 64 words
+abbrev pub keyOf : ℕ → ℕ
+keyOf s = s % 4093
+
+-- the set has the key of each address that an attached phy among these bears
+pub record Noted (φs : List Phy) (words : List ℕ) : Type 0 where
+  pub noted : (s : ℕ) → T (any (bears s) φs) → T (mayHave words (keyOf s))
+
+-- a set after one phy more
+pub record PhyNoted (φ : Phy) (before after : List ℕ) : Type 0 where
+  pub more : (φs : List Phy) → Noted φs before → Noted (φ ∷ φs) after
+
+-- the expanders below expander i, each once
+abbrev pub belowOnce : Domain → ℕ → List ℕ
+belowOnce d i = once [] (below d i)
+
+-- the expanders below all expanders, one list every 66 bytes
+abbrev pub BelowHeld : Domain → List ℕ → Type 0
+BelowHeld d bytes = Stored 66 (belowOnce d) (length d) bytes
+
+-- the expanders of the levels of a phy of expander x
+unfoldable pub orderOf : Domain → ℕ → Phy → List ℕ
+orderOf d x φ = levelsFrom (length d) d (x ∷ []) (belowPhys d (φ ∷ []))
+
+-- two phys of one expander that have the same levels: the levels go on at both, and they bear one address, or at none of them
+unfoldable pub alike : Phy → Phy → Bool
+alike φ ψ =
+    cond (toExpander φ && routes 2 φ) ((toExpander ψ && routes 2 ψ) && eqb (addressOf φ) (addressOf ψ))
+    (not (toExpander ψ && routes 2 ψ))
+
+-- 14 by own lists
+unfoldable pub overOwn : Domain → ℕ → ℕ → Bool
+overOwn d i p = routes 2 (phyAt d i p) && ltb (expanderAt d i .indexes) (length (ownList d i p))
+
+-- causes 7 to 14 in order, 14 by own lists
+unfoldable pub judgedOwn : Domain → Result Domain
+judgedOwn d = then (checkedDomain d) (λ _. firstOf 14 (overOwn d) d)
+
+-- level lists are own lists one after the other
+abbrev pub Same : Domain → Type 0
+Same d = (x p : ℕ) → levelList d x p ≡ ownList d x p
+
+-- that holds of a domain that passes causes 7 to 13
+abbrev pub Lawful : Domain → Type 0
+Lawful d = checkedDomain d ≡ good d → Same d
+
+-- a domain whose tables can be filled from own lists
+pub record Fillable (d : Domain) : Type 0 where
+  pub same : Same d
+  pub fits : (i p : ℕ) → T (routes 2 (phyAt d i p)) → length (levelList d i p) ≤ expanderAt d i .indexes
+
+-- all that the table of phy p of expander x is filled from: own lists, its levels in order, and room for its level list
+pub record FilledFrom (d : Domain) (x p : ℕ) (lists order : List ℕ) (room : ℕ) : Type 0 where
+  pub held : OwnHeld d lists
+  pub ordered : order ≡ levels d x p
+  pub same : Same d
+  pub fits : length (levelList d x p) ≤ room

@@ -1,0 +1,89 @@
+// The expanders of a table phy's levels, one after the other.
+use crate::below;
+use crate::levels;
+use frames::ExpanderNumber;
+use wiring::Phy;
+ghost use mathlib.Core.Path.{_≡_};
+ghost use mathlib.Core.List.{_++_};
+ghost use Prim.Native.Nat.{_+_, _≤_};
+ghost use lib.ListN.{length, take};
+ghost use Rattle.wiring.specs.Rows.{domainIn};
+ghost use Rattle.tables.specs.Filling.{Grown};
+ghost use Rattle.tables.specs.Prepared.{BelowHeld, orderOf, alike};
+
+// One level after the m numbers so far.
+fn append_level(order: &mut [u8], m: usize, level: &[u8]) -> usize
+    requires { ⌜ m + length (now level) ≤ length (now order) ⌝ }
+    ensures { λ r. ⌜ Grown (now (order .entry)) (now (order .exit)) r (take m (now (order .entry)) ++ now (level .entry)) ⌝ }
+{
+    let mut to = m;
+    let mut k: usize = 0;
+    while k < level.len() {
+        order[to] = level[k];
+        to += 1;
+        k += 1;
+    }
+    to
+}
+
+// The order of a phy f of expander x. A level has at most 65 numbers: at most 64 expanders, and the
+// count for an address that no expander has.
+fn put_order(rows: &[u64], below: &[u8], x: ExpanderNumber, f: Phy, order: &mut [u8]) -> usize
+    requires { ⌜ BelowHeld (domainIn (now rows)) (now below) × (4160 ≤ length (now order)) ⌝ }
+    ensures { λ r. ⌜ Grown (now (order .entry)) (now (order .exit)) r (orderOf (domainIn (now (rows .entry))) (x .0) f) ⌝ }
+{
+    let turns = wiring::expander_count(rows);
+    let mut last = [0u8; 65];
+    let mut level = [0u8; 65];
+    let mut next = [0u8; 65];
+    last[0] = x.0;
+    let mut b: usize = 1;
+    let mut e = levels::add_phy(rows, &last[..0], &mut level[..], 0, f);
+    let mut m: usize = 0;
+    let mut k: u8 = 0;
+    while k < turns {
+        if e == 0 {
+            return m;
+        }
+        m = append_level(order, m, &level[..e]);
+        let g = below::next_level(rows, below, &last[..b], &level[..e], &mut next[..]);
+        last = level;
+        b = e;
+        level = next;
+        e = g;
+        k += 1;
+    }
+    m
+}
+
+// Are the levels of two phys of one expander the same: one link, or none at both?
+fn are_alike(f: Phy, g: Phy) -> bool
+    ensures { λ r. ⌜ r ≡ alike f g ⌝ }
+{
+    if !levels::is_down(f) {
+        return !levels::is_down(g);
+    }
+    if !levels::is_down(g) {
+        return false;
+    }
+    wiring::phy_address(f) == wiring::phy_address(g)
+}
+
+// The order of phy f of expander x, where the first n numbers are that of its phy g.
+pub(crate) fn order_for(
+    rows: &[u64],
+    below: &[u8],
+    x: ExpanderNumber,
+    g: Phy,
+    n: usize,
+    f: Phy,
+    order: &mut [u8],
+) -> usize
+    requires { ⌜ BelowHeld (domainIn (now rows)) (now below) × ((4160 ≤ length (now order)) × Grown (now order) (now order) n (orderOf (domainIn (now rows)) (x .0) g)) ⌝ }
+    ensures { λ r. ⌜ Grown (now (order .entry)) (now (order .exit)) r (orderOf (domainIn (now (rows .entry))) (x .0) f) ⌝ }
+{
+    if are_alike(g, f) {
+        return n;
+    }
+    put_order(rows, below, x, f, order)
+}

@@ -1,0 +1,141 @@
+// The own list of each expander: the words that it gives to every level list in whose levels it is.
+use frames::ExpanderNumber;
+use frames::PhyId;
+use wiring::Phy;
+ghost use mathlib.Core.Path.{_≡_};
+ghost use mathlib.Core.Bool.{cond};
+ghost use mathlib.Core.List.{[], _∷_, _++_};
+ghost use Prim.Native.Nat.{_≤_, _<_};
+ghost use lib.ListN.{length, take};
+ghost use Rattle.wiring.specs.Lists.{any};
+ghost use Rattle.wiring.specs.Domain.{expanderAt, bears};
+ghost use Rattle.wiring.specs.Rows.{domainIn};
+ghost use Rattle.tables.specs.Tables.{word};
+ghost use Rattle.tables.specs.Own.{lower, owns, own};
+ghost use Rattle.tables.specs.Filling.{Grown};
+ghost use Rattle.tables.specs.Prepared.{OwnHeld, Noted, PhyNoted};
+
+// Is it an attached phy that bears the address?
+pub(crate) fn phy_bears(s: u64, f: Phy) -> bool
+    ensures { λ r. ⌜ r ≡ bears s f ⌝ }
+{
+    if wiring::phy_type(f) == 0 {
+        return false;
+    }
+    wiring::phy_address(f) == s
+}
+
+// The attached address, 0 where nothing is attached.
+pub(crate) fn word_of(f: Phy) -> u64
+    ensures { λ r. ⌜ r ≡ word f ⌝ }
+{
+    if wiring::phy_type(f) == 0 {
+        return 0;
+    }
+    wiring::phy_address(f)
+}
+
+// Does an attached phy of expander i below p bear the address? The phys of a wide link mostly stand
+// side by side, so the search goes down from p - 1.
+fn is_lower(rows: &[u64], i: ExpanderNumber, p: PhyId, s: u64) -> bool
+    ensures { λ r. ⌜ r ≡ any (bears s) (lower (expanderAt (domainIn (now (rows .entry))) (i .0) .phys) (p .0)) ⌝ }
+{
+    let mut q = p.0;
+    while q > 0 {
+        q -= 1;
+        if phy_bears(s, wiring::phy_at(rows, i, PhyId(q))) {
+            return true;
+        }
+    }
+    false
+}
+
+// Is f, as phy p of expander i, one of the expander's own? `seen` has the keys of the addresses
+// attached below p; where it lacks the key of f's address no lower phy bears it.
+fn is_own(rows: &[u64], i: ExpanderNumber, p: PhyId, seen: &[u64], f: Phy) -> bool
+    requires { ⌜ Noted (lower (expanderAt (domainIn (now rows)) (i .0) .phys) (p .0)) (now seen) ⌝ }
+    ensures { λ r. ⌜ r ≡ owns (lower (expanderAt (domainIn (now (rows .entry))) (i .0) .phys) (p .0)) f ⌝ }
+{
+    let attribute = wiring::phy_attribute(f);
+    if attribute == 0 {
+        return true;
+    }
+    if attribute != 2 {
+        return false;
+    }
+    if wiring::phy_type(f) == 0 {
+        return false;
+    }
+    let s = wiring::phy_address(f);
+    if !wiring::may_have(seen, (s % 4093) as usize) {
+        return true;
+    }
+    !is_lower(rows, i, p, s)
+}
+
+// Adds the key of the attached address to a set; nothing where nothing is attached.
+fn note_phy(seen: &mut [u64], f: Phy)
+    ensures { λ _. ⌜ PhyNoted f (now (seen .entry)) (now (seen .exit)) ⌝ }
+{
+    if wiring::phy_type(f) == 0 {
+        return;
+    }
+    wiring::add_key(seen, (wiring::phy_address(f) % 4093) as usize);
+}
+
+// A phy's word after the m words so far, where it is its expander's own.
+fn put_word(part: &mut [u64], m: usize, mine: bool, f: Phy) -> usize
+    requires { ⌜ m < length (now part) ⌝ }
+    ensures { λ r. ⌜ Grown (now (part .entry)) (now (part .exit)) r (take m (now (part .entry)) ++ cond mine (word f ∷ []) []) ⌝ }
+{
+    if !mine {
+        return m;
+    }
+    part[m] = word_of(f);
+    m + 1
+}
+
+// The own list of expander i, and its length.
+fn collect_own(rows: &[u64], i: ExpanderNumber, part: &mut [u64]) -> usize
+    requires { ⌜ 128 ≤ length (now part) ⌝ }
+    ensures { λ r. ⌜ Grown (now (part .entry)) (now (part .exit)) r (own (domainIn (now (rows .entry))) (i .0)) ⌝ }
+{
+    let n = wiring::phy_count(rows, i);
+    let mut seen = [0u64; 64];
+    let mut m: usize = 0;
+    let mut p: u8 = 0;
+    while p < n {
+        let f = wiring::phy_at(rows, i, PhyId(p));
+        let mine = is_own(rows, i, PhyId(p), &seen[..], f);
+        m = put_word(part, m, mine, f);
+        note_phy(&mut seen[..], f);
+        p += 1;
+    }
+    m
+}
+
+// The own lists of all expanders, each with its length before it, one every 129 words.
+pub(crate) fn put_owns(rows: &[u64], words: &mut [u64])
+    requires { ⌜ 8256 ≤ length (now words) ⌝ }
+    ensures { λ _. ⌜ OwnHeld (domainIn (now (rows .entry))) (now (words .exit)) ⌝ }
+{
+    let n = wiring::expander_count(rows);
+    let mut i: u8 = 0;
+    while i < n {
+        let a = 129 * (i as usize);
+        let m = collect_own(rows, ExpanderNumber(i), &mut words[a + 1..a + 129]);
+        words[a] = m as u64;
+        i += 1;
+    }
+}
+
+// How long expander i's own list is.
+pub(crate) fn own_count(rows: &[u64], lists: &[u64], i: ExpanderNumber) -> usize
+    requires { ⌜ OwnHeld (domainIn (now rows)) (now lists) ⌝ }
+    ensures { λ r. ⌜ (r ≡ length (own (domainIn (now (rows .entry))) (i .0))) × (r ≤ 128) ⌝ }
+{
+    if i.0 >= wiring::expander_count(rows) {
+        return 0;
+    }
+    lists[129 * (i.0 as usize)] as usize
+}
