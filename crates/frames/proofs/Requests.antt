@@ -2,14 +2,13 @@
 use Prim.Native.Nat.{ℕ, _/_, _%_, _^_, _≤_, _<_}
 use mathlib.Core.Path.{_≡_, refl, sym, _∙_, ap}
 use mathlib.Core.Bool.{Bool, true, false, cond}
-use mathlib.Core.List.{List, [], _∷_, _++_}
+use mathlib.Core.List.{List}
 use native.Mathlib.Omega.{arith}
-use lib.ListN.{length}
 use lib.Dec.{eqb, leb}
 use borrow.Author.Tests.{le-leb, eqb-true, leb-true}
 use Rattle.frames.specs.Bytes.{numberAt, bytesOf}
-use Rattle.frames.specs.Refusals.{Result, refused, good, unless, refusal}
-use Rattle.frames.specs.ConfigureRoute.{routeFrame, routeWritten, writeAnswer, bufferAfter, partAfter, routeAnswer, routeRead}
+use Rattle.frames.specs.Refusals.{Result, good, unless, refusal}
+use Rattle.frames.specs.ConfigureRoute.{routeFrame, routeWritten, partAfter, routeAnswer, routeRead}
 use Rattle.frames.specs.declared.Refusal.{Refusal}
 use Rattle.frames.specs.declared.Route.{Route}
 use Rattle.frames.specs.declared.RouteRead.{RouteRead}

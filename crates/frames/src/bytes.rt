@@ -2,7 +2,7 @@
 ghost use mathlib.Core.Path.{_≡_};
 ghost use mathlib.Core.List.{_++_};
 ghost use Prim.Native.Nat.{_+_, _*_, _≤_, _<_, _^_};
-ghost use lib.ListN.{length, getD, take, drop, replicate};
+ghost use lib.ListN.{length, take, drop, replicate};
 ghost use Rattle.frames.specs.Bytes.{byte, numberAt, bytesOf};
 
 // The byte at i, 0 past the end.
@@ -29,16 +29,6 @@ pub(crate) fn number_at(s: &[u8], i: usize, width: usize) -> u64
     x
 }
 
-// The SAS address in the eight bytes from i on; bytes past the end count as 0.
-pub fn address_at(s: &[u8], i: usize) -> u64
-    ensures { λ r. ⌜ r ≡ numberAt (now (s .entry)) i 8 ⌝ }
-{
-    if s.len() <= i {
-        return 0;
-    }
-    number_at(s, i, 8)
-}
-
 // The `width` bytes of x from i on.
 pub(crate) fn put_number(s: &mut [u8], i: usize, width: usize, x: u64)
     requires { ⌜ i + width ≤ length (now s) ⌝ }
@@ -63,4 +53,14 @@ pub(crate) fn clear_front(s: &mut [u8], n: usize)
         s[i] = 0;
         i += 1;
     }
+}
+
+// The SAS address in the eight bytes from i on; bytes past the end count as 0.
+pub fn address_at(s: &[u8], i: usize) -> u64
+    ensures { λ r. ⌜ r ≡ numberAt (now (s .entry)) i 8 ⌝ }
+{
+    if s.len() <= i {
+        return 0;
+    }
+    number_at(s, i, 8)
 }

@@ -1,28 +1,30 @@
--- The lines of table words, and how many of them a chunk takes.
+-- How many of some lines a chunk takes, and that the chunks one after the other are all lines.
 use Prim.Native.Nat.{ℕ, zero, suc, _+_, _≤_, _<_, min}
 use mathlib.Core.Path.{_≡_, refl, sym, _∙_, ap}
 use mathlib.Core.Bool.{Bool, true, false, cond}
-use mathlib.Core.List.{List, [], _∷_, _++_}
+use mathlib.Core.List.{List, [], _∷_, _++_, append-assoc}
 use native.Mathlib.Omega.{arith}
 use native.Mathlib.Numerals.{add-one}
 use lib.ListN.{length, getD, drop, drop-of-length-le}
+use lib.Seq.{drop-drop, drop-cons}
 use lib.Dec.{leb}
 use borrow.Author.Tests.{le-leb, lt-leb}
-use Rattle.listing.specs.Lines.{lineAt, linesOf, joined, fitting, chunkOf}
+use Rattle.listing.specs.Lines.{joined, fitting, chunkOf}
+use Rattle.listing.specs.Marks.{lineAt, markedLines}
 
-length-lines : (ms ws : List ℕ) → length (linesOf ms ws) ≡ min (length ms) (length ws)
-unfolding linesOf
-length-lines [] ws = omega arith
-length-lines (m ∷ ms) [] = omega arith
-length-lines (m ∷ ms) (w ∷ ws) = omega (arith, length-lines ms ws)
+length-marked : (ms ws : List ℕ) → length (markedLines ms ws) ≡ min (length ms) (length ws)
+unfolding markedLines
+length-marked [] ws = omega arith
+length-marked (m ∷ ms) [] = omega arith
+length-marked (m ∷ ms) (w ∷ ws) = omega (arith, length-marked ms ws)
 
-lines-at : (n : ℕ) (ms ws : List ℕ) → n < length ms → n < length ws
-    → drop n (linesOf ms ws) ≡ lineAt (getD ms n 0) (getD ws n 0) ∷ drop (suc n) (linesOf ms ws)
-unfolding linesOf
-lines-at n [] ws h g = absurd (omega arith)
-lines-at n (m ∷ ms) [] h g = absurd (omega arith)
-lines-at zero (m ∷ ms) (w ∷ ws) h g = refl
-lines-at (suc n) (m ∷ ms) (w ∷ ws) h g = lines-at n ms ws (omega arith) (omega arith)
+marked-at : (n : ℕ) (ms ws : List ℕ) → n < length ms → n < length ws
+    → drop n (markedLines ms ws) ≡ lineAt (getD ms n 0) (getD ws n 0) ∷ drop (suc n) (markedLines ms ws)
+unfolding markedLines
+marked-at n [] ws h g = absurd (omega arith)
+marked-at n (m ∷ ms) [] h g = absurd (omega arith)
+marked-at zero (m ∷ ms) (w ∷ ws) h g = refl
+marked-at (suc n) (m ∷ ms) (w ∷ ws) h g = marked-at n ms ws (omega arith) (omega arith)
 
 module _ (end : ℕ) where
   fit-go : (l : List ℕ) (ls : List (List ℕ)) → end + 80 ≤ 65536 → fitting end (l ∷ ls) ≡ l ∷ fitting (end + length l) ls
@@ -34,36 +36,25 @@ module _ (end : ℕ) where
   fit-full [] h = refl
   fit-full (l ∷ ls) h = rw (lt-leb (end + 80) 65536 h)
 
--- the lines of a chunk and the lines after it are all lines
-pub fit-rest : (end : ℕ) (ls : List (List ℕ)) → fitting end ls ++ drop (length (fitting end ls)) ls ≡ ls
-unfolding fitting
-fit-rest end [] = refl
-fit-rest end (l ∷ ls) = go (leb (end + 80) 65536) (fit-rest (end + length l) ls)
-  where
-    go : (b : Bool) → fitting (end + length l) ls ++ drop (length (fitting (end + length l) ls)) ls ≡ ls
-        → cond b (l ∷ fitting (end + length l) ls) [] ++ drop (length (cond b (l ∷ fitting (end + length l) ls) [])) (l ∷ ls) ≡ l ∷ ls
-    go true q = ap (λ (x : List (List ℕ)). l ∷ x) q
-    go false q = refl
-
 module _ (ms ws : List ℕ) (n end : ℕ) where
   -- one line more
   pub chunk-next : n < length ms → n < length ws → end ≤ 65456
-      → fitting end (drop n (linesOf ms ws))
-      ≡ lineAt (getD ms n 0) (getD ws n 0) ∷ fitting (end + length (lineAt (getD ms n 0) (getD ws n 0))) (drop (n + 1) (linesOf ms ws))
+      → fitting end (drop n (markedLines ms ws))
+      ≡ lineAt (getD ms n 0) (getD ws n 0) ∷ fitting (end + length (lineAt (getD ms n 0) (getD ws n 0))) (drop (n + 1) (markedLines ms ws))
   chunk-next h g e =
-      let q : drop n (linesOf ms ws) ≡ lineAt (getD ms n 0) (getD ws n 0) ∷ drop (n + 1) (linesOf ms ws) = rw add-one (lines-at n ms ws h g) in
-      ap (fitting end) q ∙ fit-go end (lineAt (getD ms n 0) (getD ws n 0)) (drop (n + 1) (linesOf ms ws)) (omega arith)
+      let q : drop n (markedLines ms ws) ≡ lineAt (getD ms n 0) (getD ws n 0) ∷ drop (n + 1) (markedLines ms ws) = rw add-one (marked-at n ms ws h g) in
+      ap (fitting end) q ∙ fit-go end (lineAt (getD ms n 0) (getD ws n 0)) (drop (n + 1) (markedLines ms ws)) (omega arith)
 
   -- no word is left
-  pub chunk-last : min (length ms) (length ws) ≤ n → fitting end (drop n (linesOf ms ws)) ≡ []
+  pub chunk-last : min (length ms) (length ws) ≤ n → fitting end (drop n (markedLines ms ws)) ≡ []
   unfolding fitting
   chunk-last h =
-      let g : length (linesOf ms ws) ≤ n = omega (arith, length-lines ms ws) in
-      ap (fitting end) (drop-of-length-le (linesOf ms ws) g)
+      let g : length (markedLines ms ws) ≤ n = omega (arith, length-marked ms ws) in
+      ap (fitting end) (drop-of-length-le (markedLines ms ws) g)
 
   -- no room is left
-  pub chunk-full : 65456 < end → fitting end (drop n (linesOf ms ws)) ≡ []
-  chunk-full h = fit-full end (drop n (linesOf ms ws)) (omega arith)
+  pub chunk-full : 65456 < end → fitting end (drop n (markedLines ms ws)) ≡ []
+  chunk-full h = fit-full end (drop n (markedLines ms ws)) (omega arith)
 
 -- the text and the number of lines left
 pub joined-next : (ls : List (List ℕ)) (l : List ℕ) (rest : List (List ℕ)) → ls ≡ l ∷ rest → joined ls ≡ l ++ joined rest
@@ -77,6 +68,32 @@ joined-none ls e = ap joined e
 pub chunk-count : (n v : ℕ) (ls : List (List ℕ)) (l : List ℕ) (rest : List (List ℕ)) → ls ≡ l ∷ rest → n + length ls ≡ v → n + 1 + length rest ≡ v
 chunk-count n v ls l rest e q = omega (arith, ap length e)
 
--- a chunk has at least one line where a word is left
-pub chunk-some : (ms ws : List ℕ) (n : ℕ) → n < length ms → n < length ws → 0 < length (chunkOf ms ws n)
-chunk-some ms ws n h g = omega (arith, ap length (chunk-next ms ws n 0 h g (omega arith)))
+joined-append : (ls ms : List (List ℕ)) → joined (ls ++ ms) ≡ joined ls ++ joined ms
+unfolding joined
+joined-append [] ms = refl
+joined-append (l ∷ ls) ms = ap (λ (x : List ℕ). l ++ x) (joined-append ls ms) ∙ sym (append-assoc l (joined ls) (joined ms))
+
+fit-rest : (end : ℕ) (ls : List (List ℕ)) → fitting end ls ++ drop (length (fitting end ls)) ls ≡ ls
+unfolding fitting
+fit-rest end [] = refl
+fit-rest end (l ∷ ls) = go (leb (end + 80) 65536) (fit-rest (end + length l) ls)
+  where
+    go : (b : Bool) → fitting (end + length l) ls ++ drop (length (fitting (end + length l) ls)) ls ≡ ls
+        → cond b (l ∷ fitting (end + length l) ls) [] ++ drop (length (cond b (l ∷ fitting (end + length l) ls) [])) (l ∷ ls) ≡ l ∷ ls
+    go true q = ap (λ (x : List (List ℕ)). l ∷ x) q
+    go false q = refl
+
+module _ (ls : List (List ℕ)) (from : ℕ) where
+  -- the text of a chunk, and then that of the lines after it, is the text of all lines from `from` on
+  pub chunk-rest : joined (chunkOf ls from) ++ joined (drop (from + length (chunkOf ls from)) ls) ≡ joined (drop from ls)
+  chunk-rest =
+      let n : ℕ = length (chunkOf ls from) in
+      ap (λ (x : List (List ℕ)). joined (chunkOf ls from) ++ joined x) (sym (drop-drop n from ls))
+      ∙ sym (joined-append (chunkOf ls from) (drop n (drop from ls))) ∙ ap joined (fit-rest 0 (drop from ls))
+
+  -- a chunk has a line where one is left
+  pub chunk-some : from < length ls → 0 < length (chunkOf ls from)
+  chunk-some h =
+      let e = drop-cons ls from [] h in
+      let f = ap (fitting 0) e ∙ fit-go 0 (getD ls from []) (drop (suc from) ls) (omega arith) in
+      omega (arith, ap length f)

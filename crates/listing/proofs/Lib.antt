@@ -1,4 +1,6 @@
 pub mod Puts
 pub mod Numbers
 pub mod Marking
+pub mod Unpacking
 pub mod Chunks
+pub mod Listing

@@ -14,7 +14,7 @@ use Rattle.tables.specs.Tables.{size, sizes, needed}
 use Rattle.tables.specs.Filling.{placesAt, Put}
 use Rattle.tables.proofs.Puts.{phys-next, phys-last, from-next, from-last}
 use Rattle.listing.proofs.Puts.{put-within}
-use Rattle.listing.specs.Lines.{mark, indexMarks, placeMarks, marksOf, marksFor}
+use Rattle.listing.specs.Marks.{mark, indexMarks, placeMarks, marksOf, marksFor}
 
 pub length-indexes : (i p k n : ℕ) → length (indexMarks i p k n) ≡ n
 unfolding indexMarks

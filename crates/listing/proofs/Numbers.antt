@@ -2,7 +2,7 @@
 use Prim.Native.Nat.{ℕ, zero, suc, _-_, _^_, _/_, _%_, _≤_, _<_}
 use mathlib.Core.Path.{_≡_, refl, sym, _∙_, ap}
 use mathlib.Core.Bool.{Bool, true, false, cond}
-use mathlib.Core.List.{List, [], _∷_, _++_}
+use mathlib.Core.List.{[], _∷_, _++_}
 use mathlib.Core.Logic.{by-cases}
 use native.Mathlib.Decide.{ℕ-discrete, decLt}
 use native.Mathlib.Omega.{arith}
@@ -26,20 +26,13 @@ tens-most (suc k) n = go (leb (10 ^ suc k) n) (tens-most k n)
     go true h = omega arith
     go false h = omega arith
 
-higher : (a b : ℕ) → a ≤ b → 10 ^ a ≤ 10 ^ b
-higher a b h = pow-le-pow-right (omega arith) h
+higher : (b m n : ℕ) → 0 < b → m ≤ n → b ^ m ≤ b ^ n
+higher b m n p h = pow-le-pow-right p h
 
-higher-16 : (a b : ℕ) → a ≤ b → 16 ^ a ≤ 16 ^ b
-higher-16 a b h = pow-le-pow-right (omega arith) h
-
--- how many digits a 64-bit number takes at most
-pub decimal-few : (n k : ℕ) → Fewest 10 1 n k → n < 18446744073709551616 → k ≤ 20
-decimal-few n k f h =
-    by-cases (decLt 20 k) (λ g. omega (arith, f .2 (omega arith), higher 20 (k - 1) (omega arith))) (λ g. omega arith)
-
-pub hex-few : (n k : ℕ) → Fewest 16 16 n k → n < 18446744073709551616 → k ≤ 16
-hex-few n k f h =
-    by-cases (decLt 16 k) (λ g. omega (arith, f .2 (omega arith), higher-16 16 (k - 1) (omega arith))) (λ g. omega arith)
+-- how many digits a number takes at most
+pub digits-few : (b least most n k : ℕ) → 0 < b → least ≤ most → Fewest b least n k → n < b ^ most → k ≤ most
+digits-few b least most n k p l f h =
+    by-cases (decLt most k) (λ g. omega (arith, f .2 (omega arith), higher b most (k - 1) p (omega arith))) (λ g. omega arith)
 
 tens-is : (j i n : ℕ) → i ≤ j → (0 < i → 10 ^ i ≤ n) → n < 10 ^ suc i → tens j n ≡ i
 unfolding tens
@@ -49,7 +42,7 @@ tens-is (suc j) i n h f g = go (leb (10 ^ suc j) n) refl (tens-is j i n)
     go : (b : Bool) → leb (10 ^ suc j) n ≡ b → (i ≤ j → (0 < i → 10 ^ i ≤ n) → n < 10 ^ suc i → tens j n ≡ i) → cond b (suc j) (tens j n) ≡ i
     go true q r =
         by-cases (ℕ-discrete i (suc j)) (λ e. sym e)
-        (λ ne. omega (arith, leb-true (10 ^ suc j) n q, higher (suc i) (suc j) (omega arith)))
+        (λ ne. omega (arith, leb-true (10 ^ suc j) n q, higher 10 (suc i) (suc j) (omega arith) (omega arith)))
     go false q r =
         by-cases (ℕ-discrete i (suc j)) (λ e. omega (arith, leb-false (10 ^ suc j) n q, rw e at (f (omega arith))))
         (λ ne. r (omega arith) f g)

@@ -1,32 +1,14 @@
 -- Bytes or words put one after the other.
-use Prim.Native.Nat.{ℕ, suc, _+_, _≤_, _<_}
+use Prim.Native.Nat.{ℕ, _+_, _≤_, _<_}
 use mathlib.Core.Path.{_≡_, refl, sym, _∙_, ap}
-use mathlib.Core.List.{List, [], _∷_, _++_, append-assoc}
+use mathlib.Core.List.{List, [], _∷_, _++_}
 use native.Mathlib.Omega.{arith}
-use native.Mathlib.Nat.{add-zero}
 use native.Mathlib.Numerals.{add-one}
-use lib.ListN.{length, getD, take, drop, set, length-append, length-set, take-append-drop}
-use lib.Seq.{take-at, drop-at, drop-cons, drop-drop, length-take-le, set-split}
+use lib.ListN.{length, getD, take, drop, set, length-append, length-set}
+use lib.Seq.{take-at, drop-cons, length-take-le, set-split}
 use Rattle.io.specs.Counts.{Counts}
 use Rattle.tables.specs.Filling.{overlay, Put}
-
-overlay-none : (ws : List ℕ) (at : ℕ) → overlay ws at [] ≡ ws
-unfolding overlay
-overlay-none ws at = let e : at + 0 ≡ at = add-zero at in rw e (take-append-drop at ws)
-
-overlay-next : (ws : List ℕ) (at : ℕ) (r new : List ℕ) → at + length r ≤ length ws → overlay (overlay ws at r) (at + length r) new ≡ overlay ws at (r ++ new)
-unfolding overlay
-overlay-next ws at r new h =
-    let f : List ℕ = take at ws ++ r in
-    let g : List ℕ = drop (at + length r) ws in
-    let lf : length f ≡ at + length r = length-append (take at ws) r ∙ omega (arith, length-take-le at ws (omega arith)) in
-    let s : take at ws ++ (r ++ g) ≡ f ++ g = sym (append-assoc (take at ws) r g) in
-    let n : at + length r + length new ≡ at + length (r ++ new) = omega (arith, length-append r new) in
-    let t₁ : take (at + length r) (f ++ g) ≡ f = take-at f g _ lf in
-    let t₂ : drop (at + length r + length new) (f ++ g) ≡ drop (at + length (r ++ new)) ws =
-    sym (drop-drop (length new) (at + length r) (f ++ g)) ∙ ap (drop (length new)) (drop-at f g _ lf)
-    ∙ drop-drop (length new) (at + length r) ws ∙ ap (λ (x : ℕ). drop x ws) n in
-    rw (s, t₁, t₂) (append-assoc (take at ws) r (new ++ drop (at + length (r ++ new)) ws) ∙ rw (append-assoc r))
+use Rattle.tables.proofs.Puts.{overlay-none, overlay-next}
 
 -- nothing, one element, and the same by an equation
 pub put-none : (ws : List ℕ) (at : ℕ) → Put ws ws at at []
@@ -61,6 +43,11 @@ put-within {before} {after} {x} {at} {r} u h =
     let s = u .same in
     let l : r ≤ length after = omega arith in
     (l, sym (length-take-le r after l))
+
+-- what was put at the front
+pub put-front : {before after x : List ℕ} {r : ℕ} → Put before after 0 r x → take r after ≡ x
+unfolding overlay
+put-front {before} {after} {x} {r} u = ap (take r) (u .words) ∙ take-at x (drop (0 + length x) before) r (omega (arith, u .next))
 
 -- on the way: `all` goes from `at` on, and `rest` of it is left to put, from `to` on
 pub record Going (before : List ℕ) (at : ℕ) (all now : List ℕ) (to : ℕ) (rest : List ℕ) : Type 0 where

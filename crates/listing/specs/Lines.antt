@@ -1,47 +1,32 @@
--- The place of each table word, and the lines of the words, as many at a time as a buffer has room for.
-use Prim.Native.Nat.{ℕ, zero, suc, _+_, _*_, _/_, _%_}
+-- The lines of the table words, as many at a time as a buffer has room for, and the whole listing.
+use Prim.Native.Nat.{ℕ, _+_}
 use mathlib.Core.Path.{_≡_}
 use mathlib.Core.Bool.{cond}
-use mathlib.Core.List.{List, [], _∷_, _++_}
-use lib.ListN.{length, drop}
+use mathlib.Core.List.{List, [], _∷_, _++_, flatMap}
+use lib.ListN.{length, take, drop}
 use lib.Dec.{leb}
 use Rattle.io.specs.Counts.{Counts}
-use Rattle.wiring.specs.Domain.{Domain, expanderAt, phyAt, routes}
-use Rattle.wiring.specs.Causes.{Place, places}
-use Rattle.tables.specs.Tables.{needed}
+use Rattle.wiring.specs.Domain.{Domain, expanderAt}
+use Rattle.wiring.specs.Causes.{Place}
+use Rattle.tables.specs.Tables.{table, tablePlaces, needed}
 use Rattle.tables.specs.Filling.{Put}
-use Rattle.listing.specs.Text.{lineOf}
+use Rattle.listing.specs.Text.{lineOf, totalsOf}
 
--- a mark: expander, phy and index of a table word, as one word
-abbrev pub mark : ℕ → ℕ → ℕ → ℕ
-mark i p k = k + 65536 * p + 16777216 * i
+-- the lines of words in the table of phy p of expander i, from index k on
+unfoldable pub tableLines : ℕ → ℕ → ℕ → List ℕ → List (List ℕ)
+tableLines i p k [] = []
+tableLines i p k (w ∷ ws) = lineOf i p k w ∷ tableLines i p (k + 1) ws
 
--- the marks of as many indexes of one phy as `count`, from index k on
-unfoldable pub indexMarks : ℕ → ℕ → ℕ → ℕ → List ℕ
-indexMarks i p k zero = []
-indexMarks i p k (suc count) = mark i p k ∷ indexMarks i p (k + 1) count
+-- the lines of words that stand in the tables at these places, R words in each
+unfoldable pub placeLines : Domain → List Place → List ℕ → List (List ℕ)
+placeLines d [] ws = []
+placeLines d (q ∷ qs) ws =
+    tableLines (q .expander) (q .phy) 0 (take (expanderAt d (q .expander) .indexes) ws)
+    ++ placeLines d qs (drop (expanderAt d (q .expander) .indexes) ws)
 
--- the marks of the table at a place: none where there is no table phy
-unfoldable pub placeMarks : Domain → Place → List ℕ
-placeMarks d q = cond (routes 2 (phyAt d (q .expander) (q .phy))) (indexMarks (q .expander) (q .phy) 0 (expanderAt d (q .expander) .indexes)) []
-
-unfoldable pub marksOf : Domain → List Place → List ℕ
-marksOf d [] = []
-marksOf d (q ∷ qs) = placeMarks d q ++ marksOf d qs
-
--- the marks of all table words, where there is room for them
-unfoldable pub marksFor : ℕ → Domain → List ℕ
-marksFor room d = cond (leb (needed d) room) (marksOf d (places d)) []
-
--- the line of a table word with this mark
-abbrev pub lineAt : ℕ → ℕ → List ℕ
-lineAt m w = lineOf (m / 16777216 % 256) (m / 65536 % 256) (m % 65536) w
-
--- the lines of words with these marks
-unfoldable pub linesOf : List ℕ → List ℕ → List (List ℕ)
-linesOf [] ws = []
-linesOf (m ∷ ms) [] = []
-linesOf (m ∷ ms) (w ∷ ws) = lineAt m w ∷ linesOf ms ws
+-- the lines of words that stand in all tables of a domain; none where these have more than 8,192 words
+unfoldable pub linesOf : Domain → List ℕ → List (List ℕ)
+linesOf d ws = cond (leb (needed d) 8192) (placeLines d (tablePlaces d) ws) []
 
 unfoldable pub joined : List (List ℕ) → List ℕ
 joined [] = []
@@ -52,12 +37,20 @@ unfoldable pub fitting : ℕ → List (List ℕ) → List (List ℕ)
 fitting end [] = []
 fitting end (l ∷ ls) = cond (leb (end + 80) 65536) (l ∷ fitting (end + length l) ls) []
 
--- the lines of the words from `from` on that fit
-abbrev pub chunkOf : List ℕ → List ℕ → ℕ → List (List ℕ)
-chunkOf marks words from = fitting 0 (drop from (linesOf marks words))
+-- the lines from number `from` on that fit
+abbrev pub chunkOf : List (List ℕ) → ℕ → List (List ℕ)
+chunkOf ls from = fitting 0 (drop from ls)
 
--- a chunk was put: its text, which lies within the buffer, and which word is next
-pub record ChunkPut (marks words : List ℕ) (from : ℕ) (before after : List ℕ) (next end : ℕ) : Type 0 where
-  pub text : Put before after 0 end (joined (chunkOf marks words from))
+-- a chunk of lines was put: its text, which lies within the buffer, and the number of the next line
+pub record ChunkPut (ls : List (List ℕ)) (from : ℕ) (before after : List ℕ) (next end : ℕ) : Type 0 where
+  pub text : Put before after 0 end (joined (chunkOf ls from))
   pub counts : Counts end after
-  pub word : next ≡ from + length (chunkOf marks words from)
+  pub line : next ≡ from + length (chunkOf ls from)
+
+-- the lines of a domain's own tables, by expander, then phy, then index
+unfoldable pub entryLines : Domain → List (List ℕ)
+entryLines d = flatMap (λ q. tableLines (q .expander) (q .phy) 0 (table d (q .expander) (q .phy))) (tablePlaces d)
+
+-- the whole listing: a line for each word of each table, then the totals
+unfoldable pub listingOf : Domain → List ℕ
+listingOf d = joined (entryLines d) ++ totalsOf (length (tablePlaces d)) (needed d)

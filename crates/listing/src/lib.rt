@@ -3,14 +3,12 @@ mod lines;
 mod marks;
 mod text;
 
-pub use lines::print_lines;
 pub use lines::put_chunk;
-pub use marks::put_marks;
 pub use text::refused;
 pub use text::too_long;
 pub use text::totals;
 
-// What putting a chunk of lines answers: the number of the next word, and the place after the text.
+// What putting a chunk of lines answers: the number of the next line, and the place after the text.
 pub struct Chunk {
     pub next: usize,
     pub end: usize,

@@ -8,8 +8,10 @@ use frames::RouteIndex;
 ghost use mathlib.Core.Path.{_≡_};
 ghost use Prim.Native.Nat.{_+_, _≤_, min};
 ghost use lib.ListN.{length};
+ghost use Rattle.wiring.specs.Rows.{domainIn};
 ghost use Rattle.tables.specs.Filling.{Put};
-ghost use Rattle.listing.specs.Lines.{lineAt, ChunkPut};
+ghost use Rattle.listing.specs.Lines.{linesOf, ChunkPut};
+ghost use Rattle.listing.specs.Marks.{lineAt, markedLines};
 
 // The line of a table word with this mark, and the place after it.
 fn put_marked(out: &mut [u8], at: usize, mark: u64, w: u64) -> usize
@@ -32,9 +34,9 @@ fn marked(marks: &[u64], words: &[u64]) -> usize
     words.len()
 }
 
-// The lines of the words from `from` on, as many as there is room for.
-pub fn put_chunk(marks: &[u64], words: &[u64], from: usize, out: &mut [u8; 65536]) -> Chunk
-    ensures { λ r. ⌜ ChunkPut (now (marks .entry)) (now (words .entry)) from (now (out .entry)) (now (out .exit)) (r .next) (r .end) ⌝ }
+// The lines of the marked words from `from` on, as many as there is room for.
+fn put_lines(marks: &[u64], words: &[u64], from: usize, out: &mut [u8; 65536]) -> Chunk
+    ensures { λ r. ⌜ ChunkPut (markedLines (now (marks .entry)) (now (words .entry))) from (now (out .entry)) (now (out .exit)) (r .next) (r .end) ⌝ }
 {
     let n = marked(marks, words);
     let mut next = from;
@@ -55,25 +57,12 @@ pub fn put_chunk(marks: &[u64], words: &[u64], from: usize, out: &mut [u8; 65536
     }
 }
 
-// Writes the lines of the words to a descriptor, and answers whether all were written.
-fn print_marked(fd: i32, marks: &[u64], words: &[u64]) -> bool {
-    let n = marked(marks, words);
-    let mut out = io::large_buffer();
-    let mut next: usize = 0;
-    while next < n {
-        let chunk = put_chunk(marks, words, next, &mut out);
-        if !io::write_all(fd, &out[..chunk.end]) {
-            return false;
-        }
-        next = chunk.next;
-    }
-    true
-}
-
-// Writes the lines of the table words of a domain in rows, at most 8,192, and answers whether all
-// were written.
-pub fn print_lines(fd: i32, rows: &[u64], words: &[u64]) -> bool {
+// The lines of the table words of a domain in rows, at most 8,192, from word `from` on, as many as
+// there is room for.
+pub fn put_chunk(rows: &[u64], words: &[u64], from: usize, out: &mut [u8; 65536]) -> Chunk
+    ensures { λ r. ⌜ ChunkPut (linesOf (domainIn (now (rows .entry))) (now (words .entry))) from (now (out .entry)) (now (out .exit)) (r .next) (r .end) ⌝ }
+{
     let mut places = [0u64; 8192];
     let n = marks::put_marks(rows, &mut places[..]);
-    print_marked(fd, &places[..n], words)
+    put_lines(&places[..n], words, from, out)
 }

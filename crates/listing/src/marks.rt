@@ -7,7 +7,7 @@ ghost use lib.ListN.{length};
 ghost use Rattle.wiring.specs.Causes.{place};
 ghost use Rattle.wiring.specs.Rows.{domainIn};
 ghost use Rattle.tables.specs.Filling.{placesAt, Put};
-ghost use Rattle.listing.specs.Lines.{mark, indexMarks, placeMarks, marksOf, marksFor};
+ghost use Rattle.listing.specs.Marks.{mark, indexMarks, placeMarks, marksOf, marksFor};
 
 // One mark, and the place after it.
 fn put_mark(marks: &mut [u64], at: usize, i: ExpanderNumber, p: PhyId, k: u16) -> usize
@@ -63,7 +63,7 @@ fn put_expander(rows: &[u64], i: ExpanderNumber, marks: &mut [u64], at: usize) -
 
 // The marks of all table words from the front on, and how many there are: none where there is too
 // little room. The words after them stay.
-pub fn put_marks(rows: &[u64], marks: &mut [u64]) -> usize
+pub(crate) fn put_marks(rows: &[u64], marks: &mut [u64]) -> usize
     ensures { λ r. ⌜ Put (now (marks .entry)) (now (marks .exit)) 0 r
         (marksFor (length (now (marks .entry))) (domainIn (now (rows .entry)))) ⌝ }
 {

@@ -2,6 +2,24 @@
 use tables::TablesGiven;
 use wiring::DomainRead;
 
+// Writes the lines of the table words of a domain in rows, chunk by chunk until one has no line, and
+// answers whether all were written.
+fn print_lines(rows: &[u64], words: &[u64]) -> bool {
+    let mut out = io::large_buffer();
+    let mut next: usize = 0;
+    while next < words.len() {
+        let chunk = listing::put_chunk(rows, words, next, &mut out);
+        if chunk.next == next {
+            return true;
+        }
+        if !io::write_all(1, &out[..chunk.end]) {
+            return false;
+        }
+        next = chunk.next;
+    }
+    true
+}
+
 // The lines of all entries, and the totals.
 fn print_tables(file: &[u8], words: &[u64], tables: u64, entries: u64) {
     let mut rows = [0u64; 16512];
@@ -10,7 +28,7 @@ fn print_tables(file: &[u8], words: &[u64], tables: u64, entries: u64) {
         DomainRead::Refused(_) => {}
         DomainRead::Expanders(n) => {
             let e = 258 * (n as usize);
-            if listing::print_lines(1, &rows[..e], words) {
+            if print_lines(&rows[..e], words) {
                 let mut line = [0u8; 80];
                 let end = listing::totals(&mut line, tables, entries);
                 io::write_all(1, &line[..end]);

@@ -1,100 +1,44 @@
-use Prim.Native.Nat.{ℕ, _+_, _-_, _/_, _%_, _≤_}
-use mathlib.Core.Path.{_≡_, refl, ap}
-use borrow.Author.Needs.{needs}
 use native.Mathlib.Omega.{arith}
-use lib.ListN.{length, getD, drop}
-use Rattle.listing.specs.Lines.{linesOf, joined, fitting, chunkOf}
-use Rattle.listing.proofs.Puts.{Going, go-start, go-turn, go-end, put-within}
-use Rattle.listing.proofs.Numbers.{line-short}
-use Rattle.listing.proofs.Chunks.{chunk-next, chunk-last, chunk-full, chunk-count, joined-next, joined-none}
+use Rattle.wiring.specs.Rows.{domainIn}
+use Rattle.listing.proofs.Puts.{put-front}
+use Rattle.listing.proofs.Marking.{marks-counts}
+use Rattle.listing.proofs.Unpacking.{marked-lines}
+use borrow.Author.Needs.{needs}
 use Rattle.listing.proofs.lines.put_chunk.Statement.{statement}
 use Rattle.listing.proofs.lines.put_chunk.Tie as tie
 
-abbrev Inv-loop : tie.InvT-loop
-Inv-loop marks words from out₀ n next₀ end₀ out next end =
-    (end ≤ length out)
-    × ((next + length (fitting end (drop next (linesOf marks words))) ≡ from + length (chunkOf marks words from))
-    × Going out₀ 0 (joined (chunkOf marks words from)) out end (joined (fitting end (drop next (linesOf marks words)))))
+slice-aggregate-put-marks : tie.Need-slice-aggregate-put-marks
+slice-aggregate-put-marks c = search needs
 
-abbrev μ-loop : tie.MeasureT-loop
-μ-loop marks words from out₀ n next₀ end₀ out next end = n - next
+put-marks-requires : tie.Need-put-marks-requires
+put-marks-requires c κs = search needs
 
-marked-requires : tie.Need-marked-requires Inv-loop μ-loop
-marked-requires c κs = search needs
+array-share-prefix-places : tie.Need-array-share-prefix-places
+array-share-prefix-places c =
+    let h = marks-counts (domainIn (c .before .before .before .before .before .args .rows .now)) (c .before .put-marks .ensures) in
+    omega (arith, h .0, h .1)
 
-loop-holds : tie.Need-loop-holds Inv-loop μ-loop
-loop-holds c = (omega arith, (refl, go-start))
+slice-aggregate-put-lines : tie.Need-slice-aggregate-put-lines
+slice-aggregate-put-lines c =
+    let h = marks-counts (domainIn (c .before .before .before .before .before .before .args .rows .now)) (c .before .before .put-marks .ensures) in
+    h .1
 
-returns : tie.Need-returns Inv-loop μ-loop
+put-lines-requires : tie.Need-put-lines-requires
+put-lines-requires c κs = search needs
+
+returns : tie.Need-returns
 returns c =
-    let a = c .before .before .before .before .before .before .args in
-    let l = c .before .before .loop in
-    let e = chunk-full (a .marks .now) (a .words .now) (l .next) (l .end) (omega arith) in
-    let t = go-end (l .inv .1 .1) (joined-none _ e) in
-    let z = l .inv .1 .1 .same in
-    record { text = t; counts = put-within t (omega arith); word = omega (arith, ap length e, l .inv .1 .0) }
-
-mul-put-marked : tie.Need-mul-put-marked Inv-loop μ-loop
-mul-put-marked c = search needs
-
-shared-slice-read-put-marked : tie.Need-shared-slice-read-put-marked Inv-loop μ-loop
-shared-slice-read-put-marked c = omega arith
-
-mul-put-marked-2 : tie.Need-mul-put-marked-2 Inv-loop μ-loop
-mul-put-marked-2 c = search needs
-
-shared-slice-read-put-marked-2 : tie.Need-shared-slice-read-put-marked-2 Inv-loop μ-loop
-shared-slice-read-put-marked-2 c = omega arith
-
-put-marked-requires : tie.Need-put-marked-requires Inv-loop μ-loop
-put-marked-requires c κs =
-    let z = c .before .before .before .before .before .loop .inv .1 .1 .same in
-    omega arith
-
-add-next : tie.Need-add-next Inv-loop μ-loop
-add-next c = omega arith
-
-loop-less : tie.Need-loop-less Inv-loop μ-loop
-loop-less c = omega arith
-
-loop-again : tie.Need-loop-again Inv-loop μ-loop
-loop-again c =
-    let a = c .before .before .before .before .before .before .before .before .before .before .args in
-    let l = c .before .before .before .before .before .before .loop in
-    let u = c .put-marked .ensures in
-    let m : ℕ = getD (a .marks .now) (l .next) 0 in
-    let w : ℕ = getD (a .words .now) (l .next) 0 in
-    let h = line-short (m / 16777216 % 256) (m / 65536 % 256) (m % 65536) w in
-    let n = u .next in
-    let s = l .inv .1 .1 .same in
-    let e = chunk-next (a .marks .now) (a .words .now) (l .next) (l .end) (omega arith) (omega arith) (omega arith) in
-    let f = rw (← n) at e in
-    (omega arith, (chunk-count (l .next) _ _ _ _ f (l .inv .1 .0), go-turn (l .inv .1 .1) _ u (joined-next _ _ _ f) (omega arith)))
-
-returns-2 : tie.Need-returns-2 Inv-loop μ-loop
-returns-2 c =
-    let a = c .before .before .before .before .before .args in
-    let l = c .before .loop in
-    let e = chunk-last (a .marks .now) (a .words .now) (l .next) (l .end) (omega arith) in
-    let t = go-end (l .inv .1 .1) (joined-none _ e) in
-    let z = l .inv .1 .1 .same in
-    record { text = t; counts = put-within t (omega arith); word = omega (arith, ap length e, l .inv .1 .0) }
+    let a = c .before .before .before .before .before .before .before .before .args in
+    let m = put-front (c .before .before .before .before .put-marks .ensures) in
+    rw (m, marked-lines (a .rows .now) (a .words .now)) at (c .put-lines .ensures)
 
 pub put-chunk-spec : {M : Type 1} → statement M
 put-chunk-spec =
     tie.close
     (tie.spec
-    Inv-loop
-    μ-loop
-    marked-requires
-    loop-holds
-    returns
-    mul-put-marked
-    shared-slice-read-put-marked
-    mul-put-marked-2
-    shared-slice-read-put-marked-2
-    put-marked-requires
-    add-next
-    loop-less
-    loop-again
-    returns-2)
+    slice-aggregate-put-marks
+    put-marks-requires
+    array-share-prefix-places
+    slice-aggregate-put-lines
+    put-lines-requires
+    returns)

@@ -8,7 +8,7 @@ use Rattle.wiring.specs.Domain.{Domain, expanderAt}
 use Rattle.wiring.specs.Causes.{place, phyPlaces}
 use Rattle.wiring.specs.Rows.{domainIn}
 use Rattle.tables.specs.Filling.{placesAt}
-use Rattle.listing.specs.Lines.{placeMarks, marksOf}
+use Rattle.listing.specs.Marks.{placeMarks, marksOf}
 use Rattle.listing.proofs.Puts.{Going, go-from, go-fits, go-turn, go-end}
 use Rattle.listing.proofs.Marking.{phy-next, phy-last}
 use Rattle.listing.proofs.marks.put_expander.Statement.{statement}

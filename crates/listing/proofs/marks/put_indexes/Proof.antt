@@ -2,7 +2,7 @@ use mathlib.Core.Path.{_≡_, ap}
 use Prim.Native.Nat.{ℕ, _+_, _-_, _≤_}
 use mathlib.Core.List.{List, [], _∷_}
 use native.Mathlib.Omega.{arith}
-use Rattle.listing.specs.Lines.{mark, indexMarks}
+use Rattle.listing.specs.Marks.{mark, indexMarks}
 use Rattle.listing.proofs.Puts.{Going, go-from, go-fits, go-turn, go-end}
 use Rattle.listing.proofs.Marking.{length-indexes, index-next, index-last}
 use Rattle.listing.proofs.marks.put_indexes.Statement.{statement}

@@ -8,7 +8,7 @@ use Rattle.wiring.specs.Domain.{Domain}
 use Rattle.wiring.specs.Causes.{placesFrom, places}
 use Rattle.wiring.specs.Rows.{domainIn}
 use Rattle.tables.specs.Filling.{placesAt}
-use Rattle.listing.specs.Lines.{marksOf}
+use Rattle.listing.specs.Marks.{marksOf}
 use Rattle.listing.proofs.Puts.{put-none, put-as, Going, go-start, go-fits, go-turn, go-end}
 use Rattle.listing.proofs.Marking.{length-marks, expander-next, expander-last, marks-fit, marks-none}
 use Rattle.listing.proofs.marks.put_marks.Statement.{statement}

@@ -4,7 +4,7 @@ use lib.ListN.{length}
 use borrow.Author.Tests.{eq-eqb, ne-eqb}
 use Rattle.wiring.specs.Domain.{Domain, expanderAt, phyAt, attributeOf}
 use Rattle.wiring.specs.Rows.{domainIn}
-use Rattle.listing.specs.Lines.{indexMarks}
+use Rattle.listing.specs.Marks.{indexMarks}
 use Rattle.listing.proofs.Puts.{put-none, put-as}
 use Rattle.listing.proofs.Marking.{length-indexes, place-by}
 use borrow.Author.Needs.{needs}

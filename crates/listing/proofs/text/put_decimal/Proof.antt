@@ -2,7 +2,7 @@ use Prim.Native.Nat.{_≤_}
 use mathlib.Core.Path.{_∙_}
 use native.Mathlib.Omega.{arith}
 use Rattle.listing.proofs.Puts.{put-as}
-use Rattle.listing.proofs.Numbers.{decimal-few, decimal-is}
+use Rattle.listing.proofs.Numbers.{digits-few, decimal-is}
 use borrow.Author.Needs.{needs}
 use Rattle.listing.proofs.text.put_decimal.Statement.{statement}
 use Rattle.listing.proofs.text.put_decimal.Tie as tie
@@ -20,7 +20,7 @@ put-bytes-requires : tie.Need-put-bytes-requires
 put-bytes-requires c κs =
     let f = c .before .before .decimal in
     let h = f .ensures .0 in
-    omega (arith, h .0, h .1, decimal-few (c .before .before .before .before .before .args .n) (f .result) (f .ensures .1 .0) (omega arith))
+    omega (arith, h .0, h .1, digits-few 10 1 20 (c .before .before .before .before .before .args .n) (f .result) (omega arith) (omega arith) (f .ensures .1 .0) (omega arith))
 
 same-length : tie.Need-same-length
 same-length c = search needs
@@ -28,7 +28,7 @@ same-length c = search needs
 returns : tie.Need-returns
 returns c =
     let f = c .before .before .before .before .before .decimal in
-    let m : f .result ≤ 20 = decimal-few (c .before .before .before .before .before .before .before .before .args .n) (f .result) (f .ensures .1 .0) (omega arith) in
+    let m : f .result ≤ 20 = digits-few 10 1 20 (c .before .before .before .before .before .before .before .before .args .n) (f .result) (omega arith) (omega arith) (f .ensures .1 .0) (omega arith) in
     put-as (c .before .before .put-bytes .ensures) (f .ensures .1 .1 ∙ decimal-is (c .before .before .before .before .before .before .before .before .args .n) (f .result) (f .ensures .1 .0) m)
 
 pub put-decimal-spec : {M : Type 1} → statement M

@@ -2,7 +2,7 @@ use Prim.Native.Nat.{_≤_}
 use mathlib.Core.Path.{_∙_}
 use native.Mathlib.Omega.{arith}
 use Rattle.listing.proofs.Puts.{put-as}
-use Rattle.listing.proofs.Numbers.{hex-few, hex-is}
+use Rattle.listing.proofs.Numbers.{digits-few, hex-is}
 use borrow.Author.Needs.{needs}
 use Rattle.listing.proofs.text.put_hex.Statement.{statement}
 use Rattle.listing.proofs.text.put_hex.Tie as tie
@@ -20,7 +20,7 @@ put-bytes-requires : tie.Need-put-bytes-requires
 put-bytes-requires c κs =
     let f = c .before .before .hex in
     let h = f .ensures .0 in
-    omega (arith, h .0, h .1, hex-few (c .before .before .before .before .before .args .w) (f .result) (f .ensures .1 .0) (omega arith))
+    omega (arith, h .0, h .1, digits-few 16 16 16 (c .before .before .before .before .before .args .w) (f .result) (omega arith) (omega arith) (f .ensures .1 .0) (omega arith))
 
 same-length : tie.Need-same-length
 same-length c = search needs
@@ -28,7 +28,7 @@ same-length c = search needs
 returns : tie.Need-returns
 returns c =
     let f = c .before .before .before .before .before .hex in
-    let m : f .result ≤ 16 = hex-few (c .before .before .before .before .before .before .before .before .args .w) (f .result) (f .ensures .1 .0) (omega arith) in
+    let m : f .result ≤ 16 = digits-few 16 16 16 (c .before .before .before .before .before .before .before .before .args .w) (f .result) (omega arith) (omega arith) (f .ensures .1 .0) (omega arith) in
     put-as (c .before .before .put-bytes .ensures) (f .ensures .1 .1 ∙ hex-is (c .before .before .before .before .before .before .before .before .args .w) (f .result) (f .ensures .1 .0 .0) m)
 
 pub put-hex-spec : {M : Type 1} → statement M
