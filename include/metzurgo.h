@@ -2,12 +2,19 @@
  * Metzurgo: SAS domain files, route tables and request tracing.
  *
  * Every slice is a pointer and a length (in elements). Each pointer must be
- * valid and aligned for its length; a lent buffer must not overlap the file or
- * another buffer of the same call. Nothing is kept after a call returns.
+ * valid and aligned for its length; where the length is 0 nothing is read or
+ * written there, and in every call the pointer may be NULL. A lent buffer must
+ * not overlap the file or another buffer of the same call. Nothing is kept
+ * after a call returns. A call that takes a file uses up to 700,000 bytes of
+ * stack.
  *
  * Refusals: bit 63 of the answer is set, and the answer is
  *     2^63 + number * 65536 + expander * 256 + phy.
  * After a refusal every lent buffer holds what it held before.
+ *
+ * metzurgo_read_route_entry, metzurgo_discover_own and
+ * metzurgo_discover_attached answer a 64-bit word of a frame, in which bit 63
+ * can be set, and 0 in place of a refusal.
  */
 #ifndef METZURGO_H
 #define METZURGO_H
@@ -19,7 +26,10 @@
 extern "C" {
 #endif
 
-/* Bit 63: set in every refusal and in no other answer. */
+/*
+ * Bit 63: set in every refusal and, apart from the three calls above, in no
+ * other answer.
+ */
 #define METZURGO_REFUSED ((uint64_t)1 << 63)
 /* Bit 62: set in the answer of metzurgo_read_discover for a vacant phy. */
 #define METZURGO_VACANT ((uint64_t)1 << 62)
@@ -57,10 +67,10 @@ uint64_t metzurgo_tables(const uint8_t *file, size_t file_len,
 
 /*
  * Tracing a connection request over the table words given. Tests causes 1 to
- * 14, then 15 (start expander, or arrival phy neither 255 nor attached to an
- * end device), 16 (fewer table words than needed, or fewer bytes in `passed`
- * than expanders), 17 (address zero). Writes the numbers of the expanders
- * passed, in order; later bytes stay.
+ * 14, then 15 (no such start expander, or an arrival phy that is neither 255
+ * nor attached to an end device), 16 (fewer table words than needed, or fewer
+ * bytes in `passed` than expanders), 17 (address zero). Writes the numbers of
+ * the expanders passed, in order; later bytes stay.
  * Answer: outcome * 2^24 + last expander * 2^16 + phy * 2^8 + count of
  * expanders passed. The phy is 255 unless the request arrived at an end device.
  */

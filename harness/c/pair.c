@@ -47,6 +47,47 @@ static void expect(const char *what, uint64_t expected, uint64_t got)
     }
 }
 
+/* A slice of length 0 may be NULL in every call. */
+static void empty_slices(void)
+{
+    const uint64_t cut = METZURGO_REFUSED + 1 * 65536;
+    const uint64_t room = METZURGO_REFUSED + 16 * 65536;
+    const size_t size = sizeof pair_rig;
+    uint64_t words[4] = { 0 };
+    uint8_t passed[2];
+
+    expect("wire, no file", cut, metzurgo_wire(NULL, 0, NULL, 0));
+    expect("wire, no words", room, metzurgo_wire(pair_rig, size, NULL, 0));
+    expect("tables, no file", cut, metzurgo_tables(NULL, 0, NULL, 0));
+    expect("tables, no words", room, metzurgo_tables(pair_rig, size, NULL, 0));
+    expect("trace, no file", cut,
+           metzurgo_trace(NULL, 0, NULL, 0, 0, 255, A1, NULL, 0));
+    expect("trace, no words", room,
+           metzurgo_trace(pair_rig, size, NULL, 0, 0, 255, A1, passed, 2));
+    expect("trace, no bytes", room,
+           metzurgo_trace(pair_rig, size, words, 4, 0, 255, A1, NULL, 0));
+    expect("write_route, no bytes", room,
+           metzurgo_write_route(NULL, 0, 0, 0, A1));
+    expect("read_route, no frame", cut, metzurgo_read_route(NULL, 0));
+    expect("read_route_entry, no frame", 0, metzurgo_read_route_entry(NULL, 0));
+    expect("read_general, no frame", cut, metzurgo_read_general(NULL, 0));
+    expect("read_discover, no frame", cut, metzurgo_read_discover(NULL, 0));
+    expect("discover_own, no frame", 0, metzurgo_discover_own(NULL, 0));
+    expect("discover_attached, no frame", 0,
+           metzurgo_discover_attached(NULL, 0));
+
+    /* One expander with a table phy and R 0: a table of no words. */
+    static const uint8_t wordless[90] = {
+        [0] = 0x10, [1] = 1, [2] = 0x50, [9] = 0x10, [10] = 0x41, [19] = 1,
+        [20] = 1, [38] = 0x41, [39] = 0x10, [54] = 0x50, [61] = 0x10, [82] = 2,
+    };
+    expect("tables of no words", UINT64_C(1) << 32,
+           metzurgo_tables(wordless, sizeof wordless, NULL, 0));
+    expect("trace over no words", (1 << 24) + 255 * 256 + 1,
+           metzurgo_trace(wordless, sizeof wordless, NULL, 0, 0, 255, A1,
+                          passed, 1));
+}
+
 int main(void)
 {
     uint64_t words[5] = { 7, 7, 7, 7, 7 };
@@ -58,7 +99,7 @@ int main(void)
 
     expect("judge", 2, metzurgo_judge(pair_rig, sizeof pair_rig));
     expect("judge, empty file", METZURGO_REFUSED + 1 * 65536,
-           metzurgo_judge(pair_rig, 0));
+           metzurgo_judge(NULL, 0));
 
     expect("tables, 3 words", METZURGO_REFUSED + 16 * 65536,
            metzurgo_tables(pair_rig, sizeof pair_rig, words, 3));
@@ -110,6 +151,8 @@ int main(void)
            metzurgo_discover_own(pair_rig + 90, 52));
     expect("discover_attached", A1,
            metzurgo_discover_attached(pair_rig + 90, 52));
+
+    empty_slices();
 
     return failed;
 }

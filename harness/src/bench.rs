@@ -1,5 +1,5 @@
-//! Times of the archive's calls beside the fast version, in one process and on
-//! the same input.
+//! Times and stack of the archive's calls beside the fast version, in one
+//! process and on the same input.
 
 use std::hint::black_box;
 use std::time::{Duration, Instant};
@@ -7,7 +7,8 @@ use std::time::{Duration, Instant};
 use crate::calls::{Archive, Calls};
 use crate::fast::Fast;
 use crate::layout::*;
-use crate::vectors;
+use crate::stack;
+use crate::vectors::{self, d, e, full_star};
 
 /// How long one call of one version is measured.
 const LONG_ENOUGH: Duration = Duration::from_millis(400);
@@ -20,14 +21,6 @@ struct Case {
     file: Vec<u8>,
     start: (u8, u8),
     address: u64,
-}
-
-const fn e(number: usize) -> u64 {
-    0x5000_0000_0000_0100 + number as u64
-}
-
-const fn d(expander: usize, phy: usize) -> u64 {
-    0x6000_0000_0000_0000 + 256 * expander as u64 + phy as u64
 }
 
 pub fn run() {
@@ -46,7 +39,7 @@ pub fn run() {
         },
         Case {
             name: "64 x 128, star",
-            file: star(DIRECT),
+            file: full_star(DIRECT),
             start: (1, 127),
             address: d(63, 127),
         },
@@ -58,14 +51,14 @@ pub fn run() {
         },
         Case {
             name: "64 x 128, table phys to end devices",
-            file: star(TABLE),
+            file: full_star(TABLE),
             start: (1, 127),
             address: d(63, 127),
         },
     ];
     println!(
-        "{:<36} {:<7} {:>14} {:>14} {:>8}",
-        "input", "call", "archive", "fast version", "ratio"
+        "{:<36} {:<7} {:>14} {:>14} {:>8} {:>15} {:>15}",
+        "input", "call", "archive", "fast version", "ratio", "archive stack", "fast stack"
     );
     for case in &cases {
         let mut words = vec![0; words_needed(case)];
@@ -93,30 +86,31 @@ pub fn run() {
             traced & 0xff
         );
 
-        let row = |call: &str, archive: Duration, fast: Duration| {
+        let row = |call: &str, archive: Cost, fast: Cost| {
             println!(
-                "{:<36} {:<7} {:>14} {:>14} {:>8.2}",
+                "{:<36} {:<7} {:>14} {:>14} {:>8.2} {:>15} {:>15}",
                 "",
                 call,
-                show(archive),
-                show(fast),
-                archive.as_secs_f64() / fast.as_secs_f64()
+                show(archive.time),
+                show(fast.time),
+                archive.time.as_secs_f64() / fast.time.as_secs_f64(),
+                archive.stack,
+                fast.stack
             );
         };
         row(
             "judge",
-            time(|| Archive.judge(black_box(file))),
-            time(|| Fast.judge(black_box(file))),
+            measure(|| Archive.judge(black_box(file))),
+            measure(|| Fast.judge(black_box(file))),
         );
         row(
             "tables",
-            time(|| Archive.tables(black_box(file), &mut words)),
-            time(|| Fast.tables(black_box(file), &mut other)),
+            measure(|| Archive.tables(black_box(file), &mut words)),
+            measure(|| Fast.tables(black_box(file), &mut other)),
         );
-        row(
-            "trace",
-            time(|| {
-                Archive.trace(
+        let mut trace = |calls: &dyn Calls| {
+            measure(|| {
+                calls.trace(
                     black_box(file),
                     &words,
                     start,
@@ -124,25 +118,21 @@ pub fn run() {
                     case.address,
                     &mut passed,
                 )
-            }),
-            time(|| {
-                Fast.trace(
-                    black_box(file),
-                    &words,
-                    start,
-                    arrival,
-                    case.address,
-                    &mut passed,
-                )
-            }),
-        );
+            })
+        };
+        row("trace", trace(&Archive), trace(&Fast));
     }
     println!(
         "The time is the shortest of all calls within {LONG_ENOUGH:?}; a slow call is made 3 times, \
          or fewer when these take {TOO_LONG:?}."
     );
     println!("No buffer was cleared between calls; the table call writes all its words each time.");
-    println!("The fast version takes working memory from the allocator in each call.");
+    println!(
+        "The stack is in bytes, from the top of a stack painted before the call down to the lowest \
+         word that it changed; a call that does nothing changes {}.",
+        stack::used(|| 0)
+    );
+    println!("The fast version takes working memory from the allocator in each call, besides.");
 }
 
 fn words_needed(case: &Case) -> usize {
@@ -169,6 +159,18 @@ fn fail(case: &Case, call: &str) -> ! {
         case.name
     );
     std::process::exit(1);
+}
+
+struct Cost {
+    time: Duration,
+    stack: usize,
+}
+
+fn measure(mut call: impl FnMut() -> u64) -> Cost {
+    Cost {
+        stack: stack::used(&mut call),
+        time: time(call),
+    }
 }
 
 /// The shortest time of one call.
@@ -216,26 +218,6 @@ fn comb() -> Vec<u8> {
         let mut expander = Expander::new(e(tooth), 0, false).link(SUBTRACTIVE, e(number), 2);
         for phy in 1..8 {
             expander = expander.drive(DIRECT, d(tooth, phy));
-        }
-        expanders.push(expander);
-    }
-    DomainFile::of(expanders).bytes()
-}
-
-/// A hub with 63 expanders; all other phys have this attribute and end devices.
-fn star(attribute: u8) -> Vec<u8> {
-    let mut hub = Expander::new(e(0), 127, true);
-    for leaf in 1..64 {
-        hub = hub.link(TABLE, e(leaf), 0);
-    }
-    for phy in 63..128 {
-        hub = hub.drive(attribute, d(0, phy));
-    }
-    let mut expanders = vec![hub];
-    for leaf in 1..64 {
-        let mut expander = Expander::new(e(leaf), 1, true).link(SUBTRACTIVE, e(0), leaf as u8 - 1);
-        for phy in 1..128 {
-            expander = expander.drive(attribute, d(leaf, phy));
         }
         expanders.push(expander);
     }

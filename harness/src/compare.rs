@@ -124,6 +124,20 @@ impl<T: Copy + PartialEq + Debug> Lent<T> {
             }),
         }
     }
+
+    /// What the first places hold; everything else has to be as before.
+    pub fn written(
+        &self,
+        what: impl FnOnce() -> String,
+        before: &[T],
+        count: usize,
+    ) -> Result<Vec<T>, Difference> {
+        let places = EDGE..EDGE + count.min(self.length);
+        let mut expected = before.to_vec();
+        expected[places.clone()].copy_from_slice(&self.all[places.clone()]);
+        self.check(what, &expected)?;
+        Ok(self.all[places].to_vec())
+    }
 }
 
 pub fn same(what: impl FnOnce() -> String, expected: u64, got: u64) -> Result<(), Difference> {

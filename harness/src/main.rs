@@ -3,12 +3,15 @@
 //!     harness [files] [seed]      vectors, then random files (20000, seed 1)
 //!     harness one <file seed>     one file of such a run again
 //!     harness vectors             the vectors alone
-//!     harness bench               times beside the fast version
+//!     harness bench               times and stack beside the fast version
+//!     harness call <file> <call>  one call on one domain file (src/call.rs)
+//!     harness call-reference ...  the same call on the reference
 //!     harness vectors-reference   the vectors on the reference
 //!     harness vectors-fast        the vectors on the fast version
 //!     harness self [files] [seed] the fast version in the archive's place
 
 mod bench;
+mod call;
 mod calls;
 mod compare;
 mod fast;
@@ -16,10 +19,12 @@ mod generate;
 mod layout;
 mod random;
 mod reference;
+mod stack;
 mod vectors;
 
 use std::collections::BTreeMap;
 use std::env;
+use std::fs;
 use std::panic;
 use std::process::exit;
 use std::sync::atomic::{AtomicBool, AtomicU64, Ordering};
@@ -44,6 +49,7 @@ fn main() {
     let (files, seed) = match words.split_first() {
         Some((&"vectors-reference", _)) => return vectors(&Reference),
         Some((&"vectors-fast", _)) => return vectors(&Fast),
+        Some((&"call-reference", [file, words @ ..])) => return call(&Reference, file, words),
         Some((&"self", rest)) => {
             vectors(&Reference);
             vectors(&Fast);
@@ -56,6 +62,7 @@ fn main() {
         }
         Some((&"vectors", _)) => return archive_vectors(),
         Some((&"bench", _)) => return bench::run(),
+        Some((&"call", [file, words @ ..])) => return call(&Archive, file, words),
         Some((&"one", [seed])) => return one(&Archive, number(seed)),
         _ => numbers(&words),
     };
@@ -87,6 +94,21 @@ fn fail(place: &str, difference: &Difference) -> ! {
     println!("expected  {}", difference.expected);
     println!("got       {}", difference.got);
     exit(1);
+}
+
+fn call(subject: &dyn Calls, path: &str, words: &[&str]) {
+    let file = fs::read(path).unwrap_or_else(|error| {
+        eprintln!("{path}: {error}");
+        exit(2);
+    });
+    match call::answer(subject, &file, words) {
+        Ok(answer) => println!("{answer}"),
+        Err(call::Failed::Buffer(difference)) => fail(path, &difference),
+        Err(call::Failed::Usage(message)) => {
+            eprintln!("{message}");
+            exit(2);
+        }
+    }
 }
 
 fn number(text: &str) -> u64 {

@@ -14,12 +14,12 @@ const FF: u64 = 0x5000_0000_0000_00ff;
 const C1: u64 = 0x5000_0000_0000_00c1;
 
 /// The address of expander `number` in the other files.
-const fn e(number: usize) -> u64 {
+pub const fn e(number: usize) -> u64 {
     0x5000_0000_0000_0100 + number as u64
 }
 
 /// The address of the end device at a phy in the other files.
-const fn d(expander: usize, phy: usize) -> u64 {
+pub const fn d(expander: usize, phy: usize) -> u64 {
     0x6000_0000_0000_0000 + 256 * expander as u64 + phy as u64
 }
 
@@ -137,6 +137,27 @@ fn pair_bytes(change: impl FnOnce(&mut Vec<u8>)) -> Vec<u8> {
 
 fn file(expanders: Vec<Expander>) -> Vec<u8> {
     DomainFile::of(expanders).bytes()
+}
+
+/// 64 expanders with 128 phys each: a hub with 63 expanders; all other phys have
+/// this attribute and end devices.
+pub fn full_star(attribute: u8) -> Vec<u8> {
+    let mut hub = Expander::new(e(0), 127, true);
+    for leaf in 1..64 {
+        hub = hub.link(TABLE, e(leaf), 0);
+    }
+    for phy in 63..128 {
+        hub = hub.drive(attribute, d(0, phy));
+    }
+    let mut expanders = vec![hub];
+    for leaf in 1..64 {
+        let mut expander = Expander::new(e(leaf), 1, true).link(SUBTRACTIVE, e(0), leaf as u8 - 1);
+        for phy in 1..128 {
+            expander = expander.drive(attribute, d(leaf, phy));
+        }
+        expanders.push(expander);
+    }
+    file(expanders)
 }
 
 /// Runs all vectors; gives the number of answers compared.
@@ -1248,24 +1269,7 @@ impl Test<'_> {
     }
 
     fn largest(&mut self) -> Done {
-        // The hub has 63 links and 65 end devices, each leaf one link and 127.
-        let mut hub = Expander::new(e(0), 127, true);
-        for leaf in 1..64 {
-            hub = hub.link(TABLE, e(leaf), 0);
-        }
-        for phy in 63..128 {
-            hub = hub.drive(DIRECT, d(0, phy));
-        }
-        let mut expanders = vec![hub];
-        for leaf in 1..64 {
-            let mut expander =
-                Expander::new(e(leaf), 0, false).link(SUBTRACTIVE, e(0), leaf as u8 - 1);
-            for phy in 1..128 {
-                expander = expander.drive(DIRECT, d(leaf, phy));
-            }
-            expanders.push(expander);
-        }
-        let mut file = file(expanders);
+        let mut file = full_star(DIRECT);
         self.count += 1;
         same(
             || "length of the 64 x 128 file".into(),

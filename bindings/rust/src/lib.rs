@@ -129,7 +129,8 @@ mod linked {
     }
 }
 
-/// Stands in for the archive: every call answers with refusal 0, 0, 0.
+/// Stands in for the archive: every call answers with refusal 0, 0, 0, and those
+/// without refusals with 0.
 #[cfg(feature = "stub")]
 mod stub {
     const NOTHING: u64 = 1 << 63;
