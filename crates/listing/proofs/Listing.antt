@@ -11,7 +11,8 @@ use Rattle.wiring.specs.declared.DomainRead.the-variants.{Expanders}
 use Rattle.wiring.specs.Domain.{Domain, expanderAt}
 use Rattle.wiring.specs.Causes.{Place}
 use Rattle.wiring.specs.Rows.{domainIn, RowsRead}
-use Rattle.wiring.proofs.Accepted.{good-one, then-good, wired-read}
+use Rattle.wiring.proofs.Results.{good-one, then-good}
+use Rattle.wiring.proofs.Accepted.{wired-read}
 use Rattle.wiring.proofs.Opening.{opened}
 use Rattle.tables.specs.Tables.{table, tablePlaces, tables, needed}
 use Rattle.tables.specs.Judge.{judged, tableCall, Counted, countsIn, wordsAfter, TablesDone}

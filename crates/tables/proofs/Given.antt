@@ -16,7 +16,8 @@ use Rattle.wiring.specs.Neighbours.{neighbours}
 use Rattle.wiring.specs.Links.{linkedDomain}
 use Rattle.wiring.proofs.Members.{tests}
 use Rattle.wiring.proofs.Wires.{Wired, routes-range}
-use Rattle.wiring.proofs.Accepted.{good-one, unless-good, good-unless, then-good, good-then, firstOf-good, good-firstOf, wired-same, wired-read, wired-domain, wired-wires, Linked, linked-iff, linked-same}
+use Rattle.wiring.proofs.Results.{good-one, unless-good, good-unless, then-good, good-then}
+use Rattle.wiring.proofs.Accepted.{firstOf-good, good-firstOf, wired-same, wired-read, wired-domain, wired-wires, Linked, linked-iff, linked-same}
 use Rattle.tables.specs.Tables.{levelList, table, needed}
 use Rattle.tables.specs.Judge.{overlong, judgedDomain, judged, tablesFor, tableCall}
 use Rattle.tables.proofs.Tables.{table-entry}

@@ -10,7 +10,8 @@ use Rattle.wiring.specs.Domain.{Domain, expanderAt, phyAt, routes}
 use Rattle.wiring.specs.File.{limits, domainRead}
 use Rattle.wiring.specs.Causes.{Place, places, firstIn, firstOf, wiredDomain}
 use Rattle.wiring.specs.Links.{linkedDomain, checkedDomain}
-use Rattle.wiring.proofs.Accepted.{then-good, good-then, wired-same, wired-wires, linked-iff, linked-same}
+use Rattle.wiring.proofs.Results.{then-good, good-then}
+use Rattle.wiring.proofs.Accepted.{wired-same, wired-wires, linked-iff, linked-same}
 use Rattle.tables.specs.Tables.{levelList}
 use Rattle.tables.specs.Own.{ownList}
 use Rattle.tables.specs.Judge.{overlong, judgedDomain}

@@ -4,5 +4,6 @@ pub use Rattle.wiring.proofs.Walks.{Skip, NoBack, repeats-nothing, same-rest, s
 pub use Rattle.wiring.proofs.Reach.{Joined, prepend}
 pub use Rattle.wiring.proofs.Wires.{LoopIn, ChainIn, Way, Wired, Home, end-attached, expander-attached, attached-cases, in-range}
 pub use Rattle.wiring.proofs.Wires.{routes-range, in-places, differ, far-below, far-is, to-adj, adj-symmetric}
-pub use Rattle.wiring.proofs.Accepted.{good-one, unless-good, then-good, wired-wires}
+pub use Rattle.wiring.proofs.Results.{good-one, unless-good, then-good}
+pub use Rattle.wiring.proofs.Accepted.{wired-wires}
 pub use Rattle.wiring.proofs.Opening.{opened-as}

@@ -24,38 +24,16 @@ use Rattle.wiring.specs.Causes.{Place, place, places, farPhy, names, una
 use Rattle.wiring.specs.Graph.{loopfree}
 use Rattle.wiring.specs.Neighbours.{neighbours}
 use Rattle.wiring.specs.Links.{unlooped, joined, joinedIn, tableToTable, linkedDomain}
+use Rattle.wiring.proofs.Results.{never, good-one, unless-good, good-unless, then-good, good-then}
 use Rattle.wiring.proofs.Members.{tests, and-left, and-right, or-cases, not-not, is-true, is-false, was-true, eq→eqb, all-cons, any-of, of-any, in-left, in-right, in-getD, getD-in, in-take, take-in, in-upTo, numbers-below}
 use Rattle.wiring.proofs.Loops.{loopfree-iff}
 use Rattle.wiring.proofs.Reach.{reached-iff}
 use Rattle.wiring.proofs.Wires.{LoopIn, ChainIn, To, Plain, Wired, end-attached, expander-attached, routes-one, plain-attribute, numberOf-is, phy-range, in-range, routes-range, in-places, adj-symmetric}
 
--- results
-module _ {A : Type 0} where
-  pub good-one : (a b : A) → _≡_ {A = Result A} (good a) (good b) → a ≡ b
-  good-one a b e = cc
-
-  pub not-good : (r : Refusal) (a : A) → _≡_ {A = Result A} (refused r) (good a) → ⊥
-  not-good r a e = let z : _≡_ {A = ℕ} 0 1 = cc in omega arith
-
-  pub unless-good : (b : Bool) (r : Refusal) (x : Result A) (a : A) → unless b r x ≡ good a → T b × (x ≡ good a)
-  unless-good true r x a e = (tt, e)
-  unless-good false r x a e = absurd (not-good r a e)
-
-  pub good-unless : (b : Bool) (r : Refusal) (x : Result A) → T b → unless b r x ≡ x
-  good-unless true r x t = refl
-  good-unless false r x t = absurd t
-
-  placed-good : (i p : ℕ) (x : Result A) (a : A) → placed i p x ≡ good a → x ≡ good a
-  placed-good i p (refused r) a e = absurd (not-good (refusal (r .number) i p) a e)
-  placed-good i p (good b) a e = e
-
-module _ {A B : Type 0} where
-  pub then-good : (x : Result A) (k : A → Result B) (b : B) → then x k ≡ good b → (a : A) × (x ≡ good a) × (k a ≡ good b)
-  then-good (refused r) k b e = absurd (not-good r b e)
-  then-good (good a) k b e = (a, refl, e)
-
-  pub good-then : (x : Result A) (k : A → Result B) (a : A) (b : B) → x ≡ good a → k a ≡ good b → then x k ≡ good b
-  good-then x k a b e f = subst (λ y. then y k ≡ good b) (sym e) f
+-- a unit's refusal with its place is still a refusal
+placed-good : {A : Type 0} (i p : ℕ) (x : Result A) (a : A) → placed i p x ≡ good a → x ≡ good a
+placed-good i p (refused r) a e = never (refusal (r .number) i p) a e
+placed-good i p (good b) a e = e
 
 -- causes 1 to 6
 pub record GoodPhy (φ : Phy) : Type 0 where
@@ -261,7 +239,7 @@ firstIn-good k test (q ∷ qs) d e f = go (test (q .expander) (q .phy)) refl f (
     go : (b : Bool) → test (q .expander) (q .phy) ≡ b → cond b (refused (refusal k (q .expander) (q .phy))) (firstIn k test qs d) ≡ good e
         → (firstIn k test qs d ≡ good e → (d ≡ e) × ((i p : ℕ) → In (place i p) qs → ¬ (T (test i p))))
         → (d ≡ e) × ((i p : ℕ) → In (place i p) (q ∷ qs) → ¬ (T (test i p)))
-    go true o g r = absurd (not-good (refusal k (q .expander) (q .phy)) e g)
+    go true o g r = never (refusal k (q .expander) (q .phy)) e g
     go false o g r =
         let s = r g in
         (s .0, λ i p. ⊎-elim (λ h t. subst T o (subst (λ v. T (test (v .expander) (v .phy))) h t)) (s .1 i p))
@@ -546,7 +524,7 @@ joinedIn-good (j ∷ l) d e f = go (joined d j) refl f (joinedIn-good l d e)
     go : (b : Bool) → joined d j ≡ b → cond b (joinedIn l d) (refused (refusal 12 j 0)) ≡ good e
         → (joinedIn l d ≡ good e → (d ≡ e) × ((i : ℕ) → In i l → T (joined d i))) → (d ≡ e) × ((i : ℕ) → In i (j ∷ l) → T (joined d i))
     go true q o r = let s = r o in (s .0, all-cons (λ v. T (joined d v)) j l (was-true (joined d j) q) (s .1))
-    go false q o r = absurd (not-good (refusal 12 j 0) e o)
+    go false q o r = never (refusal 12 j 0) e o
 
 pub good-joinedIn : (l : List ℕ) (d : Domain) → ((i : ℕ) → In i l → T (joined d i)) → joinedIn l d ≡ good d
 unfolding joinedIn

@@ -1,8 +1,9 @@
 -- What holds of all that a call yields, where it is not refused.
 use Prim.Native.Nat.{ℕ}
-use mathlib.Core.Path.{_≡_, refl, subst}
+use mathlib.Core.Path.{_≡_, refl, sym, subst}
 use mathlib.Core.Bool.{Bool, true, false, _&&_}
 use native.Mathlib.Omega.{arith}
+use lib.Dec.{T}
 use Rattle.frames.specs.Refusals.{Result, refused, good, unless, then}
 use Rattle.frames.specs.declared.Refusal.{Refusal}
 
@@ -29,6 +30,27 @@ module _ {A : Type 0} where
 pub then-holds : {A B : Type 0} (P : B → Type 0) (x : Result A) (k : A → Result B) → ((a : A) → x ≡ good a → Holds P (k a)) → Holds P (then x k)
 then-holds P (refused r) k h = tt
 then-holds P (good a) k h = h a refl
+
+-- what is good came of something good
+module _ {A : Type 0} where
+  pub good-one : (a b : A) → _≡_ {A = Result A} (good a) (good b) → a ≡ b
+  good-one a b e = cc
+
+  pub unless-good : (b : Bool) (r : Refusal) (x : Result A) (a : A) → unless b r x ≡ good a → T b × (x ≡ good a)
+  unless-good true r x a e = (tt, e)
+  unless-good false r x a e = never r a e
+
+  pub good-unless : (b : Bool) (r : Refusal) (x : Result A) → T b → unless b r x ≡ x
+  good-unless true r x t = refl
+  good-unless false r x t = absurd t
+
+module _ {A B : Type 0} where
+  pub then-good : (x : Result A) (k : A → Result B) (b : B) → then x k ≡ good b → (a : A) × (x ≡ good a) × (k a ≡ good b)
+  then-good (refused r) k b e = never r b e
+  then-good (good a) k b e = (a, refl, e)
+
+  pub good-then : (x : Result A) (k : A → Result B) (a : A) (b : B) → x ≡ good a → k a ≡ good b → then x k ≡ good b
+  good-then x k a b e f = subst (λ y. then y k ≡ good b) (sym e) f
 
 -- both tests hold
 pub both : (a b : Bool) → (a && b) ≡ true → (a ≡ true) × (b ≡ true)
