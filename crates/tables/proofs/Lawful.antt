@@ -1,6 +1,6 @@
 -- Cause 14 by own lists is cause 14, on every domain that was read from a file.
-use Prim.Native.Nat.{ℕ, _≤_}
-use mathlib.Core.Path.{_≡_, refl, sym, _∙_, ap, subst}
+use Prim.Native.Nat.{ℕ}
+use mathlib.Core.Path.{_≡_, refl, sym, _∙_, ap}
 use mathlib.Core.Bool.{Bool, cond, _&&_}
 use mathlib.Core.List.{List, [], _∷_}
 use lib.ListN.{length}
@@ -12,8 +12,6 @@ use Rattle.wiring.specs.Causes.{Place, places, firstIn, firstOf, wiredDomain}
 use Rattle.wiring.specs.Links.{linkedDomain, checkedDomain}
 use Rattle.wiring.proofs.Results.{then-good, good-then}
 use Rattle.wiring.proofs.Accepted.{wired-same, wired-wires, linked-iff, linked-same}
-use Rattle.tables.specs.Tables.{levelList}
-use Rattle.tables.specs.Own.{ownList}
 use Rattle.tables.specs.Judge.{overlong, judgedDomain}
 use Rattle.tables.specs.Prepared.{overOwn, judgedOwn, Same, Lawful, Fillable}
 use Rattle.tables.proofs.Given.{judged-routable}

@@ -10,7 +10,7 @@ use lib.Dec.{T, eqb, eqb→eq}
 use Rattle.wiring.specs.declared.Phy.{Phy}
 use Rattle.wiring.specs.declared.Phy.the-variants.{Vacant}
 use Rattle.wiring.specs.Lists.{keep, isIn, any, In, Below}
-use Rattle.wiring.specs.Domain.{Domain, Expander, noExpander, expanderAt, phyAt, addressOf, routes, toExpander, numberOf}
+use Rattle.wiring.specs.Domain.{Domain, Expander, noExpander, phyAt, addressOf, routes, toExpander, numberOf}
 use Rattle.wiring.proofs.Members.{in-cast, isIn-of, of-isIn, was-true, was-false, at-most, in-flatMap, flatMap-in}
 use Rattle.tables.specs.Levels.{once, down, belowPhys, below, nextLevel, levelsFrom, levels}
 use Rattle.tables.specs.Filling.{addAll}

@@ -1,6 +1,6 @@
 -- A level list that is too long, by own lists: one phy's test, and the tests of all phys.
 use Prim.Native.Nat.{ℕ}
-use mathlib.Core.Path.{_≡_, refl, sym, _∙_, ap}
+use mathlib.Core.Path.{_≡_, refl, _∙_, ap}
 use mathlib.Core.Bool.{Bool, true, false, _&&_}
 use mathlib.Core.List.{List, flatMap}
 use lib.ListN.{length}

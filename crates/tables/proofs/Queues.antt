@@ -1,5 +1,5 @@
 -- A level made in a queue of 65 places is the whole level: its numbers differ, and are at most 64.
-use Prim.Native.Nat.{ℕ, suc, _+_, _-_, _≤_, _<_, zero-le}
+use Prim.Native.Nat.{ℕ, _+_, _≤_, _<_}
 use mathlib.Core.Path.{_≡_, refl, sym, _∙_, ap, subst}
 use mathlib.Core.Bool.{Bool, true, false, cond, not, _||_}
 use mathlib.Core.List.{List, [], _∷_, _++_, map, flatMap, append-nil, append-assoc, map-append}
@@ -11,12 +11,12 @@ use borrow.Author.Tests.{lt-leb}
 use Rattle.wiring.specs.declared.Phy.{Phy}
 use Rattle.wiring.specs.declared.Phy.the-variants.{Vacant}
 use Rattle.wiring.specs.Lists.{any, keep, isIn, Distinct, Below}
-use Rattle.wiring.specs.Domain.{Domain, expanderAt, phyAt, addressOf, numberOf}
+use Rattle.wiring.specs.Domain.{Domain, expanderAt, addressOf, numberOf}
 use Rattle.wiring.proofs.Members.{was-false, isIn-of, in-map, in-flatMap, all-cons, keep-append, at-most}
-use Rattle.tables.specs.Levels.{once, down, belowPhys, below, nextLevel, levelsFrom, levels}
-use Rattle.tables.specs.Tables.{giveAll, levelList}
-use Rattle.tables.specs.Filling.{add, addAll, physOf}
+use Rattle.tables.specs.Levels.{once, down, belowPhys, below}
+use Rattle.tables.specs.Filling.{add, addAll}
 use Rattle.tables.proofs.Once.{once-skip, once-take}
+use Rattle.tables.proofs.Few.{number-most}
 use Rattle.tables.proofs.Growing.{drop-next}
 
 -- the expanders below some phys
@@ -45,21 +45,12 @@ module _ (d : Domain) where
   unfolding belowPhys keep
   below-last φs p h = rw (drop-of-length-le φs h)
 
-number-le : (d : Domain) (s : ℕ) → numberOf d s ≤ length d
-unfolding numberOf
-number-le [] s = zero-le
-number-le (e ∷ d) s = go (eqb (e .address) s) (number-le d s)
-  where
-    go : (b : Bool) → numberOf d s ≤ length d → cond b 0 (suc (numberOf d s)) ≤ suc (length d)
-    go true h = omega arith
-    go false h = omega arith
-
 pub phys-under : (d : Domain) (n : ℕ) → length d < n → (φs : List Phy) → Below n (belowPhys d φs)
 unfolding belowPhys
 phys-under d n h φs w i =
     let m = in-map (λ φ. numberOf d (addressOf φ)) (keep (down d) φs) w i in
     let e = m .2 in
-    omega (arith, number-le d (addressOf (m .0)))
+    omega (arith, number-most d (addressOf (m .0)))
 
 pub level-under : (d : Domain) (n : ℕ) → length d < n → (level : List ℕ) → Below n (flatMap (below d) level)
 unfolding below

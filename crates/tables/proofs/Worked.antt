@@ -1,11 +1,10 @@
 -- Worked examples of 07-300r1: tables 3 and 4, on figure 50 with two expanders below E0 and two drives at each.
 use Prim.Native.Nat.{ℕ}
 use mathlib.Core.Path.{_≡_, refl}
-use mathlib.Core.List.{List, [], _∷_, map, flatMap}
-use lib.ListN.{replicate}
+use mathlib.Core.List.{[], _∷_, flatMap}
 use Rattle.wiring.specs.declared.Phy.{Phy}
 use Rattle.wiring.specs.declared.Phy.the-variants.{Vacant, Present}
-use Rattle.wiring.specs.Frames.{Result, good}
+use Rattle.wiring.specs.Frames.{good}
 use Rattle.wiring.specs.Lists.{numbers, any, keep, isIn}
 use Rattle.wiring.specs.Domain.{Domain, numberOf}
 use Rattle.wiring.specs.Causes.{unanswered, endAt, claimed, clash, clashing, fixed, phyPlaces, placesFrom, firstIn, wiredDomain}

@@ -9,8 +9,7 @@ use native.Mathlib.Decide.{ℕ-discrete, decLt}
 use lib.ListN.{length, getD, take, drop}
 use lib.Dec.{T, eqb, ltb, leb, eqb→eq, ltb→lt, lt→ltb, leb→le, not-T, T-not}
 use Rattle.frames.specs.Bytes.{byte, numberAt}
-use Rattle.frames.specs.declared.Refusal.{Refusal}
-use Rattle.frames.specs.Refusals.{Result, refused, good, unless, then, refusal}
+use Rattle.frames.specs.Refusals.{Result, refused, good, refusal}
 use Rattle.frames.specs.ReportGeneral.{generalRead}
 use Rattle.frames.specs.Discovery.{Discovered, vacant, fields, discoverRead}
 use Rattle.wiring.specs.declared.Limits.{Limits}

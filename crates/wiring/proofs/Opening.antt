@@ -1,5 +1,5 @@
 -- A file read into 16,512 words, which are enough for the rows of every domain.
-use Prim.Native.Nat.{ℕ, _+_, _*_, _≤_}
+use Prim.Native.Nat.{ℕ, _*_, _≤_}
 use mathlib.Core.Path.{_≡_, refl, sym, _∙_, ap, subst}
 use mathlib.Core.Bool.{true}
 use mathlib.Core.List.{List}
@@ -13,7 +13,7 @@ use Rattle.wiring.specs.declared.DomainRead.{DomainRead}
 use Rattle.wiring.specs.declared.DomainRead.the-variants.{Refused, Expanders}
 use Rattle.wiring.specs.Domain.{Domain}
 use Rattle.wiring.specs.File.{limits, domainRead}
-use Rattle.wiring.specs.Rows.{domainIn, rowsFor, rowsRead, countOf, rowsHold, RowsRead}
+use Rattle.wiring.specs.Rows.{domainIn, rowsRead, countOf, RowsRead}
 use Rattle.wiring.proofs.Accepted.{few-expanders}
 
 -- what the answer of the reader says of the file

@@ -1,9 +1,9 @@
 -- Worked examples: expanders cabled to themselves pass causes 7 to 10, and neighbour themselves.
 use Prim.Native.Nat.{ℕ}
 use mathlib.Core.Path.{_≡_, refl}
-use mathlib.Core.List.{List, [], _∷_, map}
+use mathlib.Core.List.{List, [], _∷_}
 use lib.Count.{ones, onesIn}
-use Rattle.frames.specs.Refusals.{Result, refused, good, refusal}
+use Rattle.frames.specs.Refusals.{refused, good, refusal}
 use Rattle.wiring.specs.declared.Phy.{Phy}
 use Rattle.wiring.specs.declared.Phy.the-variants.{Present}
 use Rattle.wiring.specs.Lists.{numbers, any, keep, isIn}

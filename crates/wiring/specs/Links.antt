@@ -1,6 +1,6 @@
 -- Causes 11 to 13: loops, chains to expander 0, and links that are table at both ends.
 use Prim.Native.Nat.{ℕ}
-use mathlib.Core.Bool.{Bool, true, false, cond, not, _&&_}
+use mathlib.Core.Bool.{Bool, cond, _&&_}
 use mathlib.Core.List.{List, [], _∷_}
 use lib.ListN.{length}
 use Rattle.frames.specs.Refusals.{Result, refused, good, unless, then, refusal}

@@ -3,7 +3,7 @@ use mathlib.Core.List.{List, [], _++_}
 use mathlib.Core.Path.{_≡_, refl, _∙_, ap, subst}
 use native.Mathlib.Omega.{arith}
 use borrow.Rule.Slice.PartMut.{same-len-mid}
-use lib.ListN.{length, take, drop, length-take, length-drop, length-set}
+use lib.ListN.{length, take, drop, length-drop, length-set}
 use lib.Seq.{length-take-le}
 use Rattle.wiring.specs.Domain.{Domain}
 use Rattle.wiring.specs.Rows.{domainIn}

@@ -1,13 +1,12 @@
 use Prim.Native.Nat.{ℕ, _+_, _-_, _*_, _≤_}
 use mathlib.Core.List.{List, flatMap}
-use mathlib.Core.Path.{_≡_, refl, sym, _∙_, ap}
+use mathlib.Core.Path.{_≡_, _∙_, ap}
 use native.Mathlib.Omega.{arith}
 use lib.ListN.{length, getD, drop, length-append}
 use Rattle.wiring.specs.Domain.{Domain}
 use Rattle.wiring.specs.Rows.{domainIn}
 use Rattle.tables.specs.Own.{own}
 use Rattle.tables.proofs.Growing.{flat-next, flat-last}
-use borrow.Author.Needs.{needs}
 use Rattle.tables.proofs.overlong.count_words.Statement.{statement}
 use Rattle.tables.proofs.overlong.count_words.Tie as tie
 

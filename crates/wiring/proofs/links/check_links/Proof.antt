@@ -1,6 +1,6 @@
-use mathlib.Core.Path.{_≡_, sym, _∙_, ap}
+use mathlib.Core.Path.{sym, _∙_, ap}
 use borrow.Author.Needs.{needs}
-use borrow.Author.Tests.{not-true, not-false, eq-eqb}
+use borrow.Author.Tests.{not-true, not-false}
 use Rattle.wiring.proofs.Calls.{held, links-loop, links-joined}
 use Rattle.wiring.proofs.InRows.{domain-few}
 use Rattle.wiring.specs.Checks.{checkAnswer, causeOf}

@@ -1,8 +1,8 @@
 use Prim.Native.Nat.{ℕ}
-use mathlib.Core.Path.{_≡_, sym, _∙_, ap}
+use mathlib.Core.Path.{_≡_, _∙_, ap}
 use lib.ListN.{length}
 use borrow.Author.Needs.{needs}
-use Rattle.wiring.proofs.Bitsets.{all-below, set-below, keep-all, loopfree-word}
+use Rattle.wiring.proofs.Bitsets.{all-below, loopfree-word}
 use Rattle.wiring.specs.Lists.{upTo}
 use Rattle.wiring.specs.Neighbours.{setOf}
 use Rattle.wiring.specs.Rows.{domainIn}

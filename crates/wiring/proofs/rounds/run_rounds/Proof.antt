@@ -1,11 +1,11 @@
-use Prim.Native.Nat.{ℕ, _-_, _≤_}
-use mathlib.Core.Path.{_≡_, refl, sym, _∙_, ap}
+use Prim.Native.Nat.{_-_, _≤_}
+use mathlib.Core.Path.{_≡_, _∙_, ap}
 use native.Mathlib.Nat.{sub-zero}
 use native.Mathlib.Omega.{arith}
 use lib.ListN.{length}
 use borrow.Author.Needs.{needs}
 use Rattle.wiring.proofs.Bitsets.{set-below, members-set, rounds-next, rounds-end}
-use Rattle.wiring.specs.Neighbours.{neighbours, setOf}
+use Rattle.wiring.specs.Neighbours.{neighbours}
 use Rattle.wiring.specs.Rounds.{nextSet, SetBelow, members, roundTest, rounds}
 use Rattle.wiring.specs.Rows.{domainIn}
 use Rattle.wiring.proofs.rounds.run_rounds.Statement.{statement}
