@@ -525,8 +525,8 @@ impl Check<'_> {
     }
 }
 
-/// An estimate in nanoseconds for a call that takes all level lists, by
-/// comparing every two phys and every phy with every word of each list.
+/// A high estimate in nanoseconds for a call that takes all level lists: as if
+/// every two phys were compared, and every phy with every word of each list.
 fn time_of_a_call(judged: &Judged) -> usize {
     let expanders = &judged.domain.expanders;
     let all: usize = expanders.values().map(|expander| expander.phys.len()).sum();

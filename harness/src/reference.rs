@@ -1,4 +1,4 @@
-//! Reference implementation of document 01, written from the paper alone.
+//! Reference implementation of document 01. It shares no code with the crates.
 //!
 //! A file becomes objects held in maps, and loops, chains, levels and routes
 //! are found by recursive search. Speed does not matter here.

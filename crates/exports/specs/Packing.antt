@@ -1,4 +1,4 @@
--- Answers packed into one number.
+-- Answers of the C interface, each packed into one number.
 use Prim.Native.Nat.{ℕ, _+_, _*_, _^_}
 use mathlib.Core.List.{List}
 use Rattle.frames.specs.Refusals.{Result, refused, good}
@@ -12,6 +12,7 @@ use Rattle.tracing.specs.Trace.{Reported}
 use Rattle.tracing.specs.declared.Outcome.{Outcome}
 use Rattle.tracing.specs.declared.Outcome.the-variants.{Arrived, NoDestination, BadDestination}
 
+-- a refusal: bit 63, then number, expander and phy, a byte each
 abbrev pub packRefusal : Refusal → ℕ
 packRefusal r = 2 ^ 63 + r .number * 65536 + r .expander .0 * 256 + r .phy .0
 
@@ -25,7 +26,7 @@ module _ {A : Type 0} where
 abbrev pub number : ℕ → ℕ
 number n = n
 
--- tables and words
+-- how many tables, and how many words
 abbrev pub counts : Counted → ℕ
 counts c = c .tableCount * 2 ^ 32 + c .wordCount
 
@@ -49,6 +50,7 @@ forty frame = 40
 abbrev pub route : Route → ℕ
 route q = q .phy .0 * 65536 + q .index .0
 
+-- the entry, and 0 where refused
 abbrev pub entryOf : Result Route → ℕ
 entryOf (refused r) = 0
 entryOf (good q) = q .entry
@@ -61,10 +63,12 @@ general g = g .indexes * 65536 + g .phys * 256 + g .configurable
 abbrev pub packFields : Discover → ℕ
 packFields d = d .identifier .0 * 2 ^ 32 + d .device * 2 ^ 24 + d .attribute * 2 ^ 16 + d .far .0
 
+-- bit 62 and the function result of a vacant phy; else the fields
 abbrev pub discovered : Discovered → ℕ
 discovered (vacant result) = 2 ^ 62 + result
 discovered (fields d) = packFields d
 
+-- the own and the attached address, and 0 where refused or vacant
 abbrev pub ownAddress : Result Discovered → ℕ
 ownAddress (refused r) = 0
 ownAddress (good (vacant result)) = 0

@@ -1,4 +1,5 @@
-// The C interface: each call answers one number, the packing of what the call answers.
+// The C interface: each function answers one number, the packing (`specs/Packing`) of what its call
+// answers.
 mod packing;
 
 use frames::DiscoverRead;
@@ -89,7 +90,7 @@ pub extern "C" fn metzurgo_trace(
     }
 }
 
-// Writes one CONFIGURE ROUTE INFORMATION request: 40.
+// Writes one CONFIGURE ROUTE INFORMATION request, and answers its length, 40.
 #[no_mangle]
 pub extern "C" fn metzurgo_write_route(buf: &mut [u8], phy: u8, index: u16, entry: u64) -> u64
     ensures { λ r. ⌜ (r ≡ packed forty (routeWritten (length (now (buf .entry))) (record { phy = record { 0 = phy }; index = record { 0 = index }; entry = entry })))

@@ -7,7 +7,7 @@ ghost use mathlib.Core.Path.{_≡_};
 ghost use Prim.Native.Nat.{_≤_};
 ghost use Rattle.exports.specs.Packing.{packRefusal, packEnd, packOutcome, packFields};
 
-// A refusal: number, expander and phy, above 2 to the power 63.
+// A refusal: 2 to the power 63, and below it number, expander and phy, a byte each.
 pub(crate) fn refusal(r: Refusal) -> u64
     ensures { λ n. ⌜ n ≡ packRefusal r ⌝ }
 {
@@ -25,7 +25,7 @@ fn outcome(o: Outcome) -> u64
     }
 }
 
-// How a request ends.
+// How a request ends: outcome, last expander, phy and count, a byte each.
 pub(crate) fn end(e: End) -> u64
     ensures { λ n. ⌜ n ≡ packEnd (e .outcome) (e .last .0) (e .phy .0) (e .count) ⌝ }
 {

@@ -50,6 +50,7 @@ routeAnswer (Read q) = good q
 abbrev pub entryIn : List ℕ → ℕ
 entryIn s = cond (eqb (bits 7 1 (byte s 12)) 1) 0 (numberAt s 16 8)
 
+-- reading: length (1), bytes 0 and 1 (2), phy (15)
 unfoldable pub routeRead : List ℕ → Result Route
 routeRead s =
     unless (eqb (length s) 40) (refusal 1 0 0)

@@ -14,7 +14,7 @@ ghost use lib.ListN.{length, drop};
 ghost use denote.Ref.{ptr};
 ghost use Rattle.frames.specs.ConfigureRoute.{disableByte, routeFrame, routeWritten, writeAnswer, bufferAfter, partAfter, routeAnswer, entryIn, routeRead};
 
-// Bit 7 of byte 12, set where the entry is disabled.
+// Byte 12: bit 7 is set where the entry is 0, that is disabled.
 fn disable_byte(entry: u64) -> u8
     ensures { λ r. ⌜ r ≡ disableByte entry ⌝ }
 {
@@ -24,7 +24,7 @@ fn disable_byte(entry: u64) -> u8
     0
 }
 
-// The forty bytes of the request, at the front of a buffer that has room for them.
+// Writes the forty bytes of the request at the front of a buffer that has room for them.
 fn put_frame(buf: &mut [u8], request: Route)
     requires { ⌜ 40 ≤ length (now buf) ⌝ }
     ensures { λ _. ⌜ now (buf .exit) ≡ routeFrame request ++ drop 40 (now (buf .entry)) ⌝ }
@@ -40,8 +40,8 @@ fn put_frame(buf: &mut [u8], request: Route)
     bytes::put_number(buf, 16, 8, request.entry);
 }
 
-// Whether a request can be written into the buffer: it is given what the writers are given, and
-// writes nothing.
+// Whether a request can be written into the buffer: the phy (15), then the room (16). It is given what
+// the writers are given, and writes nothing.
 pub fn route_refusal(buf: &[u8], request: Route) -> RouteWrite
     ensures { λ r. ⌜ writeAnswer request r ≡ routeWritten (length (now (buf .entry))) request ⌝ }
 {
@@ -100,7 +100,7 @@ fn entry_in(frame: &[u8]) -> u64
     bytes::number_at(frame, 16, 8)
 }
 
-// Reads one request.
+// Reads one request. Its length (1), bytes 0 and 1 (2) and phy (15) are checked in this order.
 pub fn read_route(frame: &[u8]) -> RouteRead
     ensures { λ r. ⌜ routeAnswer r ≡ routeRead (now (frame .entry)) ⌝ }
 {

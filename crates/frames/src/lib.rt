@@ -37,6 +37,7 @@ pub struct General {
     pub configurable: u8,
 }
 
+// What reading a REPORT GENERAL response answers.
 pub enum GeneralRead {
     Refused(Refusal),
     Read(General),
@@ -53,7 +54,7 @@ pub struct Discover {
     pub attribute: u8,
 }
 
-// A vacant phy is reported with its non-zero function result.
+// What reading a DISCOVER response answers. A vacant phy is reported with its non-zero function result.
 pub enum DiscoverRead {
     Refused(Refusal),
     Vacant(u8),
@@ -67,11 +68,13 @@ pub struct Route {
     pub entry: u64,
 }
 
+// What reading a CONFIGURE ROUTE INFORMATION request answers.
 pub enum RouteRead {
     Refused(Refusal),
     Read(Route),
 }
 
+// What writing a CONFIGURE ROUTE INFORMATION request answers.
 pub enum RouteWrite {
     Refused(Refusal),
     Written,

@@ -10,6 +10,7 @@ ghost use Prim.Native.Nat.{_≤_};
 ghost use lib.ListN.{length};
 ghost use Rattle.frames.specs.ReportGeneral.{generalAnswer, generalFixed, generalRead};
 
+// Whether the fixed bytes 0 to 3 are right.
 fn is_fixed(frame: &[u8]) -> bool
     requires { ⌜ 4 ≤ length (now frame) ⌝ }
     ensures { λ r. ⌜ r ≡ generalFixed (now (frame .entry)) ⌝ }

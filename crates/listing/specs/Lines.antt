@@ -28,11 +28,12 @@ placeLines d (q ∷ qs) ws =
 unfoldable pub linesOf : Domain → List ℕ → List (List ℕ)
 linesOf d ws = cond (leb (needed d) 8192) (placeLines d (tablePlaces d) ws) []
 
+-- lines as one text
 unfoldable pub joined : List (List ℕ) → List ℕ
 joined [] = []
 joined (l ∷ ls) = l ++ joined ls
 
--- the lines that are put after `end` bytes, each where 80 of 65,536 bytes are left for it
+-- the lines that are put after `end` bytes, up to the first for which no 80 of the 65,536 bytes are left
 unfoldable pub fitting : ℕ → List (List ℕ) → List (List ℕ)
 fitting end [] = []
 fitting end (l ∷ ls) = cond (leb (end + 80) 65536) (l ∷ fitting (end + length l) ls) []

@@ -1,4 +1,4 @@
--- Marks: expander, phy and index of a table word, packed into one word.
+-- Marks: expander, phy and route index of a table word, packed into one word.
 use Prim.Native.Nat.{ℕ, zero, suc, _+_, _*_, _/_, _%_}
 use mathlib.Core.Bool.{cond}
 use mathlib.Core.List.{List, [], _∷_, _++_}
@@ -20,11 +20,12 @@ indexMarks i p k (suc count) = mark i p k ∷ indexMarks i p (k + 1) count
 unfoldable pub placeMarks : Domain → Place → List ℕ
 placeMarks d q = cond (routes 2 (phyAt d (q .expander) (q .phy))) (indexMarks (q .expander) (q .phy) 0 (expanderAt d (q .expander) .indexes)) []
 
+-- the marks of the tables at these places
 unfoldable pub marksOf : Domain → List Place → List ℕ
 marksOf d [] = []
 marksOf d (q ∷ qs) = placeMarks d q ++ marksOf d qs
 
--- the marks of all table words, where there is room for them
+-- the marks of all table words; none where there is no room for all
 unfoldable pub marksFor : ℕ → Domain → List ℕ
 marksFor room d = cond (leb (needed d) room) (marksOf d (places d)) []
 

@@ -5,7 +5,7 @@ use mathlib.Core.List.{List, [], _∷_, _++_}
 use lib.Dec.{leb}
 use Rattle.io.specs.Digits.{digits}
 
--- the largest power of ten that n reaches, up to the given one
+-- the exponent of the largest power of ten that n reaches, up to the given one
 unfoldable pub tens : ℕ → ℕ → ℕ
 tens zero n = zero
 tens (suc k) n = cond (leb (10 ^ suc k) n) (suc k) (tens k n)
@@ -30,17 +30,17 @@ entryOf w = hexOf w ++ (10 ∷ [])
 unfoldable pub lineOf : ℕ → ℕ → ℕ → ℕ → List ℕ
 lineOf i p k w = fieldOf i 32 ++ (fieldOf p 32 ++ (fieldOf k 32 ++ entryOf w))
 
--- "refused " and a refusal's three numbers
+-- "refused ", a refusal's three numbers, and a newline
 unfoldable pub refusedOf : ℕ → ℕ → ℕ → List ℕ
 refusedOf n i p =
     (114 ∷ 101 ∷ 102 ∷ 117 ∷ 115 ∷ 101 ∷ 100 ∷ 32 ∷ []) ++ (fieldOf n 32 ++ (fieldOf i 32 ++ fieldOf p 10))
 
--- "tables ", their number, "entries " and the number of words
+-- "tables ", their number, "entries ", the number of words, and a newline
 unfoldable pub totalsOf : ℕ → ℕ → List ℕ
 totalsOf t w =
     (116 ∷ 97 ∷ 98 ∷ 108 ∷ 101 ∷ 115 ∷ 32 ∷ [])
     ++ (fieldOf t 32 ++ ((101 ∷ 110 ∷ 116 ∷ 114 ∷ 105 ∷ 101 ∷ 115 ∷ 32 ∷ []) ++ fieldOf w 10))
 
--- "too long"
+-- "too long" and a newline
 abbrev pub tooLong : List ℕ
 tooLong = 116 ∷ 111 ∷ 111 ∷ 32 ∷ 108 ∷ 111 ∷ 110 ∷ 103 ∷ 10 ∷ []

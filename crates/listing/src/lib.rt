@@ -1,4 +1,5 @@
-// The text of route tables: a line for each table word, a line of totals, and the refusal line.
+// The text of routing tables: a line for each table word, the line of totals, the refusal line, and the
+// line for an input that is too long.
 mod lines;
 mod marks;
 mod text;

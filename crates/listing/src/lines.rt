@@ -24,7 +24,7 @@ fn put_marked(out: &mut [u8], at: usize, mark: u64, w: u64) -> usize
     text::put_line(out, at, ExpanderNumber(i), PhyId(p), RouteIndex(k), w)
 }
 
-// How many words have a mark.
+// How many words have a mark: the smaller of the two lengths.
 fn marked(marks: &[u64], words: &[u64]) -> usize
     ensures { λ r. ⌜ r ≡ min (length (now (marks .entry))) (length (now (words .entry))) ⌝ }
 {
@@ -34,7 +34,7 @@ fn marked(marks: &[u64], words: &[u64]) -> usize
     words.len()
 }
 
-// The lines of the marked words from `from` on, as many as there is room for.
+// The lines of the marked words from `from` on, up to the first for which no 80 bytes are left.
 fn put_lines(marks: &[u64], words: &[u64], from: usize, out: &mut [u8; 65536]) -> Chunk
     ensures { λ r. ⌜ ChunkPut (markedLines (now (marks .entry)) (now (words .entry))) from (now (out .entry)) (now (out .exit)) (r .next) (r .end) ⌝ }
 {
@@ -57,8 +57,8 @@ fn put_lines(marks: &[u64], words: &[u64], from: usize, out: &mut [u8; 65536]) -
     }
 }
 
-// The lines of the table words of a domain in rows, at most 8,192, from word `from` on, as many as
-// there is room for.
+// The lines of the table words of a domain in rows from word `from` on, up to the first for which no
+// 80 bytes are left. There are none where the tables have more than 8,192 words.
 pub fn put_chunk(rows: &[u64], words: &[u64], from: usize, out: &mut [u8; 65536]) -> Chunk
     ensures { λ r. ⌜ ChunkPut (linesOf (domainIn (now (rows .entry))) (now (words .entry))) from (now (out .entry)) (now (out .exit)) (r .next) (r .end) ⌝ }
 {

@@ -1,6 +1,7 @@
-// Marks: expander, phy and index of each table word, by expander, then phy, then index.
+// Marks: expander, phy and route index of each table word, by expander, then phy, then index.
 use frames::ExpanderNumber;
 use frames::PhyId;
+use frames::RouteIndex;
 ghost use mathlib.Core.List.{[], _∷_};
 ghost use Prim.Native.Nat.{_+_, _≤_, _<_};
 ghost use lib.ListN.{length};
@@ -10,15 +11,15 @@ ghost use Rattle.tables.specs.Filling.{placesAt, Put};
 ghost use Rattle.listing.specs.Marks.{mark, indexMarks, placeMarks, marksOf, marksFor};
 
 // One mark, and the place after it.
-fn put_mark(marks: &mut [u64], at: usize, i: ExpanderNumber, p: PhyId, k: u16) -> usize
+fn put_mark(marks: &mut [u64], at: usize, i: ExpanderNumber, p: PhyId, k: RouteIndex) -> usize
     requires { ⌜ at < length (now marks) ⌝ }
-    ensures { λ r. ⌜ Put (now (marks .entry)) (now (marks .exit)) at r (mark (i .0) (p .0) k ∷ []) ⌝ }
+    ensures { λ r. ⌜ Put (now (marks .entry)) (now (marks .exit)) at r (mark (i .0) (p .0) (k .0) ∷ []) ⌝ }
 {
-    marks[at] = (k as u64) + 65536 * (p.0 as u64) + 16777216 * (i.0 as u64);
+    marks[at] = (k.0 as u64) + 65536 * (p.0 as u64) + 16777216 * (i.0 as u64);
     at + 1
 }
 
-// The marks of n indexes of phy p, and the place after them.
+// The marks of the route indexes 0 to n - 1 of phy p, and the place after them.
 fn put_indexes(marks: &mut [u64], at: usize, i: ExpanderNumber, p: PhyId, n: u16) -> usize
     requires { ⌜ at + n ≤ length (now marks) ⌝ }
     ensures { λ r. ⌜ Put (now (marks .entry)) (now (marks .exit)) at r (indexMarks (i .0) (p .0) 0 n) ⌝ }
@@ -26,7 +27,7 @@ fn put_indexes(marks: &mut [u64], at: usize, i: ExpanderNumber, p: PhyId, n: u16
     let mut to = at;
     let mut k: u16 = 0;
     while k < n {
-        to = put_mark(marks, to, i, p, k);
+        to = put_mark(marks, to, i, p, RouteIndex(k));
         k += 1;
     }
     to

@@ -1,4 +1,4 @@
-// Reads a domain file on standard input and lists the entries of its route tables.
+// Reads a domain file on standard input and lists the entries of its routing tables.
 use tables::TablesGiven;
 use wiring::DomainRead;
 
@@ -20,7 +20,7 @@ fn print_lines(rows: &[u64], words: &[u64]) -> bool {
     true
 }
 
-// The lines of all entries, and the totals.
+// Writes the lines of all entries, and the totals.
 fn print_tables(file: &[u8], words: &[u64], tables: u64, entries: u64) {
     let mut rows = [0u64; 16512];
     let read = wiring::read_domain(file, &mut rows[..]);
@@ -37,6 +37,7 @@ fn print_tables(file: &[u8], words: &[u64], tables: u64, entries: u64) {
     }
 }
 
+// At most 65,536 bytes of input and 8,192 table words.
 fn main() {
     let mut file = [0u8; 65537];
     let mut line = [0u8; 80];

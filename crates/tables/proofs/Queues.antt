@@ -1,4 +1,4 @@
--- A level made in a queue of 65 places is the whole level: its numbers differ, and are at most 64.
+-- A level made in a queue of 65 places is the whole level: its numbers differ, and each is at most 64.
 use Prim.Native.Nat.{ℕ, _+_, _≤_, _<_}
 use mathlib.Core.Path.{_≡_, refl, sym, _∙_, ap, subst}
 use mathlib.Core.Bool.{Bool, true, false, cond, not, _||_}

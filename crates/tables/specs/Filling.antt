@@ -11,7 +11,7 @@ use Rattle.wiring.specs.Domain.{Domain, expanderAt, phyAt, routes}
 use Rattle.wiring.specs.Causes.{Place, phyPlaces}
 use Rattle.tables.specs.Tables.{levelList, table}
 
--- a level so far, and one number more: none of the level before it, none twice, at most `room`
+-- a level so far, and one number more: none of the level before it (`last`), none twice, at most `room` numbers
 unfoldable pub add : ℕ → List ℕ → List ℕ → ℕ → List ℕ
 add room last l j = cond (isIn j last || (isIn j l || leb room (length l))) l (l ++ (j ∷ []))
 
@@ -25,7 +25,7 @@ pub record Grown (before after : List ℕ) (r : ℕ) (l : List ℕ) : Type 0 whe
   pub fits : r ≤ length before
   pub whole : take r after ≡ l
 
--- n numbers, and these after them, as far as they are new
+-- the first n numbers, and these after them, as far as they are new and there is room
 abbrev pub Added : List ℕ → List ℕ → List ℕ → ℕ → ℕ → List ℕ → Type 0
 Added last before after n r js = Grown before after r (addAll (length before) last (take n before) js)
 
@@ -33,7 +33,8 @@ Added last before after n r js = Grown before after r (addAll (length before) la
 abbrev pub physOf : Domain → List ℕ → List Phy
 physOf d is = flatMap (λ i. expanderAt d i .phys) is
 
--- one table: the list and zeros after it, as many words as were lent; and the list's length, or one more than were lent
+-- one table: the level list and zeros after it, cut at as many words as were lent; and the list's length, or one more than were lent
+-- where it is longer
 pub record TableFilled (d : Domain) (x p : ℕ) (before after : List ℕ) (r : ℕ) : Type 0 where
   pub words : after ≡ take (length before) (levelList d x p ++ replicate (length before) 0)
   pub count : r ≡ min (length (levelList d x p)) (length before + 1)

@@ -15,15 +15,16 @@ unfoldable pub lower : List Phy → ℕ → List Phy
 lower φs zero = []
 lower φs (suc p) = getD φs p (Vacant 0) ∷ lower φs p
 
--- a direct phy always; an attached table phy whose address no lower attached phy bears
+-- a phy gives its word to the own list: a direct phy always, and an attached table phy whose address no lower attached phy bears
 unfoldable pub owns : List Phy → Phy → Bool
 owns lower φ = routes 0 φ || (routes 2 φ && (attached φ && not (any (bears (addressOf φ)) lower)))
 
+-- the words that these phys give, where `lower` are the phys below them
 unfoldable pub ownFrom : List Phy → List Phy → List ℕ
 ownFrom lower [] = []
 ownFrom lower (φ ∷ φs) = cond (owns lower φ) (word φ ∷ ownFrom (φ ∷ lower) φs) (ownFrom (φ ∷ lower) φs)
 
--- the own list of expander e
+-- the own list of expander e: what it gives, its phys upward
 unfoldable pub own : Domain → ℕ → List ℕ
 own d e = ownFrom [] (expanderAt d e .phys)
 

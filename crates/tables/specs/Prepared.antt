@@ -17,15 +17,16 @@ use Rattle.tables.specs.Levels.{once, belowPhys, below, levelsFrom, leve
 use Rattle.tables.specs.Tables.{levelList}
 use Rattle.tables.specs.Own.{own, ownList}
 
--- from word stride * i on stand the length of list i and the list, for each i below n
+-- from word stride * i on stand the length of list i and then the list, for each i below n
 abbrev pub Cells : ℕ → (ℕ → List ℕ) → ℕ → List ℕ → Type 0
 Cells stride list n words = (i : ℕ) → i < n → take (suc (length (list i))) (drop (stride * i) words) ≡ length (list i) ∷ list i
 
+-- the same, and the words reach to stride * n
 pub record Stored (stride : ℕ) (list : ℕ → List ℕ) (n : ℕ) (words : List ℕ) : Type 0 where
   pub enough : stride * n ≤ length words
   pub cell : Cells stride list n words
 
--- the own lists of all expanders, one every 129 words
+-- the own lists of all expanders, each after its length, one every 129 words
 abbrev pub OwnHeld : Domain → List ℕ → Type 0
 OwnHeld d words = Stored 129 (own d) (length d) words
 
@@ -41,25 +42,25 @@ pub record Noted (φs : List Phy) (words : List ℕ) : Type 0 where
 pub record PhyNoted (φ : Phy) (before after : List ℕ) : Type 0 where
   pub more : (φs : List Phy) → Noted φs before → Noted (φ ∷ φs) after
 
--- the expanders below expander i, each once
+-- the expanders below expander i (attached to its table phys), each once
 abbrev pub belowOnce : Domain → ℕ → List ℕ
 belowOnce d i = once [] (below d i)
 
--- the expanders below all expanders, one list every 66 bytes
+-- for each expander the list of those below it, after its length, one every 66 bytes
 abbrev pub BelowHeld : Domain → List ℕ → Type 0
 BelowHeld d bytes = Stored 66 (belowOnce d) (length d) bytes
 
--- the expanders of the levels of a phy of expander x
+-- the order of phy φ of expander x: the expanders of its levels, level by level
 unfoldable pub orderOf : Domain → ℕ → Phy → List ℕ
 orderOf d x φ = levelsFrom (length d) d (x ∷ []) (belowPhys d (φ ∷ []))
 
--- two phys of one expander that have the same levels: the levels go on at both, and they bear one address, or at none of them
+-- two phys of one expander that have the same levels: the levels go on at both, and they bear one address, or go on at neither
 unfoldable pub alike : Phy → Phy → Bool
 alike φ ψ =
     cond (toExpander φ && routes 2 φ) ((toExpander ψ && routes 2 ψ) && eqb (addressOf φ) (addressOf ψ))
     (not (toExpander ψ && routes 2 ψ))
 
--- 14 by own lists
+-- 14 by own lists: those of the phy's levels have more than R words in all
 unfoldable pub overOwn : Domain → ℕ → ℕ → Bool
 overOwn d i p = routes 2 (phyAt d i p) && ltb (expanderAt d i .indexes) (length (ownList d i p))
 
@@ -71,11 +72,11 @@ judgedOwn d = then (checkedDomain d) (λ _. firstOf 14 (overOwn d) d)
 abbrev pub Same : Domain → Type 0
 Same d = (x p : ℕ) → levelList d x p ≡ ownList d x p
 
--- that holds of a domain that passes causes 7 to 13
+-- where the domain passes causes 7 to 13, its level lists are own lists one after the other
 abbrev pub Lawful : Domain → Type 0
 Lawful d = checkedDomain d ≡ good d → Same d
 
--- a domain whose tables can be filled from own lists
+-- a domain whose tables can be filled from own lists: the level lists are own lists, and none is longer than R
 pub record Fillable (d : Domain) : Type 0 where
   pub same : Same d
   pub fits : (i p : ℕ) → T (routes 2 (phyAt d i p)) → length (levelList d i p) ≤ expanderAt d i .indexes

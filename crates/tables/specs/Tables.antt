@@ -23,10 +23,11 @@ heldBy d x s = eqb s (expanderAt d x .address) || any (bears s) (expanderAt d x 
 unfoldable pub gives : Domain → ℕ → List ℕ → Phy → Bool
 gives d x l φ = routes 0 φ || (attached φ && (not (heldBy d x (addressOf φ)) && not (isIn (addressOf φ) l)))
 
+-- the list after one phy
 unfoldable pub give : Domain → ℕ → List ℕ → Phy → List ℕ
 give d x l φ = cond (gives d x l φ) (l ++ (word φ ∷ [])) l
 
--- phy after phy
+-- the list after these phys, one after the other
 unfoldable pub giveAll : Domain → ℕ → List ℕ → List Phy → List ℕ
 giveAll d x l [] = l
 giveAll d x l (φ ∷ φs) = giveAll d x (give d x l φ) φs
@@ -35,7 +36,7 @@ giveAll d x l (φ ∷ φs) = giveAll d x (give d x l φ) φs
 unfoldable pub levelList : Domain → ℕ → ℕ → List ℕ
 levelList d x p = giveAll d x [] (flatMap (λ i. expanderAt d i .phys) (levels d x p))
 
--- its table: the list followed by zeros, R words
+-- its table: the list followed by zeros up to R words, cut at R
 unfoldable pub table : Domain → ℕ → ℕ → List ℕ
 table d x p = take (expanderAt d x .indexes) (levelList d x p ++ replicate (expanderAt d x .indexes) 0)
 
@@ -43,10 +44,11 @@ table d x p = take (expanderAt d x .indexes) (levelList d x p ++ replicate (expa
 unfoldable pub tablePlaces : Domain → List Place
 tablePlaces d = keep (λ q. routes 2 (phyAt d (q .expander) (q .phy))) (places d)
 
+-- all tables, one after the other
 unfoldable pub tables : Domain → List ℕ
 tables d = flatMap (λ q. table d (q .expander) (q .phy)) (tablePlaces d)
 
--- the words of the table at a place: none where there is no table phy
+-- how many words the table at a place has: 0 where there is no table phy
 unfoldable pub size : Domain → Place → ℕ
 size d q = cond (routes 2 (phyAt d (q .expander) (q .phy))) (expanderAt d (q .expander) .indexes) 0
 

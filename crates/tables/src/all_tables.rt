@@ -18,14 +18,14 @@ ghost use Rattle.tables.specs.Levels.{levels};
 ghost use Rattle.tables.specs.Filling.{placesAt, withTables, tablesOf, Put};
 ghost use Rattle.tables.specs.Prepared.{OwnHeld, BelowHeld, Fillable};
 
-// Is phy p of expander i a table phy?
+// Is phy p of expander i a non-vacant table phy?
 pub(crate) fn is_table(rows: &[u64], i: ExpanderNumber, p: PhyId) -> bool
     ensures { λ r. ⌜ r ≡ routes 2 (phyAt (domainIn (now (rows .entry))) (i .0) (p .0)) ⌝ }
 {
     wiring::phy_attribute(wiring::phy_at(rows, i, p)) == 2
 }
 
-// The words of phy p's table: none where it is no table phy.
+// How many words the table of phy p of expander i has: R, or 0 where it is no table phy.
 fn size_at(rows: &[u64], i: ExpanderNumber, p: PhyId) -> usize
     ensures { λ r. ⌜ (r ≡ size (domainIn (now (rows .entry))) (place (i .0) (p .0))) × (r < 65536) ⌝ }
 {
@@ -35,7 +35,7 @@ fn size_at(rows: &[u64], i: ExpanderNumber, p: PhyId) -> usize
     wiring::index_count(rows, i) as usize
 }
 
-// The words of the tables of expander i.
+// How many words the tables of expander i have.
 fn sizes_at(rows: &[u64], i: ExpanderNumber) -> usize
     ensures { λ r. ⌜ (r ≡ sizes (domainIn (now (rows .entry))) (placesAt (domainIn (now (rows .entry))) (i .0))) × (r ≤ 8388608) ⌝ }
 {
@@ -49,7 +49,7 @@ fn sizes_at(rows: &[u64], i: ExpanderNumber) -> usize
     sum
 }
 
-// The words that all tables need.
+// How many words all tables need: the sum of R over non-vacant table phys.
 pub fn needed_words(rows: &[u64]) -> usize
     ensures { λ r. ⌜ (r ≡ needed (domainIn (now (rows .entry)))) × (r < 2 ^ 32) ⌝ }
 {
@@ -63,7 +63,7 @@ pub fn needed_words(rows: &[u64]) -> usize
     sum
 }
 
-// One where phy p of expander i is a table phy, none where it is not.
+// 1 where phy p of expander i is a table phy, 0 where it is not.
 fn one_at(rows: &[u64], i: ExpanderNumber, p: PhyId) -> usize
     ensures { λ r. ⌜ (r ≡ length (withTables (domainIn (now (rows .entry))) (place (i .0) (p .0) ∷ []))) × (r ≤ 1) ⌝ }
 {
@@ -101,7 +101,8 @@ pub fn table_count(rows: &[u64]) -> usize
     sum
 }
 
-// The table of phy p from `at` on, and the place after it. `order` has its levels.
+// Writes the table of phy p of expander i from `at` on, and yields the place after it. `lists` has the
+// own lists, `order` the expanders of the phy's levels.
 fn put_table(
     rows: &[u64],
     lists: &[u64],
@@ -124,7 +125,8 @@ fn put_table(
     e
 }
 
-// The tables of expander i from `at` on, and the place after them.
+// Writes the tables of expander i from `at` on, and yields the place after them. `order` is room for
+// the levels of one phy.
 fn put_tables(
     rows: &[u64],
     lists: &[u64],
@@ -154,7 +156,7 @@ fn put_tables(
     to
 }
 
-// All tables from the front on; the words after them stay.
+// Writes all tables from the front on; the words after them stay.
 pub(crate) fn put_all(rows: &[u64], words: &mut [u64])
     requires { ⌜ Fillable (domainIn (now rows)) × (needed (domainIn (now rows)) ≤ length (now words)) ⌝ }
     ensures { λ _. ⌜ now (words .exit) ≡ tables (domainIn (now (rows .entry))) ++ drop (needed (domainIn (now (rows .entry)))) (now (words .entry)) ⌝ }

@@ -1,5 +1,5 @@
-// The expanders below each expander, each once: their count and then their numbers, one list every
-// 66 bytes.
+// The expanders below each expander (attached to its table phys), each once: their count and
+// then their numbers, one list every 66 bytes. A list has at most 65 numbers.
 use crate::levels;
 use frames::ExpanderNumber;
 ghost use mathlib.Core.List.{flatMap};
@@ -9,7 +9,7 @@ ghost use Rattle.wiring.specs.Rows.{domainIn};
 ghost use Rattle.tables.specs.Filling.{Added};
 ghost use Rattle.tables.specs.Prepared.{belowOnce, BelowHeld};
 
-// The expanders below all expanders.
+// Writes the list of each expander.
 pub(crate) fn put_below(rows: &[u64], below: &mut [u8])
     requires { ⌜ 4224 ≤ length (now below) ⌝ }
     ensures { λ _. ⌜ BelowHeld (domainIn (now (rows .entry))) (now (below .exit)) ⌝ }
@@ -26,7 +26,8 @@ pub(crate) fn put_below(rows: &[u64], below: &mut [u8])
     }
 }
 
-// The expanders below expander i, by its list.
+// Adds the expanders below expander i, by its list, to the next level, of which n numbers stand in
+// `next`, and yields how many stand there then.
 fn add_below(
     rows: &[u64],
     below: &[u8],
@@ -47,7 +48,8 @@ fn add_below(
     levels::add_numbers(last, next, n, &below[from..to])
 }
 
-// The level after `level`, where `last` is the level before it.
+// Writes the level after `level` into `next`, where `last` is the level before `level`, and yields how
+// many numbers it has.
 pub(crate) fn next_level(
     rows: &[u64],
     below: &[u8],

@@ -10,7 +10,7 @@ ghost use Rattle.tables.specs.Own.{own};
 ghost use Rattle.tables.specs.Filling.{Grown, TableFilled};
 ghost use Rattle.tables.specs.Prepared.{OwnHeld, FilledFrom};
 
-// These words after the n words so far.
+// Copies the words after the first n of `part`, and yields how many stand there then.
 fn copy_words(words: &[u64], part: &mut [u64], n: usize) -> usize
     requires { ⌜ n + length (now words) ≤ length (now part) ⌝ }
     ensures { λ r. ⌜ Grown (now (part .entry)) (now (part .exit)) r (take n (now (part .entry)) ++ now (words .entry)) ⌝ }
@@ -25,7 +25,7 @@ fn copy_words(words: &[u64], part: &mut [u64], n: usize) -> usize
     to
 }
 
-// Expander i's own list after the n words so far.
+// The same of expander i's own list.
 fn copy_own(rows: &[u64], lists: &[u64], i: ExpanderNumber, part: &mut [u64], n: usize) -> usize
     requires { ⌜ OwnHeld (domainIn (now rows)) (now lists) × (n + length (own (domainIn (now rows)) (i .0)) ≤ length (now part)) ⌝ }
     ensures { λ r. ⌜ Grown (now (part .entry)) (now (part .exit)) r (take n (now (part .entry)) ++ own (domainIn (now (rows .entry))) (i .0)) ⌝ }
@@ -39,7 +39,7 @@ fn copy_own(rows: &[u64], lists: &[u64], i: ExpanderNumber, part: &mut [u64], n:
     copy_words(&lists[from..to], part, n)
 }
 
-// The own lists of these expanders from the front on.
+// The same of the own lists of these expanders, one after the other, from the front on.
 fn copy_lists(rows: &[u64], lists: &[u64], order: &[u8], part: &mut [u64]) -> usize
     requires { ⌜ OwnHeld (domainIn (now rows)) (now lists) × (length (flatMap (own (domainIn (now rows))) (now order)) ≤ length (now part)) ⌝ }
     ensures { λ r. ⌜ Grown (now (part .entry)) (now (part .exit)) r (flatMap (own (domainIn (now (rows .entry)))) (now (order .entry))) ⌝ }
@@ -66,8 +66,8 @@ fn clear_from(part: &mut [u64], n: usize)
     }
 }
 
-// The table of phy p of expander x, in words of its own: its level list, and zeros after it. `order`
-// has its levels. The answer is the list's length.
+// The table of phy p of expander x, in words of its own: its level list, and zeros after it. `lists`
+// has the own lists, `order` the expanders of the phy's levels. The answer is the list's length.
 pub(crate) fn fill_table(
     rows: &[u64],
     lists: &[u64],

@@ -37,7 +37,8 @@ pub(crate) fn is_down(f: Phy) -> bool
     wiring::phy_attribute(f) == 2
 }
 
-// One number more for the next level, of which n numbers stand in `next`.
+// Adds a number to the next level, of which n numbers stand in `next`, unless it is in `last` or among
+// these, or there is no room. The answer is how many stand there then.
 fn add_number(last: &[u8], next: &mut [u8], n: usize, j: ExpanderNumber) -> usize
     requires { ⌜ n ≤ length (now next) ⌝ }
     ensures { λ r. ⌜ Added (now (last .entry)) (now (next .entry)) (now (next .exit)) n r (j .0 ∷ []) ⌝ }
@@ -55,7 +56,7 @@ fn add_number(last: &[u8], next: &mut [u8], n: usize, j: ExpanderNumber) -> usiz
     n
 }
 
-// These numbers more.
+// The same of these numbers, one after the other.
 pub(crate) fn add_numbers(last: &[u8], next: &mut [u8], n: usize, more: &[u8]) -> usize
     requires { ⌜ n ≤ length (now next) ⌝ }
     ensures { λ r. ⌜ Added (now (last .entry)) (now (next .entry)) (now (next .exit)) n r (now (more .entry)) ⌝ }
@@ -70,7 +71,7 @@ pub(crate) fn add_numbers(last: &[u8], next: &mut [u8], n: usize, more: &[u8]) -
     m
 }
 
-// One phy more: the expander attached to it, where the levels go on.
+// The same of the expander attached to a phy, where the levels go on there.
 pub(crate) fn add_phy(rows: &[u64], last: &[u8], next: &mut [u8], n: usize, f: Phy) -> usize
     requires { ⌜ n ≤ length (now next) ⌝ }
     ensures { λ r. ⌜ Added (now (last .entry)) (now (next .entry)) (now (next .exit)) n r (belowPhys (domainIn (now (rows .entry))) (f ∷ [])) ⌝ }
@@ -82,7 +83,7 @@ pub(crate) fn add_phy(rows: &[u64], last: &[u8], next: &mut [u8], n: usize, f: P
     add_number(last, next, n, j)
 }
 
-// The phys of expander i.
+// The same of each phy of expander i, upward.
 pub(crate) fn add_phys(
     rows: &[u64],
     last: &[u8],

@@ -1,4 +1,4 @@
-// The expanders of a table phy's levels, one after the other.
+// The order of a phy: the expanders of its levels, level by level.
 use crate::below;
 use crate::levels;
 use frames::ExpanderNumber;
@@ -11,7 +11,7 @@ ghost use Rattle.wiring.specs.Rows.{domainIn};
 ghost use Rattle.tables.specs.Filling.{Grown};
 ghost use Rattle.tables.specs.Prepared.{BelowHeld, orderOf, alike};
 
-// One level after the m numbers so far.
+// Copies a level after the first m numbers of `order`, and yields how many there are then.
 fn append_level(order: &mut [u8], m: usize, level: &[u8]) -> usize
     requires { ⌜ m + length (now level) ≤ length (now order) ⌝ }
     ensures { λ r. ⌜ Grown (now (order .entry)) (now (order .exit)) r (take m (now (order .entry)) ++ now (level .entry)) ⌝ }
@@ -26,8 +26,8 @@ fn append_level(order: &mut [u8], m: usize, level: &[u8]) -> usize
     to
 }
 
-// The order of a phy f of expander x. A level has at most 65 numbers: at most 64 expanders, and the
-// count for an address that no expander has.
+// Writes the order of phy f of expander x, and yields its length. There are at most 64 levels. A level
+// has at most 65 numbers: at most 64 expanders, and their count for an address that no expander has.
 fn put_order(rows: &[u64], below: &[u8], x: ExpanderNumber, f: Phy, order: &mut [u8]) -> usize
     requires { ⌜ BelowHeld (domainIn (now rows)) (now below) × (4160 ≤ length (now order)) ⌝ }
     ensures { λ r. ⌜ Grown (now (order .entry)) (now (order .exit)) r (orderOf (domainIn (now (rows .entry))) (x .0) f) ⌝ }
@@ -69,7 +69,8 @@ fn are_alike(f: Phy, g: Phy) -> bool
     wiring::phy_address(f) == wiring::phy_address(g)
 }
 
-// The order of phy f of expander x, where the first n numbers are that of its phy g.
+// The same, where the first n numbers of `order` are the order of phy g of expander x, which is kept
+// where the levels are the same.
 pub(crate) fn order_for(
     rows: &[u64],
     below: &[u8],

@@ -1,4 +1,4 @@
-// Cause 14: a level list that is longer than the route indexes.
+// Cause 14 by own lists: those of a table phy's levels have more than R words in all.
 use crate::below;
 use crate::order;
 use crate::own;
@@ -36,7 +36,8 @@ fn count_words(rows: &[u64], lists: &[u64], order: &[u8]) -> usize
     sum
 }
 
-// Is it a table phy of expander i whose level list is too long? `order` has its levels.
+// Is f a table phy of expander i whose levels' own lists have more than R words? `order` has the
+// expanders of its levels.
 fn is_overlong(rows: &[u64], lists: &[u64], i: ExpanderNumber, f: Phy, order: &[u8]) -> bool
     requires { ⌜ OwnHeld (domainIn (now rows)) (now lists) × (length (now order) ≤ 4160) ⌝ }
     ensures { λ r. ⌜ r ≡ (routes 2 f && ltb (expanderAt (domainIn (now (rows .entry))) (i .0) .indexes)
@@ -48,7 +49,7 @@ fn is_overlong(rows: &[u64], lists: &[u64], i: ExpanderNumber, f: Phy, order: &[
     (wiring::index_count(rows, i) as usize) < count_words(rows, lists, order)
 }
 
-// The lowest such phy of expander i.
+// The lowest such phy of expander i. `order` is room for the levels of one phy.
 fn overlong_phy(
     rows: &[u64],
     lists: &[u64],
@@ -80,7 +81,7 @@ fn overlong_phy(
     Check::Passed
 }
 
-// The lowest such phy.
+// The lowest such phy, by expander and then phy.
 pub(crate) fn first_overlong(rows: &[u64]) -> Check
     ensures { λ r. ⌜ checkAnswer (domainIn (now (rows .entry))) r
         ≡ firstOf 14 (overOwn (domainIn (now (rows .entry)))) (domainIn (now (rows .entry))) ⌝ }

@@ -1,4 +1,5 @@
-// The own list of each expander: the words that it gives to every level list in whose levels it is.
+// The own list of each expander: on a domain past causes 1 to 13, the words that it gives to every level
+// list in whose levels it is.
 use frames::ExpanderNumber;
 use frames::PhyId;
 use wiring::Phy;
@@ -50,20 +51,21 @@ fn is_lower(rows: &[u64], i: ExpanderNumber, p: PhyId, s: u64) -> bool
     false
 }
 
-// Is f, as phy p of expander i, one of the expander's own? `seen` has the keys of the addresses
-// attached below p; where it lacks the key of f's address no lower phy bears it.
+// Does f, as phy p of expander i, give its word to the expander's own list? `seen` has the keys of the
+// addresses attached below p; where it lacks the key of f's address no lower phy bears it.
 fn is_own(rows: &[u64], i: ExpanderNumber, p: PhyId, seen: &[u64], f: Phy) -> bool
     requires { ⌜ Noted (lower (expanderAt (domainIn (now rows)) (i .0) .phys) (p .0)) (now seen) ⌝ }
     ensures { λ r. ⌜ r ≡ owns (lower (expanderAt (domainIn (now (rows .entry))) (i .0) .phys) (p .0)) f ⌝ }
 {
     let attribute = wiring::phy_attribute(f);
+    let device = wiring::phy_type(f);
     if attribute == 0 {
         return true;
     }
     if attribute != 2 {
         return false;
     }
-    if wiring::phy_type(f) == 0 {
+    if device == 0 {
         return false;
     }
     let s = wiring::phy_address(f);
@@ -73,7 +75,7 @@ fn is_own(rows: &[u64], i: ExpanderNumber, p: PhyId, seen: &[u64], f: Phy) -> bo
     !is_lower(rows, i, p, s)
 }
 
-// Adds the key of the attached address to a set; nothing where nothing is attached.
+// Adds the key of the attached address to a set of 4,096 keys; nothing where nothing is attached.
 fn note_phy(seen: &mut [u64], f: Phy)
     ensures { λ _. ⌜ PhyNoted f (now (seen .entry)) (now (seen .exit)) ⌝ }
 {
@@ -83,7 +85,8 @@ fn note_phy(seen: &mut [u64], f: Phy)
     wiring::add_key(seen, (wiring::phy_address(f) % 4093) as usize);
 }
 
-// A phy's word after the m words so far, where it is its expander's own.
+// Writes a phy's word after the first m of `part`, where it belongs to the own list (`mine`), and yields
+// how many there are then.
 fn put_word(part: &mut [u64], m: usize, mine: bool, f: Phy) -> usize
     requires { ⌜ m < length (now part) ⌝ }
     ensures { λ r. ⌜ Grown (now (part .entry)) (now (part .exit)) r (take m (now (part .entry)) ++ cond mine (word f ∷ []) []) ⌝ }
@@ -95,7 +98,7 @@ fn put_word(part: &mut [u64], m: usize, mine: bool, f: Phy) -> usize
     m + 1
 }
 
-// The own list of expander i, and its length.
+// Writes the own list of expander i, and yields its length: at most 128.
 fn collect_own(rows: &[u64], i: ExpanderNumber, part: &mut [u64]) -> usize
     requires { ⌜ 128 ≤ length (now part) ⌝ }
     ensures { λ r. ⌜ Grown (now (part .entry)) (now (part .exit)) r (own (domainIn (now (rows .entry))) (i .0)) ⌝ }
@@ -114,7 +117,7 @@ fn collect_own(rows: &[u64], i: ExpanderNumber, part: &mut [u64]) -> usize
     m
 }
 
-// The own lists of all expanders, each with its length before it, one every 129 words.
+// Writes the own lists of all expanders, each with its length before it, one every 129 words.
 pub(crate) fn put_owns(rows: &[u64], words: &mut [u64])
     requires { ⌜ 8256 ≤ length (now words) ⌝ }
     ensures { λ _. ⌜ OwnHeld (domainIn (now (rows .entry))) (now (words .exit)) ⌝ }

@@ -15,6 +15,7 @@ pub data Step : Type 0 where
   lost : Step
   onward : ℕ → ℕ → Step
 
+-- the phy that a step picks, or none
 pub data Pick : Type 0 where
   at : ℕ → Pick
   nowhere : Pick
@@ -28,7 +29,7 @@ pick test (p ∷ ps) = cond (test p) (at p) (pick test ps)
 abbrev pub phyNumbers : Domain → ℕ → List ℕ
 phyNumbers d i = upTo (length (expanderAt d i .phys))
 
--- the words before the table of phy p of expander i
+-- how many words stand before the table of phy p of expander i, where the tables at these places stand one after the other
 unfoldable pub offset : Domain → ℕ → ℕ → List Place → ℕ
 offset d i p [] = 0
 offset d i p (q ∷ qs) = cond (eqb (q .expander) i && eqb (q .phy) p) 0 (size d q + offset d i p qs)
@@ -41,6 +42,7 @@ stretch d words i p = take (expanderAt d i .indexes) (drop (offset d i p (places
 abbrev pub cameFrom : Domain → ℕ → ℕ → ℕ
 cameFrom d i p = cond (eqb p 255) 0 (addressOf (phyAt d i p))
 
+-- on over phy p of expander i: to the attached expander, and the far phy is the arrival phy
 abbrev pub moveBy : Domain → ℕ → ℕ → Step
 moveBy d i p = onward (numberOf d (addressOf (phyAt d i p))) (farOf (phyAt d i p))
 

@@ -20,6 +20,7 @@ pub record Traced : Type 0 where
   pub phy : ℕ
   pub passed : List ℕ
 
+-- a trace that ends at expander i, which is the only one passed
 abbrev pub ended : Outcome → ℕ → ℕ → Traced
 ended o i p = record { outcome = o; last = i; phy = p; passed = i ∷ [] }
 
@@ -27,6 +28,7 @@ ended o i p = record { outcome = o; last = i; phy = p; passed = i ∷ [] }
 abbrev pub after : List ℕ → Traced → Traced
 after l t = record { outcome = t .outcome; last = t .last; phy = t .phy; passed = l ++ t .passed }
 
+-- the trace from expander i, by its step; `go` is the trace from the next expander
 unfoldable pub afterStep : ℕ → (ℕ → ℕ → Traced) → Step → Traced
 afterStep i go here = ended Arrived i 255
 afterStep i go (endDevice p) = ended Arrived i p

@@ -10,7 +10,8 @@ use frames::ExpanderNumber;
 use frames::PhyId;
 use frames::Refusal;
 
-// What an expander does with a request.
+// What an expander does with a request: arrived here; arrived at the end device of a phy; BAD
+// DESTINATION; NO DESTINATION; on to an expander with its arrival phy.
 pub enum Step {
     Here,
     EndDevice(PhyId),
@@ -19,6 +20,7 @@ pub enum Step {
     Onward(ExpanderNumber, PhyId),
 }
 
+// The outcome of a request: arrived, NO DESTINATION, BAD DESTINATION.
 pub enum Outcome {
     Arrived,
     NoDestination,
@@ -34,6 +36,7 @@ pub struct End {
     pub count: u8,
 }
 
+// What the trace call answers: how the request ends.
 pub enum TraceAnswer {
     Refused(Refusal),
     Ended(End),

@@ -15,7 +15,8 @@ ghost use Rattle.tables.specs.Tables.{needed as allWords};
 ghost use Rattle.tracing.specs.Trace.{allowed, requested};
 ghost use Rattle.tracing.specs.Answers.{tracedRequest, Answered};
 
-// Does the request start at an expander, with arrival phy 255 or a phy attached to an end device?
+// Does cause 15 not hold: the start is an expander, and the arrival phy is 255 or attached to an end
+// device?
 fn is_allowed(rows: &[u64], start: ExpanderNumber, arrival: PhyId) -> bool
     ensures { λ r. ⌜ r ≡ allowed (domainIn (now (rows .entry))) (start .0) (arrival .0) ⌝ }
 {
@@ -28,7 +29,7 @@ fn is_allowed(rows: &[u64], start: ExpanderNumber, arrival: PhyId) -> bool
     tables::phy_type(tables::phy_at(rows, start, arrival)) == 1
 }
 
-// A refusal at no phy.
+// A refusal at place 0, 0.
 fn refuse(number: u8) -> Check
     ensures { λ r. ⌜ r ≡ Refused (refusal number 0 0) ⌝ }
 {

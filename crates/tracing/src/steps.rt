@@ -15,7 +15,7 @@ ghost use Rattle.tracing.specs.Steps.{bad, endDevice, offset, listing, c
 ghost use Rattle.tracing.specs.Answers.{stepAnswer, pickAnswer, bearingPick, listingPick, subtractingPick};
 ghost use Rattle.tracing.specs.Answers.{moveOver, subtractiveStep, tableStep, directStep};
 
-// The phy that a step picks.
+// The phy that a step picks, if any.
 enum Pick {
     At(PhyId),
     Nowhere,
@@ -113,7 +113,7 @@ fn came_from(rows: &[u64], i: ExpanderNumber, arrival: PhyId) -> u64
     tables::phy_address(tables::phy_at(rows, i, arrival))
 }
 
-// On over phy f, or `back` where it is attached to the address that the request came from.
+// On over phy f, or `back` where f is attached to the address at the arrival phy, `came`.
 fn move_unless(rows: &[u64], f: Phy, came: u64, back: Step) -> Step
     ensures { λ r. ⌜ stepAnswer r ≡ cond (eqb (addressOf f) came) (stepAnswer back) (moveOver (domainIn (now (rows .entry))) f) ⌝ }
 {
@@ -144,7 +144,7 @@ fn table_step(rows: &[u64], words: &[u64], i: ExpanderNumber, came: u64, s: u64)
     }
 }
 
-// What (ii) does over phy p, where f is that phy.
+// What (ii) does with the phy it picks, p, where f is that phy.
 fn arrive_unless(rows: &[u64], p: PhyId, f: Phy, came: u64) -> Step
     ensures { λ r. ⌜ stepAnswer r ≡ cond (eqb (addressOf f) came) bad (cond (toEnd f) (endDevice (p .0)) (moveOver (domainIn (now (rows .entry))) f)) ⌝ }
 {
@@ -167,7 +167,7 @@ fn direct_step(rows: &[u64], words: &[u64], i: ExpanderNumber, came: u64, s: u64
     }
 }
 
-// What expander i does with a request for address s that arrived at this phy.
+// (i), or what comes after: what expander i does with a request for address s that arrived at this phy.
 pub(crate) fn take_step(
     rows: &[u64],
     words: &[u64],

@@ -24,7 +24,7 @@ fn ended(outcome: Outcome, last: ExpanderNumber, phy: PhyId, count: u8) -> End
     }
 }
 
-// At most as many steps as there are expanders. The expanders passed go into the lent bytes.
+// Takes at most as many steps as there are expanders. The expanders passed go into the lent bytes.
 pub(crate) fn walk(
     rows: &[u64],
     words: &[u64],

@@ -1,4 +1,4 @@
--- Cause 8 by a set of addresses: how the set grows, and that an end device that is not in it is not claimed.
+-- Cause 8 by a set of keys of addresses: how the set grows, and that an end device that is not in it is not claimed.
 use Prim.Native.Nat.{ℕ, _+_, _≤_, _<_}
 use mathlib.Core.Path.{_≡_, sym, _∙_, ap, subst}
 use mathlib.Core.Logic.{⊎-elim}

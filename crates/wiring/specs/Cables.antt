@@ -10,11 +10,11 @@ use Rattle.wiring.specs.Neighbours.{cabled, setOf}
 use Rattle.wiring.specs.Rounds.{hasBit}
 use Rattle.wiring.specs.Seen.{mayHave}
 
--- the key of an address
+-- the key of an address in a set of 64 words
 abbrev pub cableKey : ℕ → ℕ
 cableKey s = s % 4093
 
--- keys that have the attached address of each of expander i's first n phys that is attached to an expander
+-- the set has the key of the attached address of each of expander i's first n phys that is attached to an expander
 pub record FarKeys (d : Domain) (i n : ℕ) (keys : List ℕ) : Type 0 where
   pub here : (p : ℕ) → p < n → T (toExpander (phyAt d i p)) → T (mayHave keys (cableKey (addressOf (phyAt d i p))))
 
@@ -26,6 +26,6 @@ cabledWord d i = setOf (keep (cabled d i) (upTo (length d)))
 unfoldable pub cabledWords : Domain → List ℕ
 cabledWords d = map (cabledWord d) (upTo (length d))
 
--- one of two expanders is in the other's word
+-- one of two expanders is in the other's cabled word
 abbrev pub eitherHas : List ℕ → ℕ → ℕ → Bool
 eitherHas words i j = hasBit (getD words i 0) j || hasBit (getD words j 0) i

@@ -1,4 +1,4 @@
--- Causes 7 to 10: what is wrong with one phy, and the lowest phy with which it is.
+-- Causes 7 to 10 at one phy, and the lowest phy at which each holds.
 use Prim.Native.Nat.{ℕ, zero, suc, _+_}
 use mathlib.Core.Bool.{Bool, cond, not, _||_, _&&_}
 use mathlib.Core.List.{List, [], _∷_, _++_}
@@ -40,7 +40,7 @@ clash φ ψ =
     attached φ && (attached ψ
     && cond (eqb (addressOf φ) (addressOf ψ)) (not (eqb (attributeOf φ) (attributeOf ψ))) (routes 1 φ && routes 1 ψ))
 
--- 9: clashes with a lower phy of its expander
+-- 9: an attached phy and a lower attached one of its expander clash
 unfoldable pub clashing : Domain → ℕ → ℕ → Bool
 clashing d i p = any (clash (phyAt d i p)) (take p (expanderAt d i .phys))
 
@@ -48,7 +48,7 @@ clashing d i p = any (clash (phyAt d i p)) (take p (expanderAt d i .phys))
 unfoldable pub fixed : Domain → ℕ → ℕ → Bool
 fixed d i p = routes 2 (phyAt d i p) && eqb (expanderAt d i .configurable) 0
 
--- the phys of a domain, by expander and then phy
+-- a place: expander and phy
 pub record Place : Type 0 where
   pub expander : ℕ
   pub phy : ℕ
@@ -66,6 +66,7 @@ unfoldable pub placesFrom : ℕ → Domain → List Place
 placesFrom i [] = []
 placesFrom i (e ∷ d) = phyPlaces i 0 (length (e .phys)) ++ placesFrom (i + 1) d
 
+-- the phys of a domain, by expander and then phy
 abbrev pub places : Domain → List Place
 places d = placesFrom 0 d
 

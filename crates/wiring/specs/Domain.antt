@@ -67,7 +67,7 @@ toExpander φ = leb 2 (typeOf φ)
 abbrev pub bears : ℕ → Phy → Bool
 bears s φ = attached φ && eqb (addressOf φ) s
 
--- the number of the expander with this address, or the count where there is none
+-- the number of the first expander with this address, or the count of expanders where there is none
 unfoldable pub numberOf : Domain → ℕ → ℕ
 numberOf [] s = 0
 numberOf (e ∷ d) s = cond (eqb (e .address) s) 0 (suc (numberOf d s))

@@ -14,7 +14,7 @@ use Rattle.wiring.specs.declared.DomainRead.the-variants.{Refused, Expan
 use Rattle.wiring.specs.Domain.{Expander, Domain, addressOf}
 use Rattle.wiring.specs.File.{limits, domainRead}
 
--- a phy's second word: 0 and the result of a vacant phy; 1, type, attribute and attached phy of another
+-- a phy's second word: bit 0 is 0 where it is vacant, and the result follows; else it is 1, and type, attribute and attached phy follow
 abbrev pub phyWord : Phy → ℕ
 phyWord (Vacant result) = 2 * result
 phyWord (Present f) = 1 + 2 * f .device + 8 * f .attribute + 32 * f .far .0
@@ -23,7 +23,7 @@ abbrev pub phyWords : List Phy → List ℕ
 phyWords [] = []
 phyWords (φ ∷ φs) = addressOf φ ∷ phyWord φ ∷ phyWords φs
 
--- an expander's second word
+-- an expander's second word: R, number of phys, configurable bit
 abbrev pub headWord : ℕ → ℕ → ℕ → ℕ
 headWord indexes phys configurable = indexes + 65536 * phys + 16777216 * configurable
 

@@ -1,4 +1,4 @@
--- Sets of keys as words, a bit for each key. They are never wrong about a key that was added.
+-- Sets of keys as words, a bit for each key. Every key that was added is one that may be there.
 use Prim.Native.Nat.{ℕ, _*_, _/_, _%_, _^_}
 use mathlib.Core.Path.{_≡_}
 use mathlib.Core.Bool.{Bool, _||_}

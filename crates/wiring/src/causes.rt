@@ -1,4 +1,5 @@
-// Causes 7 to 10 and 13: what is wrong with one phy, and the lowest phy with which it is.
+// Causes 7, 10 and 13 at one phy, the lowest phy at which one of causes 7 to 10 and 13 holds, and
+// causes 7 to 10 in order.
 use crate::Check;
 use crate::Phy;
 use crate::claims;
@@ -35,7 +36,7 @@ fn is_naming(s: u64, p: PhyId, f: Phy) -> bool
     view::phy_far(f).0 == p.0
 }
 
-// Cause 7.
+// Cause 7: type 2 or 3 on a direct phy, or far end missing or not naming this phy back.
 fn is_unanswered(rows: &[u64], i: ExpanderNumber, p: PhyId) -> bool
     ensures { λ r. ⌜ r ≡ unanswered (domainIn (now (rows .entry))) (i .0) (p .0) ⌝ }
 {
@@ -50,7 +51,7 @@ fn is_unanswered(rows: &[u64], i: ExpanderNumber, p: PhyId) -> bool
     !is_naming(view::expander_address(rows, i), p, g)
 }
 
-// Cause 10.
+// Cause 10: non-vacant table phy, configurable bit 0.
 fn is_fixed(rows: &[u64], i: ExpanderNumber, p: PhyId) -> bool
     ensures { λ r. ⌜ r ≡ fixed (domainIn (now (rows .entry))) (i .0) (p .0) ⌝ }
 {
@@ -60,7 +61,7 @@ fn is_fixed(rows: &[u64], i: ExpanderNumber, p: PhyId) -> bool
     view::configurable_bit(rows, i) == 0
 }
 
-// Cause 13.
+// Cause 13: table phy attached to a table phy.
 fn is_table_to_table(rows: &[u64], i: ExpanderNumber, p: PhyId) -> bool
     ensures { λ r. ⌜ r ≡ tableToTable (domainIn (now (rows .entry))) (i .0) (p .0) ⌝ }
 {
@@ -74,7 +75,7 @@ fn is_table_to_table(rows: &[u64], i: ExpanderNumber, p: PhyId) -> bool
     view::phy_attribute(far_phy(rows, f)) == 2
 }
 
-// Whether cause k holds at phy p of expander i.
+// Whether cause k holds at phy p of expander i. k is not 8 or 9, which have modules of their own.
 fn cause_holds(rows: &[u64], k: u8, i: ExpanderNumber, p: PhyId) -> bool
     requires { ⌜ (k ≢ 8) × (k ≢ 9) ⌝ }
     ensures { λ r. ⌜ r ≡ causeOf k (domainIn (now (rows .entry))) (i .0) (p .0) ⌝ }
@@ -91,7 +92,7 @@ fn cause_holds(rows: &[u64], k: u8, i: ExpanderNumber, p: PhyId) -> bool
     false
 }
 
-// The lowest phy of expander i at which cause k holds.
+// The lowest phy of expander i at which cause k holds, where k is not 8 or 9.
 fn first_phy(rows: &[u64], k: u8, i: ExpanderNumber) -> Check
     requires { ⌜ (k ≢ 8) × (k ≢ 9) ⌝ }
     ensures { λ r. ⌜ checkAnswer (domainIn (now (rows .entry))) r ≡ firstAt k (domainIn (now (rows .entry))) (i .0) ⌝ }
@@ -111,7 +112,8 @@ fn first_phy(rows: &[u64], k: u8, i: ExpanderNumber) -> Check
     Check::Passed
 }
 
-// The lowest phy, by expander and then phy, at which cause k holds, by a test of each phy.
+// The lowest phy, by expander and then phy, at which cause k holds, by a test of each phy. k is not
+// 8 or 9.
 fn first_by_test(rows: &[u64], k: u8) -> Check
     requires { ⌜ (k ≢ 8) × (k ≢ 9) ⌝ }
     ensures { λ r. ⌜ checkAnswer (domainIn (now (rows .entry))) r ≡ firstOf k (causeOf k (domainIn (now (rows .entry)))) (domainIn (now (rows .entry))) ⌝ }
@@ -132,7 +134,7 @@ fn first_by_test(rows: &[u64], k: u8) -> Check
     Check::Passed
 }
 
-// The lowest phy, by expander and then phy, at which cause k holds.
+// The lowest phy, by expander and then phy, at which cause k holds: 7 to 10 or 13.
 pub(crate) fn first_of(rows: &[u64], k: u8) -> Check
     ensures { λ r. ⌜ checkAnswer (domainIn (now (rows .entry))) r ≡ firstOf k (causeOf k (domainIn (now (rows .entry)))) (domainIn (now (rows .entry))) ⌝ }
 {

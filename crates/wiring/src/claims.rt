@@ -1,5 +1,5 @@
-// Cause 8. A set has the addresses of all expanders, and of the end devices of the expanders that are
-// passed: phys are compared only where an end device's address may be in it.
+// Cause 8. A set has the keys of the addresses of all expanders, and of the end devices at earlier
+// expanders: expanders and phys are searched only where the key of an end device's address is in it.
 use crate::Check;
 use crate::Phy;
 use crate::seen;
@@ -18,7 +18,7 @@ ghost use Rattle.wiring.specs.Checks.{checkAnswer, causeOf, firstAt, toE
 ghost use Rattle.wiring.specs.Seen.{AddedIf};
 ghost use Rattle.wiring.specs.Claims.{addressKey, mayBeClaimed, ClaimsBefore};
 
-// Whether f is attached to the end device with this address.
+// Whether f is attached to an end device with this address.
 fn is_end(s: u64, f: Phy) -> bool
     ensures { λ r. ⌜ r ≡ toEndWith s f ⌝ }
 {
@@ -28,7 +28,7 @@ fn is_end(s: u64, f: Phy) -> bool
     view::phy_address(f) == s
 }
 
-// Whether expander j has an end device with this address.
+// Whether an end device with this address is attached at expander j.
 fn is_end_at(rows: &[u64], s: u64, j: ExpanderNumber) -> bool
     ensures { λ r. ⌜ r ≡ endAt s (expanderAt (domainIn (now (rows .entry))) (j .0)) ⌝ }
 {
@@ -43,7 +43,7 @@ fn is_end_at(rows: &[u64], s: u64, j: ExpanderNumber) -> bool
     false
 }
 
-// Whether an expander before i has an end device with this address.
+// Whether an end device with this address is attached at an expander before i.
 fn is_end_before(rows: &[u64], s: u64, i: ExpanderNumber) -> bool
     ensures { λ r. ⌜ r ≡ any (endAt s) (take (i .0) (domainIn (now (rows .entry)))) ⌝ }
 {
@@ -58,7 +58,7 @@ fn is_end_before(rows: &[u64], s: u64, i: ExpanderNumber) -> bool
     false
 }
 
-// Cause 8.
+// Cause 8: type 1 bearing an expander's address, or one also attached as type 1 at an earlier expander.
 fn is_claimed(rows: &[u64], i: ExpanderNumber, p: PhyId) -> bool
     ensures { λ r. ⌜ r ≡ claimed (domainIn (now (rows .entry))) (i .0) (p .0) ⌝ }
 {
@@ -74,14 +74,15 @@ fn is_claimed(rows: &[u64], i: ExpanderNumber, p: PhyId) -> bool
     is_end_before(rows, s, i)
 }
 
-// The key of an address.
+// The key of an address in a set of 1,048,576 keys; 1,048,573 is a prime.
 fn key_of(s: u64) -> usize
     ensures { λ r. ⌜ r ≡ addressKey s ⌝ }
 {
     (s % 1048573) as usize
 }
 
-// Whether f is attached to an end device whose address may be in the set.
+// Whether f is attached to an end device whose address may be in the set: where not, cause 8 does not
+// hold.
 fn may_be_claimed(words: &[u64], f: Phy) -> bool
     ensures { λ r. ⌜ r ≡ mayBeClaimed (now (words .entry)) f ⌝ }
 {
@@ -91,7 +92,7 @@ fn may_be_claimed(words: &[u64], f: Phy) -> bool
     seen::may_have(words, key_of(view::phy_address(f)))
 }
 
-// Adds the address of an end device.
+// Adds the key of the attached address where f is attached to an end device.
 fn add_end(words: &mut [u64], f: Phy)
     ensures { λ _. ⌜ AddedIf (now (words .entry)) (now (words .exit)) (toEnd f) (addressKey (addressOf f)) ⌝ }
 {
@@ -101,7 +102,7 @@ fn add_end(words: &mut [u64], f: Phy)
     seen::add_key(words, key_of(view::phy_address(f)));
 }
 
-// Adds the addresses of the end devices of expander i.
+// Adds the keys of the addresses of the end devices at expander i.
 fn add_ends(rows: &[u64], words: &mut [u64], i: ExpanderNumber)
     requires { ⌜ ClaimsBefore (domainIn (now rows)) (i .0) (now words) ⌝ }
     ensures { λ _. ⌜ ClaimsBefore (domainIn (now (rows .entry))) (i .0 + 1) (now (words .exit)) ⌝ }
@@ -114,7 +115,7 @@ fn add_ends(rows: &[u64], words: &mut [u64], i: ExpanderNumber)
     }
 }
 
-// Adds the addresses of all expanders.
+// Adds the keys of the addresses of all expanders.
 fn add_expanders(rows: &[u64], words: &mut [u64])
     ensures { λ _. ⌜ ClaimsBefore (domainIn (now (rows .entry))) 0 (now (words .exit)) ⌝ }
 {
@@ -129,7 +130,7 @@ fn add_expanders(rows: &[u64], words: &mut [u64])
     }
 }
 
-// The lowest phy of expander i with cause 8.
+// The lowest phy of expander i at which cause 8 holds.
 fn first_claimed_at(rows: &[u64], words: &[u64], i: ExpanderNumber) -> Check
     requires { ⌜ ClaimsBefore (domainIn (now rows)) (i .0) (now words) ⌝ }
     ensures { λ r. ⌜ checkAnswer (domainIn (now (rows .entry))) r ≡ firstAt 8 (domainIn (now (rows .entry))) (i .0) ⌝ }
@@ -152,7 +153,7 @@ fn first_claimed_at(rows: &[u64], words: &[u64], i: ExpanderNumber) -> Check
     Check::Passed
 }
 
-// The lowest phy, by expander and then phy, with cause 8.
+// The lowest phy, by expander and then phy, at which cause 8 holds.
 pub(crate) fn first_claimed(rows: &[u64]) -> Check
     ensures { λ r. ⌜ checkAnswer (domainIn (now (rows .entry))) r ≡ firstOf 8 (causeOf 8 (domainIn (now (rows .entry)))) (domainIn (now (rows .entry))) ⌝ }
 {

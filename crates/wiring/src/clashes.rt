@@ -1,5 +1,6 @@
-// Cause 9. A set has the addresses with routing attributes of an expander's phys that are passed: phys
-// are compared only where an address may be in it with another attribute, or subtractive phys differ.
+// Cause 9. For each expander, a set has the keys of the attached addresses with routing attributes of
+// the lower phys: these are searched only where the set may have the address with another attribute, or
+// where a lower subtractive phy has another address.
 use crate::Check;
 use crate::Phy;
 use crate::seen;
@@ -16,13 +17,14 @@ ghost use Rattle.wiring.specs.Checks.{checkAnswer, causeOf, firstAt};
 ghost use Rattle.wiring.specs.Seen.{AddedIf};
 ghost use Rattle.wiring.specs.Clashes.{attributeKey, hasOther, mayDiffer, subtractive, mayClash};
 
-// The subtractive phys that are passed: whether there are any, and the last one's address.
+// The attached subtractive phys below a phy: whether there is one, and the address of the highest.
 struct Way {
     found: bool,
     address: u64,
 }
 
-// Whether two phys cannot both stand at one expander.
+// Whether two phys are attached and have the same address and other attributes, or are both subtractive
+// and have other addresses.
 fn are_clashing(f: Phy, g: Phy) -> bool
     ensures { λ r. ⌜ r ≡ clash f g ⌝ }
 {
@@ -43,7 +45,7 @@ fn are_clashing(f: Phy, g: Phy) -> bool
     b == 1
 }
 
-// Cause 9.
+// Cause 9: phy p of expander i clashes with a lower phy of it.
 fn is_clashing(rows: &[u64], i: ExpanderNumber, p: PhyId) -> bool
     ensures { λ r. ⌜ r ≡ clashing (domainIn (now (rows .entry))) (i .0) (p .0) ⌝ }
 {
@@ -59,7 +61,7 @@ fn is_clashing(rows: &[u64], i: ExpanderNumber, p: PhyId) -> bool
     false
 }
 
-// The key of an address with a routing attribute.
+// The key of an address with a routing attribute below 4, in a set of 4,096 keys; 1021 is a prime.
 fn key_of(s: u64, a: u8) -> usize
     ensures { λ r. ⌜ r ≡ attributeKey s a ⌝ }
 {
@@ -76,7 +78,7 @@ fn has_other(words: &[u64], s: u64, a: u8, b: u8) -> bool
     seen::may_have(words, key_of(s, b))
 }
 
-// Whether another attribute than a may be in the set with this address.
+// Whether another attribute than a, below 4, may be in the set with this address.
 fn may_differ(words: &[u64], s: u64, a: u8) -> bool
     ensures { λ r. ⌜ r ≡ mayDiffer (now (words .entry)) s a ⌝ }
 {
@@ -92,7 +94,7 @@ fn may_differ(words: &[u64], s: u64, a: u8) -> bool
     has_other(words, s, a, 3)
 }
 
-// Whether f may clash with a phy that is passed.
+// Whether f may clash with a lower phy: where not, cause 9 does not hold.
 fn may_clash(words: &[u64], way: Way, f: Phy) -> bool
     ensures { λ r. ⌜ r ≡ mayClash (now (words .entry)) (way .found) (way .address) f ⌝ }
 {
@@ -113,7 +115,7 @@ fn may_clash(words: &[u64], way: Way, f: Phy) -> bool
     way.address != s
 }
 
-// Adds the address and the attribute of an attached phy.
+// Adds the key of the address and the attribute of f where it is attached.
 fn add_phy(words: &mut [u64], f: Phy)
     ensures { λ _. ⌜ AddedIf (now (words .entry)) (now (words .exit)) (attached f) (attributeKey (addressOf f) (attributeOf f)) ⌝ }
 {
@@ -123,7 +125,7 @@ fn add_phy(words: &mut [u64], f: Phy)
     seen::add_key(words, key_of(view::phy_address(f), view::phy_attribute(f)));
 }
 
-// The subtractive phys where f is passed too.
+// The subtractive phys below the phy after f.
 fn next_way(way: Way, f: Phy) -> Way
     ensures { λ r. ⌜ (r .found ≡ (subtractive f || way .found)) × (r .address ≡ cond (subtractive f) (addressOf f) (way .address)) ⌝ }
 {
@@ -139,7 +141,7 @@ fn next_way(way: Way, f: Phy) -> Way
     }
 }
 
-// The lowest phy of expander i with cause 9.
+// The lowest phy of expander i at which cause 9 holds.
 fn first_clashing_at(rows: &[u64], i: ExpanderNumber) -> Check
     ensures { λ r. ⌜ checkAnswer (domainIn (now (rows .entry))) r ≡ firstAt 9 (domainIn (now (rows .entry))) (i .0) ⌝ }
 {
@@ -168,7 +170,7 @@ fn first_clashing_at(rows: &[u64], i: ExpanderNumber) -> Check
     Check::Passed
 }
 
-// The lowest phy, by expander and then phy, with cause 9.
+// The lowest phy, by expander and then phy, at which cause 9 holds.
 pub(crate) fn first_clashing(rows: &[u64]) -> Check
     ensures { λ r. ⌜ checkAnswer (domainIn (now (rows .entry))) r ≡ firstOf 9 (causeOf 9 (domainIn (now (rows .entry)))) (domainIn (now (rows .entry))) ⌝ }
 {

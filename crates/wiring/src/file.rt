@@ -15,7 +15,7 @@ ghost use Rattle.wiring.specs.File.{phyUnits, expanders, domainRead};
 ghost use Rattle.wiring.specs.Rows.{readAnswer, countOf};
 ghost use Rattle.wiring.specs.Units.{expanderAnswer, physAnswer, physNext, expanderChecked};
 
-// The n phys of expander i, whose address is `own`.
+// The n phys of expander i, whose address is `own`, from offset `at` on; yields the place after them.
 pub(crate) fn check_phys(file: &[u8], own: u64, i: ExpanderNumber, n: u8, at: usize) -> PhysCheck
     ensures { λ r. ⌜ physAnswer r ≡ physNext (phyUnits (now (file .entry)) own (i .0) n 0 at) ⌝ }
 {
@@ -36,7 +36,7 @@ pub(crate) fn check_phys(file: &[u8], own: u64, i: ExpanderNumber, n: u8, at: us
     PhysCheck::Passed(next)
 }
 
-// Expander i with its phys, and the place after them.
+// Expander i with its phys, at offset `at`, and the place after them.
 fn check_expander(
     most: Limits,
     file: &[u8],

@@ -59,18 +59,19 @@ pub struct ExpanderUnit {
     pub configurable: u8,
 }
 
-// The number of expanders, or why the file is refused.
+// What reading a domain file answers: the number of expanders.
 pub enum DomainRead {
     Refused(Refusal),
     Expanders(u8),
 }
 
-// What a unit reads as, and the place after it.
+// What reading a phy's unit answers: the phy, and the place after the unit.
 pub enum PhyRead {
     Refused(Refusal),
     Read(Phy, usize),
 }
 
+// What reading an expander's unit answers: the unit, and the place after it.
 pub enum ExpanderRead {
     Refused(Refusal),
     Read(ExpanderUnit, usize),

@@ -17,7 +17,8 @@ ghost use Rattle.wiring.specs.Links.{joinedIn, linkedDomain, checkedDoma
 ghost use Rattle.wiring.specs.Checks.{checkAnswer};
 ghost use Rattle.wiring.specs.Rounds.{Held};
 
-// Whether nothing is left when expanders with at most one neighbour are taken away again and again.
+// Whether cause 11 does not hold: in as many rounds as there are expanders, each round takes away those
+// that have at most one neighbour left and do not neighbour themselves, and nothing is left.
 fn is_loopfree(rows: &[u64], words: &[u64]) -> bool
     requires { ⌜ Held (domainIn (now rows)) (now words) ⌝ }
     ensures { λ r. ⌜ r ≡ loopfree (length (domainIn (now (rows .entry)))) (neighbours (domainIn (now (rows .entry)))) ⌝ }
@@ -26,7 +27,7 @@ fn is_loopfree(rows: &[u64], words: &[u64]) -> bool
     rounds::run_rounds(rows, words, 11, all) == 0
 }
 
-// Cause 12: the lowest expander that is not reached from expander 0.
+// Cause 12: the lowest expander without a chain to expander 0. `words` has the neighbour words.
 fn check_joined(rows: &[u64], words: &[u64]) -> Check
     requires { ⌜ Held (domainIn (now rows)) (now words) ⌝ }
     ensures { λ r. ⌜ checkAnswer (domainIn (now (rows .entry))) r ≡ joinedIn (upTo (length (domainIn (now (rows .entry))))) (domainIn (now (rows .entry))) ⌝ }

@@ -42,7 +42,7 @@ fn are_cabled(rows: &[u64], i: ExpanderNumber, j: ExpanderNumber) -> bool
     false
 }
 
-// The key of an address in a set of 4096 keys; 4093 is a prime.
+// The key of an address in a set of 4,096 keys; 4093 is a prime.
 fn key_of(s: u64) -> usize
     ensures { λ r. ⌜ r ≡ cableKey s ⌝ }
 {
@@ -138,7 +138,8 @@ fn neighbour_word(rows: &[u64], cables: &[u64], i: ExpanderNumber) -> u64
     w
 }
 
-// Writes the word of each expander, and returns how many bits are set in all. The words after stay.
+// Writes the neighbour word of each expander, and returns how many bits are set in all. The words
+// after stay.
 pub(crate) fn put_neighbours(rows: &[u64], words: &mut [u64]) -> u64
     requires { ⌜ length (domainIn (now rows)) ≤ length (now words) ⌝ }
     ensures { λ r. ⌜ r ≡ bitsIn (neighbourWords (domainIn (now (rows .entry)))) ⌝ }

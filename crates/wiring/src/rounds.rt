@@ -1,4 +1,5 @@
-// Rounds over sets of expanders, held as 64-bit words with a bit for each expander.
+// Rounds over sets of expanders, held as 64-bit words with a bit for each expander, for causes 11
+// and 12.
 use crate::view;
 use frames::ExpanderNumber;
 ghost use mathlib.Core.Path.{_≡_};
@@ -49,7 +50,7 @@ fn is_next(k: u8, word: u64, set: u64, v: ExpanderNumber) -> bool
     near >= 1
 }
 
-// The next set, in a round of cause k.
+// The next set, in a round of cause k. `words` has the neighbour words.
 fn round(rows: &[u64], words: &[u64], k: u8, set: u64) -> u64
     requires { ⌜ Held (domainIn (now rows)) (now words) × SetBelow (length (domainIn (now rows))) set ⌝ }
     ensures { λ r. ⌜ r ≡ setOf (nextSet k (length (domainIn (now (rows .entry)))) (neighbours (domainIn (now (rows .entry)))) (members (length (domainIn (now (rows .entry)))) set)) ⌝ }
@@ -67,7 +68,7 @@ fn round(rows: &[u64], words: &[u64], k: u8, set: u64) -> u64
     next
 }
 
-// The set after a round of cause k for each expander.
+// The set after as many rounds of cause k as there are expanders.
 pub(crate) fn run_rounds(rows: &[u64], words: &[u64], k: u8, set: u64) -> u64
     requires { ⌜ Held (domainIn (now rows)) (now words) × SetBelow (length (domainIn (now rows))) set ⌝ }
     ensures { λ r. ⌜ RoundsRun (domainIn (now (rows .entry))) k set r ⌝ }

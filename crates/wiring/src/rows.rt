@@ -38,7 +38,7 @@ fn next_got(unit: PhyRead, at: usize) -> usize
     }
 }
 
-// A phy's second word.
+// A phy's second word: the result of a vacant phy, or type, attribute and attached phy.
 fn phy_word(phy: Phy) -> u64
     ensures { λ r. ⌜ r ≡ phyWord phy ⌝ }
 {
@@ -51,7 +51,7 @@ fn phy_word(phy: Phy) -> u64
     }
 }
 
-// An expander's second word.
+// An expander's second word: R, number of phys, configurable bit.
 fn head_word(u: ExpanderUnit) -> u64
     ensures { λ r. ⌜ r ≡ headWord (u .indexes) (u .phys) (u .configurable) ⌝ }
 {
@@ -100,7 +100,7 @@ fn put_row(row: &mut [u64], file: &[u8], u: ExpanderUnit, i: ExpanderNumber, at:
     put_phys(row, file, u.address, i, u.phys, at)
 }
 
-// Writes the rows of the n expanders of a file that was read before.
+// Writes the rows of the n expanders of a file that passed causes 1 to 6.
 fn fill_rows(rows: &mut [u64], most: Limits, file: &[u8], n: u8)
     requires { ⌜ (most .phys ≤ 128) × (258 * n ≤ length (now rows)) ⌝ }
     ensures { λ _. ⌜ now (rows .exit) ≡ pasted (now (rows .entry)) 0 (domainGot most (now (file .entry)) n 0 2) ⌝ }
@@ -125,7 +125,8 @@ fn fill_rows(rows: &mut [u64], most: Limits, file: &[u8], n: u8)
     }
 }
 
-// Reads a domain file into rows. The words after the rows stay, and all of them where it is refused.
+// Reads a domain file into rows: causes 1 to 6, then 16. The words after the rows stay, and all of them
+// where it is refused.
 pub fn read_domain(file: &[u8], rows: &mut [u64]) -> DomainRead
     ensures { λ r. ⌜ RowsRead (now (file .entry)) r (now (rows .entry)) (now (rows .exit)) ⌝ }
 {

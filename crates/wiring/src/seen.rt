@@ -1,9 +1,9 @@
-// Sets of keys, a bit for each, that are never wrong about a key that was added: a key past the
-// last bit is always held for one that may be there.
+// Sets of keys, a bit for each key. The answer "may be there" is given for every key that was added,
+// and for a key past the last bit, which has no bit.
 ghost use mathlib.Core.Path.{_≡_};
 ghost use Rattle.wiring.specs.Seen.{mayHave, KeyAdded};
 
-// Whether k may have been added. False only where it was not.
+// Whether k may have been added: false only where it was not.
 pub fn may_have(words: &[u64], k: usize) -> bool
     ensures { λ r. ⌜ r ≡ mayHave (now (words .entry)) k ⌝ }
 {
@@ -14,7 +14,7 @@ pub fn may_have(words: &[u64], k: usize) -> bool
     (words[at] >> (k % 64)) & 1 == 1
 }
 
-// Adds k; does nothing where k is past the last bit.
+// Adds k. Where k is past the last bit nothing is written.
 pub fn add_key(words: &mut [u64], k: usize)
     ensures { λ _. ⌜ KeyAdded (now (words .entry)) (now (words .exit)) k ⌝ }
 {

@@ -21,7 +21,7 @@ ghost use Rattle.wiring.specs.Lists.{isIn};
 ghost use Rattle.wiring.specs.File.{phyOf, phyUnit, expanderUnit};
 ghost use Rattle.wiring.specs.Units.{phyAnswer, expanderAnswer, endsAt, unitOf};
 
-// Whether the phy identifier and the own address are those of phy p of this expander.
+// Whether cause 5 does not hold: the phy identifier is p, and the own address is this expander's.
 fn is_placed(f: Discover, own: u64, p: PhyId) -> bool
     ensures { λ r. ⌜ r ≡ (eqb (f .identifier .0) (p .0) && eqb (f .own) own) ⌝ }
 {
@@ -31,7 +31,7 @@ fn is_placed(f: Discover, own: u64, p: PhyId) -> bool
     f.own == own
 }
 
-// Whether type, attribute and attached address are ones that a phy can have.
+// Whether cause 6 does not hold: type up to 3, attribute up to 2, and not attached with address zero.
 fn is_ranged(f: Discover) -> bool
     ensures { λ r. ⌜ r ≡ (leb (f .device) 3 && (leb (f .attribute) 2 && (eqb (f .device) 0 || not (eqb (f .attached) 0)))) ⌝ }
 {
@@ -47,7 +47,7 @@ fn is_ranged(f: Discover) -> bool
     f.attached != 0
 }
 
-// Causes 5 and 6 of a phy that is not vacant.
+// Causes 5 and 6 of a phy that is not vacant; `next` is the place after its unit.
 fn phy_of(f: Discover, own: u64, i: ExpanderNumber, p: PhyId, next: usize) -> PhyRead
     ensures { λ r. ⌜ phyAnswer r ≡ then (phyOf own (i .0) (p .0) (fields f)) (endsAt next) ⌝ }
 {
@@ -75,7 +75,7 @@ fn phy_of(f: Discover, own: u64, i: ExpanderNumber, p: PhyId, next: usize) -> Ph
     PhyRead::Read(Phy::Present(phy), next)
 }
 
-// The unit of phy p of expander i, whose address is `own`.
+// The unit of phy p of expander i, whose address is `own`, at offset `at`: causes 1, 2, 5 and 6.
 pub(crate) fn phy_unit(file: &[u8], own: u64, i: ExpanderNumber, p: PhyId, at: usize) -> PhyRead
     ensures { λ r. ⌜ phyAnswer r ≡ phyUnit (now (file .entry)) own (i .0) (p .0) at ⌝ }
 {
@@ -140,7 +140,7 @@ pub(crate) fn is_within(n: u8, most: u8) -> bool
     n <= most
 }
 
-// Causes 3 and 4 of an expander's unit.
+// Causes 3 and 4 of an expander's unit; `next` is the place after it.
 fn unit_of(
     most: Limits,
     g: General,
@@ -174,7 +174,8 @@ fn unit_of(
     ExpanderRead::Read(unit, next)
 }
 
-// The unit of expander i, where `seen` are the addresses of the expanders before it.
+// The unit of expander i at offset `at`, where `seen` are the addresses of the expanders before it:
+// causes 1 to 4.
 pub(crate) fn expander_unit(
     most: Limits,
     file: &[u8],

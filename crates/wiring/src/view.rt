@@ -142,7 +142,7 @@ pub fn phy_at(rows: &[u64], i: ExpanderNumber, p: PhyId) -> Phy
     Phy::Vacant(0)
 }
 
-// The number of the expander with this address; the count of expanders where there is none.
+// The number of the first expander with this address; the count of expanders where there is none.
 pub fn number_of(rows: &[u64], s: u64) -> ExpanderNumber
     ensures { λ r. ⌜ r .0 ≡ numberOf (domainIn (now (rows .entry))) s ⌝ }
 {

@@ -6,14 +6,17 @@ use Rattle.listing.proofs.marks.put_mark.Tie as tie
 cast-marks : tie.Need-cast-marks
 cast-marks c = search needs
 
+cast-marks-2 : tie.Need-cast-marks-2
+cast-marks-2 c = search needs
+
 mul-marks : tie.Need-mul-marks
 mul-marks c = search needs
 
 add-marks : tie.Need-add-marks
 add-marks c = search needs
 
-cast-marks-2 : tie.Need-cast-marks-2
-cast-marks-2 c = search needs
+cast-marks-3 : tie.Need-cast-marks-3
+cast-marks-3 c = search needs
 
 mul-marks-2 : tie.Need-mul-marks-2
 mul-marks-2 c = search needs
@@ -41,9 +44,10 @@ put-mark-spec =
     tie.close
     (tie.spec
     cast-marks
+    cast-marks-2
     mul-marks
     add-marks
-    cast-marks-2
+    cast-marks-3
     mul-marks-2
     add-marks-2
     mul-marks-3

@@ -19,20 +19,20 @@ use Rattle.tables.proofs.own.is_own.Tie as tie
 phy-attribute-requires : tie.Need-phy-attribute-requires
 phy-attribute-requires c κs = search needs
 
+phy-type-requires : tie.Need-phy-type-requires
+phy-type-requires c κs = search needs
+
 returns : tie.Need-returns
 returns c =
-    let a = c .before .before .before .before .args in
+    let a = c .before .before .before .before .before .args in
     let l : List Phy = lower (expanderAt (domainIn (a .rows .now)) (a .i .0) .phys) (a .p .0) in
     sym (owns-by l (a .f) (eq-eqb (attributeOf (a .f)) 0 (omega arith)) refl refl refl)
 
 returns-2 : tie.Need-returns-2
 returns-2 c =
-    let a = c .before .before .before .before .before .args in
+    let a = c .before .before .before .before .before .before .args in
     let l : List Phy = lower (expanderAt (domainIn (a .rows .now)) (a .i .0) .phys) (a .p .0) in
     sym (owns-by l (a .f) (ne-eqb (attributeOf (a .f)) 0 (λ e. omega arith)) (ne-eqb (attributeOf (a .f)) 2 (λ e. omega arith)) refl refl)
-
-phy-type-requires : tie.Need-phy-type-requires
-phy-type-requires c κs = search needs
 
 returns-3 : tie.Need-returns-3
 returns-3 c =
@@ -71,9 +71,9 @@ is-own-spec =
     tie.close
     (tie.spec
     phy-attribute-requires
+    phy-type-requires
     returns
     returns-2
-    phy-type-requires
     returns-3
     phy-address-requires
     may-have-requires
