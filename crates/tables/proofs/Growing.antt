@@ -8,7 +8,7 @@ use native.Mathlib.Omega.{arith}
 use native.Mathlib.Numerals.{add-one}
 use lib.ListN.{length, getD, take, drop, set, replicate, length-set, length-append, length-replicate}
 use lib.ListN.{drop-of-length-le, take-append-drop, replicate-append-replicate}
-use lib.Seq.{drop-cons, set-at, take-suc-set, length-take-le}
+use lib.Seq.{drop-cons, set-at, take-suc, take-suc-set, length-take-le}
 use lib.Dec.{eqb, leb}
 use borrow.Author.Tests.{ne-eqb}
 use Rattle.wiring.specs.declared.Phy.{Phy}
@@ -17,9 +17,12 @@ use Rattle.wiring.specs.Domain.{Domain}
 use Rattle.wiring.proofs.Members.{isIn-of, in-getD, in-cast, is-true}
 use Rattle.wiring.proofs.Searches.{any-go, any-end}
 use Rattle.tables.specs.Tables.{give, giveAll}
-use Rattle.tables.specs.Filling.{add, addAll, Grown}
+use Rattle.tables.specs.Filling.{add, addAll, Grown, Added}
 
--- one place in what is left
+-- one place more, and one place in what is left
+pub take-next : {A : Type 0} (e : A) (l : List A) (k : ℕ) → k < length l → take (k + 1) l ≡ take k l ++ (getD l k e ∷ [])
+take-next e l k h = rw add-one (take-suc l k e h)
+
 pub drop-next : {A : Type 0} (e : A) (l : List A) (k : ℕ) → k < length l → drop k l ≡ (getD l k e ∷ []) ++ drop (k + 1) l
 drop-next e l k h = rw add-one (drop-cons l k e h)
 
@@ -55,12 +58,16 @@ module _ (a i : ℕ) (l : List ℕ) {v : Bool} (inv : isIn a (drop i l) ≡ v) w
 pub stored : (n : ℕ) (l : List ℕ) (v : ℕ) → n < length l → take (n + 1) (set l n v) ≡ take n l ++ (v ∷ [])
 stored n l v h = rw add-one (take-suc-set l n v h)
 
-pub add-by : (room : ℕ) (last l : List ℕ) (j : ℕ) {b₁ b₂ b₃ : Bool} → isIn j last ≡ b₁ → isIn j l ≡ b₂ → leb room (length l) ≡ b₃
-    → addAll room last l (j ∷ []) ≡ cond (b₁ || (b₂ || b₃)) l (l ++ (j ∷ []))
+pub add-by : (room : ℕ) (last l : List ℕ) (j : ℕ) {r a b : Bool} → r ≡ (isIn j last || isIn j l) → r ≡ a → leb room (length l) ≡ b
+    → addAll room last l (j ∷ []) ≡ cond (a || b) l (l ++ (j ∷ []))
 unfolding addAll add
-add-by room last l j q₁ q₂ q₃ = rw (q₁, q₂, q₃)
+add-by room last l j q e h = ap (λ (b : Bool). cond b l (l ++ (j ∷ []))) (shift (isIn j last) (isIn j l) (leb room (length l))) ∙ rw (sym q, e, h)
+  where
+    shift : (a b c : Bool) → (a || (b || c)) ≡ ((a || b) || c)
+    shift true b c = refl
+    shift false b c = refl
 
-addAll-append : (room : ℕ) (last l xs ys : List ℕ) → addAll room last l (xs ++ ys) ≡ addAll room last (addAll room last l xs) ys
+pub addAll-append : (room : ℕ) (last l xs ys : List ℕ) → addAll room last l (xs ++ ys) ≡ addAll room last (addAll room last l xs) ys
 unfolding addAll
 addAll-append room last l [] ys = refl
 addAll-append room last l (x ∷ xs) ys = addAll-append room last (add room last l x) xs ys
@@ -75,9 +82,6 @@ grown-kept n next q h = record { same = refl; fits = h; whole = sym q }
 pub grown-more : (n : ℕ) (next : List ℕ) {l : List ℕ} (j : ℕ) → l ≡ take n next ++ (j ∷ []) → n < length next → Grown next (set next n j) (n + 1) l
 grown-more n next j q h = record { same = length-set next n j; fits = omega arith; whole = stored n next j h ∙ sym q }
 
-pub grown-again : {before after : List ℕ} {r : ℕ} {l : List ℕ} → Grown before after r l → Grown after after r l
-grown-again {before} {after} {r} g = let s = g .same in let h = g .fits in record { same = refl; fits = omega arith; whole = g .whole }
-
 pub grown-length : {before after : List ℕ} {r : ℕ} {l : List ℕ} → Grown before after r l → r ≡ length l
 grown-length {before} {after} {r} {l} g =
     let s = g .same in
@@ -88,13 +92,19 @@ pub grown-same : {before after : List ℕ} {r : ℕ} {l m : List ℕ} → Grown 
 grown-same g q = record { same = g .same; fits = g .fits; whole = g .whole ∙ q }
 
 module _ (room : ℕ) (last l rest : List ℕ) {v : List ℕ} (inv : addAll room last l rest ≡ v) where
-  pub add-go : (piece rest' : List ℕ) {l' : List ℕ} → rest ≡ piece ++ rest' → l' ≡ addAll room last l piece → addAll room last l' rest' ≡ v
+  add-go : (piece rest' : List ℕ) {l' : List ℕ} → rest ≡ piece ++ rest' → l' ≡ addAll room last l piece → addAll room last l' rest' ≡ v
   add-go piece rest' q e =
       ap (λ (m : List ℕ). addAll room last m rest') e ∙ sym (ap (addAll room last l) q ∙ addAll-append room last l piece rest') ∙ inv
 
   pub add-end : rest ≡ [] → l ≡ v
   unfolding addAll
   add-end q = sym (ap (addAll room last l) q) ∙ inv
+
+module _ (room : ℕ) (last before rest : List ℕ) (n : ℕ) {v : List ℕ} (inv : addAll room last (take n before) rest ≡ v) where
+  pub added-go : (piece rest' : List ℕ) {after : List ℕ} {r : ℕ} → Added last before after n r piece → length before ≡ room → rest ≡ piece ++ rest'
+      → addAll room last (take r after) rest' ≡ v
+  added-go piece rest' g s q =
+      add-go room last (take n before) rest inv piece rest' q (g .whole ∙ ap (λ (k : ℕ). addAll k last (take n before) piece) s)
 
 -- words copied one by one after the first ones
 module _ (to k : ℕ) (part words : List ℕ) {v : List ℕ} (inv : take to part ++ drop k words ≡ v) where

@@ -18,10 +18,11 @@ use Rattle.tables.specs.Levels.{down, nextLevel, levelsFrom, levels}
 use Rattle.tables.specs.Tables.{word, heldBy, gives, give, giveAll, levelList}
 use Rattle.tables.specs.Own.{owns, ownFrom, own, ownList}
 use Rattle.tables.specs.Filling.{physOf}
-use Rattle.tables.proofs.Beyond.{Leads, Table, Sub, Descent, last-snoc, linked-clear, table-start, table-back, adj-cases, one-sub, descent-chain, descent-snoc, in-next, down-leads, levels-few, levels-none}
+use Rattle.tables.proofs.Beyond.{Leads, Table, Sub, Descent, last-snoc, linked-clear, table-start, table-back, adj-cases, one-sub, descent-chain, descent-snoc, in-next, down-leads, levels-few}
 use Rattle.tables.proofs.Listed.{held-cases, held-self, held-phy, in-give, give-old, give-new, in-given, given-in, end-far}
 use Rattle.tables.proofs.Growing.{flat-append, and-false, giveAll-append}
-use Rattle.tables.proofs.Queues.{below-none, below-one}
+use Rattle.tables.proofs.Queues.{below-one}
+use Rattle.tables.proofs.Orders.{order-none, order-levels}
 
 -- the phys of one expander, after the list `before`
 module _ (d : Domain) (x : ℕ) (before : List ℕ) where
@@ -283,9 +284,8 @@ module _ (d : Domain) (w : Wired d) (r : Linked d) where
         ∙ append-assoc (given done) (own d e) (flatMap (own d) es)
 
 -- the law, whether the phy leads down or not
-levels-empty : (d : Domain) (x p : ℕ) → ¬ (T (down d (phyAt d x p))) → levels d x p ≡ []
-unfolding levels
-levels-empty d x p k = rw (below-none d (phyAt d x p) (is-false (down d (phyAt d x p)) k)) (levels-none (length d) d (x ∷ []))
+pub levels-empty : (d : Domain) (x p : ℕ) → ¬ (T (down d (phyAt d x p))) → levels d x p ≡ []
+levels-empty d x p k = sym (order-levels d x p) ∙ order-none d x (phyAt d x p) (is-false (down d (phyAt d x p)) k)
 
 law-down : (d : Domain) → Wired d → Linked d → (x p : ℕ) → T (down d (phyAt d x p)) → levelList d x p ≡ ownList d x p
 unfolding levelList ownList levels giveAll flatMap

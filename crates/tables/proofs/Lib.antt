@@ -9,11 +9,15 @@ pub mod Given
 pub mod Growing
 pub mod Cells
 pub mod Owns
+pub mod Held
 pub mod Queues
+pub mod Linked
 pub mod Orders
+pub mod Collecting
 pub mod Law
 pub mod Fills
 pub mod Puts
+pub mod Copies
 pub mod Over
 pub mod Judging
 pub mod Lawful

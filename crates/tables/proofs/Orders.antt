@@ -1,20 +1,19 @@
 -- The order of a phy's levels, made level by level from the expanders below each, each once.
 use Prim.Native.Nat.{ℕ, suc, _+_, _-_, _≤_, _<_}
 use mathlib.Core.Path.{_≡_, refl, sym, _∙_, ap, subst}
-use mathlib.Core.Bool.{Bool, true, false, cond, not, _&&_}
+use mathlib.Core.Bool.{Bool, true, false, not}
 use mathlib.Core.Logic.{inl, inr, ⊎-elim}
 use mathlib.Core.List.{List, [], _∷_, _++_, flatMap, append-nil, append-assoc}
 use native.Mathlib.Omega.{arith}
 use lib.ListN.{length, List·getD-eq-default}
-use lib.Dec.{T, eqb, eqb→eq}
+use lib.Dec.{T, eqb→eq}
 use Rattle.wiring.specs.declared.Phy.{Phy}
-use Rattle.wiring.specs.declared.Phy.the-variants.{Vacant}
 use Rattle.wiring.specs.Lists.{keep, isIn, any, In, Below}
-use Rattle.wiring.specs.Domain.{Domain, Expander, noExpander, phyAt, addressOf, routes, toExpander, numberOf}
-use Rattle.wiring.proofs.Members.{in-cast, isIn-of, of-isIn, was-true, was-false, at-most, in-flatMap, flatMap-in}
+use Rattle.wiring.specs.Domain.{Domain, Expander, noExpander, phyAt, addressOf, numberOf}
+use Rattle.wiring.proofs.Members.{and-left, and-right, is-true, in-cast, isIn-of, of-isIn, was-true, was-false, at-most, in-flatMap, flatMap-in}
 use Rattle.tables.specs.Levels.{once, down, belowPhys, below, nextLevel, levelsFrom, levels}
 use Rattle.tables.specs.Filling.{addAll}
-use Rattle.tables.specs.Prepared.{belowOnce, orderOf, alike}
+use Rattle.tables.specs.Prepared.{belowOnce, orderOf, oneLink}
 use Rattle.tables.proofs.Once.{once-skip, once-take, in-once, once-distinct}
 use Rattle.tables.proofs.Beyond.{levels-none}
 use Rattle.tables.proofs.Queues.{below-none, below-one, level-under, all-new}
@@ -129,27 +128,26 @@ module _ (d : Domain) (n k : ℕ) (l last level : List ℕ) {v : List ℕ} (inv 
   unfolding levelsFrom
   order-end h = let z : n - k ≡ 0 = omega arith in sym (append-nil l) ∙ rw z at inv
 
--- the order of a phy where nothing goes on, of one of the same link, and of phy p
-pub order-none : (d : Domain) (x r : ℕ) → orderOf d x (Vacant r) ≡ []
-unfolding orderOf belowPhys keep
-order-none d x r = levels-none (length d) d (x ∷ [])
+-- a phy where the levels do not go on has no order
+pub order-none : (d : Domain) (x : ℕ) (φ : Phy) → down d φ ≡ false → orderOf d x φ ≡ []
+unfolding orderOf
+order-none d x φ q = ap (levelsFrom (length d) d (x ∷ [])) (below-none d φ q) ∙ levels-none (length d) d (x ∷ [])
 
-pub alike-by : (φ ψ : Phy) {a b : Bool} → (toExpander φ && routes 2 φ) ≡ a → (toExpander ψ && routes 2 ψ) ≡ b
-    → alike φ ψ ≡ cond a (b && eqb (addressOf φ) (addressOf ψ)) (not b)
-unfolding alike
-alike-by φ ψ p q = rw (p, q)
+-- phys of one link have the same order
+module _ (d : Domain) (φ ψ : Phy) (one : T (oneLink φ ψ)) where
+  pub linked-number : belowPhys d (φ ∷ []) ≡ belowPhys d (ψ ∷ [])
+  unfolding oneLink
+  linked-number =
+      let more = and-right (down d φ) _ one in
+      let same = eqb→eq (addressOf φ) (addressOf ψ) (and-right (down d ψ) _ more) in
+      below-one d φ (is-true (down d φ) (and-left (down d φ) _ one)) ∙ ap (λ (s : ℕ). numberOf d s ∷ []) same
+      ∙ sym (below-one d ψ (is-true (down d ψ) (and-left (down d ψ) _ more)))
 
-pub order-alike : (d : Domain) (x : ℕ) (φ ψ : Phy) → alike φ ψ ≡ true → orderOf d x φ ≡ orderOf d x ψ
-unfolding orderOf alike
-order-alike d x φ ψ q = ap (levelsFrom (length d) d (x ∷ [])) (go (down d φ) refl (down d ψ) refl q)
-  where
-    go : (a : Bool) → down d φ ≡ a → (b : Bool) → down d ψ ≡ b → cond a (b && eqb (addressOf φ) (addressOf ψ)) (not b) ≡ true
-        → belowPhys d (φ ∷ []) ≡ belowPhys d (ψ ∷ [])
-    go true e true f t = below-one d φ e ∙ ap (λ (s : ℕ). numberOf d s ∷ []) (eqb→eq (addressOf φ) (addressOf ψ) (was-true _ t)) ∙ sym (below-one d ψ f)
-    go true e false f t = absurd (was-true false t)
-    go false e true f t = absurd (was-true false t)
-    go false e false f t = below-none d φ e ∙ sym (below-none d ψ f)
+pub order-linked : (d : Domain) (x : ℕ) (φ ψ : Phy) → T (oneLink φ ψ) → orderOf d x φ ≡ orderOf d x ψ
+unfolding orderOf
+order-linked d x φ ψ one = ap (levelsFrom (length d) d (x ∷ [])) (linked-number d φ ψ one)
 
+-- the order of phy p
 pub order-levels : (d : Domain) (x p : ℕ) → orderOf d x (phyAt d x p) ≡ levels d x p
 unfolding orderOf levels
 order-levels d x p = refl

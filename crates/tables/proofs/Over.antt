@@ -1,26 +1,59 @@
--- A level list that is too long, by own lists: one phy's test, and the tests of all phys.
-use Prim.Native.Nat.{ℕ}
-use mathlib.Core.Path.{_≡_, refl, _∙_, ap}
+-- A level list that is too long, by own lists: a phy on a link with a lower phy, one where the levels do not go on, and the others.
+use Prim.Native.Nat.{ℕ, _+_, _<_}
+use mathlib.Core.Path.{_≡_, refl, sym, _∙_, ap}
 use mathlib.Core.Bool.{Bool, true, false, _&&_}
-use mathlib.Core.List.{List, flatMap}
+use mathlib.Core.Logic.{by-cases}
+use mathlib.Core.List.{List, [], flatMap}
+use native.Mathlib.Omega.{arith}
+use native.Mathlib.Decide.{decLt}
 use lib.ListN.{length}
-use lib.Dec.{eqb, ltb}
+use lib.Dec.{T, ltb, ltb→lt}
 use Rattle.wiring.specs.declared.Phy.{Phy}
-use Rattle.wiring.specs.Domain.{Domain, expanderAt, phyAt, attributeOf, routes}
+use Rattle.wiring.specs.Domain.{Domain, expanderAt, phyAt, routes, toExpander}
+use Rattle.wiring.proofs.Members.{and-left, and-right, is-true, is-false, was-true, was-false}
+use Rattle.tables.specs.Levels.{levels}
 use Rattle.tables.specs.Own.{own, ownList}
-use Rattle.tables.specs.Prepared.{orderOf, overOwn}
-use Rattle.tables.proofs.Orders.{order-levels}
+use Rattle.tables.specs.Prepared.{orderOf, oneLink, overOwn}
+use Rattle.tables.proofs.Growing.{and-false}
+use Rattle.tables.proofs.Law.{levels-empty}
+use Rattle.tables.proofs.Orders.{order-linked, order-levels}
 
-pub no-table : (φ : Phy) (b : Bool) → eqb (attributeOf φ) 2 ≡ false → false ≡ (routes 2 φ && b)
-no-table φ b q = rw q
+-- phys of one link are table phys with the same levels
+pub over-linked : (d : Domain) (i q p : ℕ) → T (oneLink (phyAt d i q) (phyAt d i p)) → overOwn d i q ≡ overOwn d i p
+unfolding overOwn ownList oneLink
+over-linked d i q p one =
+    let φ : Phy = phyAt d i q in
+    let ψ : Phy = phyAt d i p in
+    let more = and-right (toExpander φ && routes 2 φ) _ one in
+    let a = is-true (routes 2 φ) (and-right (toExpander φ) _ (and-left (toExpander φ && routes 2 φ) _ one)) in
+    let b = is-true (routes 2 ψ) (and-right (toExpander ψ) _ (and-left (toExpander ψ && routes 2 ψ) _ more)) in
+    let e = sym (order-levels d i q) ∙ order-linked d i φ ψ one ∙ order-levels d i p in
+    rw (a, b, e) refl
 
-pub is-table : (φ : Phy) (b : Bool) → eqb (attributeOf φ) 2 ≡ true → b ≡ (routes 2 φ && b)
-is-table φ b q = rw q
+-- phy p, by the tests of the phy that was read
+module _ (d : Domain) (i p : ℕ) (φ : Phy) (at : φ ≡ phyAt d i p) where
+  goes : {b : Bool} → (toExpander φ && routes 2 φ) ≡ b → (toExpander (phyAt d i p) && routes 2 (phyAt d i p)) ≡ b
+  goes q = ap (λ (χ : Phy). toExpander χ && routes 2 χ) (sym at) ∙ q
 
--- phy p of expander i, by the order of its levels
-pub over-order : (d : Domain) (i p : ℕ) (φ : Phy) (order : List ℕ) → φ ≡ phyAt d i p → order ≡ orderOf d i φ
-    → (routes 2 φ && ltb (expanderAt d i .indexes) (length (flatMap (own d) order))) ≡ overOwn d i p
-unfolding overOwn ownList
-over-order d i p φ order q e =
-    let f = e ∙ ap (orderOf d i) q ∙ order-levels d i p in
-    rw (q, f) refl
+  -- no levels, no words
+  pub over-none : (toExpander φ && routes 2 φ) ≡ false → overOwn d i p ≡ false
+  unfolding overOwn ownList flatMap
+  over-none q =
+      let e : levels d i p ≡ [] = levels-empty d i p (was-false _ (goes q)) in
+      let r : ℕ = expanderAt d i .indexes in
+      let z = is-false (ltb r 0) (λ t. let h = ltb→lt r 0 t in omega arith) in
+      rw (e, z) (and-false (routes 2 (phyAt d i p)))
+
+  -- where the levels go on, by their order
+  pub over-order : (order : List ℕ) → (toExpander φ && routes 2 φ) ≡ true → order ≡ orderOf d i φ
+      → ltb (expanderAt d i .indexes) (length (flatMap (own d) order)) ≡ overOwn d i p
+  unfolding overOwn ownList
+  over-order order q e =
+      let a = is-true (routes 2 (phyAt d i p)) (and-right (toExpander (phyAt d i p)) _ (was-true _ (goes q))) in
+      let f = e ∙ ap (orderOf d i) at ∙ order-levels d i p in
+      rw (a, f) refl
+
+-- false below p, and at p
+pub below-next : (test : ℕ → Bool) (p : ℕ) → ((k : ℕ) → k < p → test k ≡ false) → test p ≡ false → (k : ℕ) → k < p + 1 → test k ≡ false
+below-next test p all here k h =
+    by-cases (decLt k p) (all k) (λ n. let e : k ≡ p = omega arith in ap test e ∙ here)

@@ -3,21 +3,22 @@ use Prim.Native.Nat.{ℕ, _+_, _≤_, _<_}
 use mathlib.Core.Path.{_≡_, refl, sym, _∙_, ap, subst}
 use mathlib.Core.Bool.{Bool, true, false, cond, not, _||_}
 use mathlib.Core.List.{List, [], _∷_, _++_, map, flatMap, append-nil, append-assoc, map-append}
-use mathlib.Core.Logic.{inl, inr}
+use mathlib.Core.Logic.{inl, inr, ⊎-elim}
 use native.Mathlib.Omega.{arith}
-use lib.ListN.{length, getD, drop, length-append, drop-of-length-le}
+use lib.ListN.{length, getD, take, length-append}
+use lib.Seq.{take-all}
 use lib.Dec.{T, eqb, leb}
 use borrow.Author.Tests.{lt-leb}
 use Rattle.wiring.specs.declared.Phy.{Phy}
 use Rattle.wiring.specs.declared.Phy.the-variants.{Vacant}
-use Rattle.wiring.specs.Lists.{any, keep, isIn, Distinct, Below}
+use Rattle.wiring.specs.Lists.{any, keep, isIn, In, Distinct, Below}
 use Rattle.wiring.specs.Domain.{Domain, expanderAt, addressOf, numberOf}
-use Rattle.wiring.proofs.Members.{was-false, isIn-of, in-map, in-flatMap, all-cons, keep-append, at-most}
+use Rattle.wiring.proofs.Members.{was-false, isIn-of, in-cast, in-map, map-in, in-flatMap, all-cons, keeps, kept, keep-append, at-most}
 use Rattle.tables.specs.Levels.{once, down, belowPhys, below}
 use Rattle.tables.specs.Filling.{add, addAll}
 use Rattle.tables.proofs.Once.{once-skip, once-take}
 use Rattle.tables.proofs.Few.{number-most}
-use Rattle.tables.proofs.Growing.{drop-next}
+use Rattle.tables.proofs.Growing.{take-next}
 
 -- the expanders below some phys
 module _ (d : Domain) where
@@ -33,17 +34,22 @@ module _ (d : Domain) where
   unfolding belowPhys
   below-append l m = ap (map (λ φ. numberOf d (addressOf φ))) (keep-append (down d) l m) ∙ map-append _ (keep (down d) l) (keep (down d) m)
 
-  pub below-start : (i : ℕ) → belowPhys d (expanderAt d i .phys) ≡ below d i
-  unfolding below
-  below-start i = refl
+  -- one phy more, and all
+  pub below-more : (φs : List Phy) (p : ℕ) → p < length φs
+      → belowPhys d (take (p + 1) φs) ≡ belowPhys d (take p φs) ++ belowPhys d (getD φs p (Vacant 0) ∷ [])
+  below-more φs p h = ap (belowPhys d) (take-next (Vacant 0) φs p h) ∙ below-append (take p φs) (getD φs p (Vacant 0) ∷ [])
 
-  pub below-next : (φs : List Phy) (p : ℕ) → p < length φs
-      → belowPhys d (drop p φs) ≡ belowPhys d (getD φs p (Vacant 0) ∷ []) ++ belowPhys d (drop (p + 1) φs)
-  below-next φs p h = ap (belowPhys d) (drop-next (Vacant 0) φs p h) ∙ below-append (getD φs p (Vacant 0) ∷ []) (drop (p + 1) φs)
+  pub below-whole : (φs : List Phy) (p : ℕ) → length φs ≤ p → belowPhys d (take p φs) ≡ belowPhys d φs
+  below-whole φs p h = ap (belowPhys d) (take-all p φs h)
 
-  pub below-last : (φs : List Phy) (p : ℕ) → length φs ≤ p → belowPhys d (drop p φs) ≡ []
-  unfolding belowPhys keep
-  below-last φs p h = rw (drop-of-length-le φs h)
+  -- the expander below one of them is among these
+  pub below-among : (φs : List Phy) (φ : Phy) → In φ φs → (w : ℕ) → In w (belowPhys d (φ ∷ [])) → In w (belowPhys d φs)
+  unfolding belowPhys
+  below-among φs φ i w h =
+      let m = in-map (λ φ. numberOf d (addressOf φ)) (keep (down d) (φ ∷ [])) w h in
+      let k = kept (down d) (φ ∷ []) (m .0) (m .1) in
+      let e : m .0 ≡ φ = ⊎-elim (λ q. q) (λ o. absurd o) (k .0) in
+      in-cast (belowPhys d φs) (m .2) (map-in (λ φ. numberOf d (addressOf φ)) (keep (down d) φs) (m .0) (keeps (down d) φs (m .0) (in-cast φs e i) (k .1)))
 
 pub phys-under : (d : Domain) (n : ℕ) → length d < n → (φs : List Phy) → Below n (belowPhys d φs)
 unfolding belowPhys
@@ -112,11 +118,3 @@ pub all-new : (last js : List ℕ) → Below 65 js → addAll 65 last [] js ≡ 
 all-new last js h =
     let k : Kept 65 [] [] = record { same = λ w. refl; long = refl; distinct = tt; under = λ w i. absurd i } in
     all-added 65 last js [] [] k h
-
-pub first-level : (d : Domain) (φ : Phy) → addAll 65 [] [] (belowPhys d (φ ∷ [])) ≡ belowPhys d (φ ∷ [])
-unfolding addAll add belowPhys keep isIn any
-first-level d φ = go (down d φ)
-  where
-    go : (b : Bool) → addAll 65 [] [] (map (λ φ. numberOf d (addressOf φ)) (cond b (φ ∷ []) [])) ≡ map (λ φ. numberOf d (addressOf φ)) (cond b (φ ∷ []) [])
-    go true = refl
-    go false = refl

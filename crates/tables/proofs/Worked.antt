@@ -47,3 +47,19 @@ figure50′ =
 pub other-phys : table figure50′ 0 0 ≡ 0 ∷ 11 ∷ 11 ∷ 0 ∷ []
 unfolding figure50′ numbers any keep isIn numberOf once belowPhys below nextLevel levelsFrom levels heldBy gives give giveAll levelList table flatMap
 other-phys = refl
+
+-- a comb: three expanders in a row with addresses 1 to 3, a tooth at each with 4 to 6; drives 10 to 12 in the row, 20 to 22 at the teeth
+pub comb : Domain
+comb =
+    record { address = 1; indexes = 7; configurable = 1; phys = phy 2 2 2 0 ∷ phy 2 2 4 0 ∷ phy 1 0 10 0 ∷ [] }
+    ∷ record { address = 2; indexes = 3; configurable = 1; phys = phy 2 1 1 0 ∷ phy 2 2 3 0 ∷ phy 2 2 5 0 ∷ phy 1 0 11 0 ∷ [] }
+    ∷ record { address = 3; indexes = 1; configurable = 1; phys = phy 2 1 2 1 ∷ phy 2 2 6 0 ∷ phy 1 0 12 0 ∷ [] }
+    ∷ record { address = 4; indexes = 0; configurable = 0; phys = phy 2 1 1 1 ∷ phy 1 0 20 0 ∷ [] }
+    ∷ record { address = 5; indexes = 0; configurable = 0; phys = phy 2 1 2 2 ∷ phy 1 0 21 0 ∷ [] }
+    ∷ record { address = 6; indexes = 0; configurable = 0; phys = phy 2 1 3 1 ∷ phy 1 0 22 0 ∷ [] }
+    ∷ []
+
+-- the tooth with 21, at level 2, comes before that with 22, at level 3, though the latter's expander comes before it in level 2
+pub level-order : table comb 0 0 ≡ 3 ∷ 5 ∷ 11 ∷ 6 ∷ 12 ∷ 21 ∷ 22 ∷ []
+unfolding comb numbers any keep isIn numberOf once belowPhys below nextLevel levelsFrom levels heldBy gives give giveAll levelList table flatMap
+level-order = refl

@@ -7,6 +7,7 @@ mod levels;
 mod order;
 mod overlong;
 mod own;
+mod wide;
 
 pub use all_tables::needed_words;
 pub use all_tables::table_count;

@@ -1,25 +1,24 @@
 // Cause 14 by own lists: those of a table phy's levels have more than R words in all.
 use crate::below;
+use crate::levels;
 use crate::order;
 use crate::own;
+use crate::wide;
 use frames::ExpanderNumber;
 use frames::PhyId;
 use frames::Refusal;
 use wiring::Check;
-use wiring::Phy;
 ghost use mathlib.Core.Path.{_≡_};
-ghost use mathlib.Core.Bool.{_&&_};
+ghost use mathlib.Core.Bool.{false};
 ghost use mathlib.Core.List.{flatMap};
-ghost use Prim.Native.Nat.{_≤_};
+ghost use Prim.Native.Nat.{ℕ, _≤_, _<_};
 ghost use lib.ListN.{length};
-ghost use lib.Dec.{ltb};
 ghost use Rattle.wiring.specs.Causes.{firstIn, firstOf};
 ghost use Rattle.wiring.specs.Checks.{checkAnswer};
-ghost use Rattle.wiring.specs.Domain.{expanderAt, routes};
 ghost use Rattle.wiring.specs.Rows.{domainIn};
 ghost use Rattle.tables.specs.Filling.{placesAt};
 ghost use Rattle.tables.specs.Own.{own};
-ghost use Rattle.tables.specs.Prepared.{OwnHeld, BelowHeld, overOwn};
+ghost use Rattle.tables.specs.Prepared.{OwnHeld, BelowHeld, overOwn, Told};
 
 // How many words the own lists of these expanders have.
 fn count_words(rows: &[u64], lists: &[u64], order: &[u8]) -> usize
@@ -36,20 +35,34 @@ fn count_words(rows: &[u64], lists: &[u64], order: &[u8]) -> usize
     sum
 }
 
-// Is f a table phy of expander i whose levels' own lists have more than R words? `order` has the
-// expanders of its levels.
-fn is_overlong(rows: &[u64], lists: &[u64], i: ExpanderNumber, f: Phy, order: &[u8]) -> bool
-    requires { ⌜ OwnHeld (domainIn (now rows)) (now lists) × (length (now order) ≤ 4160) ⌝ }
-    ensures { λ r. ⌜ r ≡ (routes 2 f && ltb (expanderAt (domainIn (now (rows .entry))) (i .0) .indexes)
-        (length (flatMap (own (domainIn (now (rows .entry)))) (now (order .entry))))) ⌝ }
+// Are the own lists of the levels of phy p of expander i, a table phy, more than R words? q is a lower phy
+// of its link, whose levels are the same and were not too long, or is not lower. `order` is room for the
+// levels of one phy.
+fn is_overlong(
+    rows: &[u64],
+    lists: &[u64],
+    below: &[u8],
+    i: ExpanderNumber,
+    p: PhyId,
+    q: u8,
+    order: &mut [u8],
+) -> bool
+    requires { ⌜ OwnHeld (domainIn (now rows)) (now lists) × (BelowHeld (domainIn (now rows)) (now below) × ((length (now order) ≡ 4160)
+        × (Told (domainIn (now rows)) (i .0) (p .0) q × ((k : ℕ) → k < p .0 → overOwn (domainIn (now rows)) (i .0) k ≡ false)))) ⌝ }
+    ensures { λ r. ⌜ r ≡ overOwn (domainIn (now (rows .entry))) (i .0) (p .0) ⌝ }
 {
-    if wiring::phy_attribute(f) != 2 {
+    if q < p.0 {
         return false;
     }
-    (wiring::index_count(rows, i) as usize) < count_words(rows, lists, order)
+    let f = wiring::phy_at(rows, i, p);
+    if !levels::is_down(f) {
+        return false;
+    }
+    let m = order::put_order(rows, below, i, f, order);
+    (wiring::index_count(rows, i) as usize) < count_words(rows, lists, &order[..m])
 }
 
-// The lowest such phy of expander i. `order` is room for the levels of one phy.
+// The lowest such phy of expander i.
 fn overlong_phy(
     rows: &[u64],
     lists: &[u64],
@@ -62,14 +75,11 @@ fn overlong_phy(
         ≡ firstIn 14 (overOwn (domainIn (now (rows .entry)))) (placesAt (domainIn (now (rows .entry))) (i .0)) (domainIn (now (rows .entry))) ⌝ }
 {
     let n = wiring::phy_count(rows, i);
-    let mut g = Phy::Vacant(0);
-    let mut m: usize = 0;
+    let mut slots = [255u8; 256];
     let mut p: u8 = 0;
     while p < n {
-        let f = wiring::phy_at(rows, i, PhyId(p));
-        m = order::order_for(rows, below, i, g, m, f, order);
-        g = f;
-        if is_overlong(rows, lists, i, f, &order[..m]) {
+        let q = wide::lower_phy(rows, &mut slots[..], i, PhyId(p));
+        if is_overlong(rows, lists, below, i, PhyId(p), q, order) {
             return Check::Refused(Refusal {
                 number: 14,
                 expander: i,

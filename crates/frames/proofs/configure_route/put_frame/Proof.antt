@@ -11,7 +11,7 @@ disable-byte-requires : tie.Need-disable-byte-requires
 disable-byte-requires c κs = search needs
 
 clear-front-requires : tie.Need-clear-front-requires
-clear-front-requires c κs = search needs
+clear-front-requires c κs = omega arith
 
 slice-write-buf : tie.Need-slice-write-buf
 slice-write-buf c = search needs

@@ -1,4 +1,9 @@
 use borrow.Author.Needs.{needs}
+use Prim.Native.Nat.{ℕ}
+use mathlib.Core.List.{List}
+use native.Mathlib.Omega.{arith}
+use lib.ListN.{length}
+use Rattle.frames.specs.Bytes.{byte}
 use borrow.Author.Tests.{eq-eqb, ne-eqb, le-leb, lt-leb}
 use Rattle.frames.specs.ConfigureRoute.{routeRead}
 use Rattle.frames.proofs.configure_route.read_route.Statement.{statement}
@@ -27,7 +32,10 @@ shared-slice-read-phy c = search needs
 
 returns-4 : tie.Need-returns-4
 unfolding routeRead
-returns-4 c = search (needs, eq-eqb, lt-leb)
+returns-4 c =
+    let s : List ℕ = c .before .before .before .before .before .before .before .before .args .frame .now in
+    let first = eq-eqb (length s) 40 (omega arith) in
+    simp (first, eq-eqb (byte s 0) 0x40 (omega arith), eq-eqb (byte s 1) 0x90 (omega arith), lt-leb (byte s 9) 127 (omega arith))
 
 number-at-requires : tie.Need-number-at-requires
 number-at-requires c κs = search needs

@@ -1,4 +1,5 @@
-use borrow.Author.Needs.{needs}
+use native.Mathlib.Omega.{arith}
+use lib.ListN.{length}
 use borrow.Author.Tests.{le-leb, lt-leb}
 use Rattle.frames.specs.ConfigureRoute.{routeWritten}
 use Rattle.frames.proofs.configure_route.route_refusal.Statement.{statement}
@@ -6,15 +7,19 @@ use Rattle.frames.proofs.configure_route.route_refusal.Tie as tie
 
 returns : tie.Need-returns
 unfolding routeWritten
-returns c = search (needs, le-leb, lt-leb)
+returns c = simp (lt-leb (c .before .before .args .request .phy .0) 127 (omega arith))
 
 returns-2 : tie.Need-returns-2
 unfolding routeWritten
-returns-2 c = search (needs, le-leb, lt-leb)
+returns-2 c =
+    let a = c .before .before .before .args in
+    simp (le-leb (a .request .phy .0) 127 (omega arith), lt-leb 40 (length (a .buf .now)) (omega arith))
 
 returns-3 : tie.Need-returns-3
 unfolding routeWritten
-returns-3 c = search (needs, le-leb, lt-leb)
+returns-3 c =
+    let a = c .before .before .before .args in
+    simp (le-leb (a .request .phy .0) 127 (omega arith), le-leb 40 (length (a .buf .now)) (omega arith))
 
 pub route-refusal-spec : {M : Type 1} → statement M
 route-refusal-spec = tie.close (tie.spec returns returns-2 returns-3)

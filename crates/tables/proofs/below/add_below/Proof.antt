@@ -34,12 +34,13 @@ expander-count-requires c κs = search needs
 
 returns : tie.Need-returns
 returns c =
-    let a = c .before .before .before .before .before .before .before .args in
+    let s = c .before .before .before .before .before .before .before .before in
+    let a = s .args in
     let e = c .before .before .expander-count .ensures .0 in
     let l : List ℕ = take (a .n) (a .next .now) in
     let room : ℕ = length (a .next .now) in
     let p = below-past (domainIn (a .rows .now)) (a .i .0) (omega arith) in
-    grown-kept (a .n) (a .next .now) (ap (addAll room (a .last .now) l) p ∙ addAll-none room (a .last .now) l) (omega arith)
+    (grown-kept (a .n) (a .next .now) (ap (addAll room (a .last .now) l) p ∙ addAll-none room (a .last .now) l) (omega arith), s .pre .1 .1)
 
 cast-a : tie.Need-cast-a
 cast-a c = search needs
@@ -55,14 +56,14 @@ shared-slice-read-to c = search needs
 
 cast-to : tie.Need-cast-to
 cast-to c =
-    let s = c .before .before .before .before .before .before .before .before .before in
+    let s = c .before .before .before .before .before .before .before .before .before .before in
     let e = c .before .before .before .before .expander-count .ensures in
     let r = reads (domainIn (s .args .rows .now)) (s .args .below .now) (s .pre .0) (omega arith) (s .args .i .0) (omega arith) in
     omega arith
 
 add-to : tie.Need-add-to
 add-to c =
-    let s = c .before .before .before .before .before .before .before .before .before in
+    let s = c .before .before .before .before .before .before .before .before .before .before in
     let e = c .before .before .before .before .expander-count .ensures in
     let r = reads (domainIn (s .args .rows .now)) (s .args .below .now) (s .pre .0) (omega arith) (s .args .i .0) (omega arith) in
     omega arith
@@ -75,8 +76,8 @@ part-add-numbers-start c = search needs
 
 part-add-numbers-end : tie.Need-part-add-numbers-end
 part-add-numbers-end c =
-    let s = c .before .before .before .before .before .before .before .before .before .before in
-    let e = c .before .before .before .before .before .expander-count .ensures in
+    let s = c .before .before .before .before .before .before .before .before .before .before .before .before in
+    let e = c .before .before .before .before .before .before .expander-count .ensures in
     let r = reads (domainIn (s .args .rows .now)) (s .args .below .now) (s .pre .0) (omega arith) (s .args .i .0) (omega arith) in
     omega arith
 
@@ -86,18 +87,21 @@ add-numbers-requires c κs = search needs
 same-length : tie.Need-same-length
 same-length c = search needs
 
+same-length-2 : tie.Need-same-length-2
+same-length-2 c = search needs
+
 returns-2 : tie.Need-returns-2
 returns-2 c =
-    let s = c .before .before .before .before .before .before .before .before .before .before .before .before .before .before in
+    let s = c .before .before .before .before .before .before .before .before .before .before .before .before .before .before .before .before .before .before in
     let a = s .args in
-    let e = c .before .before .before .before .before .before .before .before .before .expander-count .ensures in
+    let e = c .before .before .before .before .before .before .before .before .before .before .before .before .expander-count .ensures in
     let d : Domain = domainIn (a .rows .now) in
     let r = reads d (a .below .now) (s .pre .0) (omega arith) (a .i .0) (omega arith) in
     let l : List ℕ = take (a .n) (a .next .now) in
     let from : ℕ = 66 * a .i .0 + 1 in
     let k : from + getD (a .below .now) (66 * a .i .0) 0 - from ≡ length (belowOnce d (a .i .0)) = omega (arith, r .count) in
-    grown-same (c .before .before .add-numbers .ensures)
-    (ap (addAll (length (a .next .now)) (a .last .now) l) (ap (λ (n : ℕ). take n (drop from (a .below .now))) k ∙ r .list))
+    let g = c .before .before .before .before .add-numbers .ensures in
+    (grown-same (g .0) (ap (addAll (length (a .next .now)) (a .last .now) l) (ap (λ (n : ℕ). take n (drop from (a .below .now))) k ∙ r .list)), g .1)
 
 pub add-below-spec : {M : Type 1} → statement M
 add-below-spec =
@@ -116,4 +120,5 @@ add-below-spec =
     part-add-numbers-end
     add-numbers-requires
     same-length
+    same-length-2
     returns-2)

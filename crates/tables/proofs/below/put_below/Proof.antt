@@ -1,27 +1,28 @@
 use Prim.Native.Nat.{ℕ, _+_, _-_, _*_, _≤_, _<_}
-use mathlib.Core.List.{List, [], _++_}
-use mathlib.Core.Path.{_≡_, refl, _∙_, ap, subst}
+use mathlib.Core.List.{List, _++_}
+use mathlib.Core.Path.{_≡_, refl, _∙_, subst}
 use native.Mathlib.Omega.{arith}
 use borrow.Rule.Slice.PartMut.{same-len-mid}
 use lib.ListN.{length, take, drop, length-drop, length-set}
 use lib.Seq.{length-take-le}
 use Rattle.wiring.specs.Domain.{Domain}
 use Rattle.wiring.specs.Rows.{domainIn}
-use Rattle.tables.specs.Levels.{below}
-use Rattle.tables.specs.Filling.{addAll}
 use Rattle.tables.specs.Prepared.{Cells, belowOnce}
 use Rattle.tables.proofs.Cells.{cells-put}
-use Rattle.tables.proofs.Growing.{grown-same}
-use Rattle.tables.proofs.Orders.{below-few, below-made}
+use Rattle.tables.proofs.Orders.{below-few}
 use borrow.Author.Needs.{needs}
 use Rattle.tables.proofs.below.put_below.Statement.{statement}
 use Rattle.tables.proofs.below.put_below.Tie as tie
 
 abbrev Inv-loop : tie.InvT-loop
-Inv-loop rows below₀ none n i₀ below i = (i ≤ n) × ((length below ≡ length below₀) × Cells 66 (belowOnce (domainIn rows)) i below)
+Inv-loop rows below₀ n i₀ below i = (i ≤ n) × ((length below ≡ length below₀) × Cells 66 (belowOnce (domainIn rows)) i below)
 
 abbrev μ-loop : tie.MeasureT-loop
-μ-loop rows below₀ none n i₀ below i = n - i
+μ-loop rows below₀ n i₀ below i = n - i
+
+-- the bytes after the count
+part-long : (a : ℕ) (l : List ℕ) → a + 66 ≤ length l → length (take (a + 66 - (a + 1)) (drop (a + 1) l)) ≡ a + 66 - (a + 1)
+part-long a l h = length-take-le (a + 66 - (a + 1)) (drop (a + 1) l) (omega (arith, length-drop (a + 1) l))
 
 expander-count-requires : tie.Need-expander-count-requires Inv-loop μ-loop
 expander-count-requires c κs = search needs
@@ -35,43 +36,39 @@ cast-a c = omega arith
 mul-a : tie.Need-mul-a Inv-loop μ-loop
 mul-a c = omega arith
 
-add-part : tie.Need-add-part Inv-loop μ-loop
-add-part c = omega arith
+add-collect-below : tie.Need-add-collect-below Inv-loop μ-loop
+add-collect-below c = omega arith
 
-add-part-2 : tie.Need-add-part-2 Inv-loop μ-loop
-add-part-2 c = omega arith
+add-collect-below-2 : tie.Need-add-collect-below-2 Inv-loop μ-loop
+add-collect-below-2 c = omega arith
 
-sub-part : tie.Need-sub-part Inv-loop μ-loop
-sub-part c = omega arith
+sub-collect-below : tie.Need-sub-collect-below Inv-loop μ-loop
+sub-collect-below c = omega arith
 
-part-part-start : tie.Need-part-part-start Inv-loop μ-loop
-part-part-start c = omega arith
+part-collect-below-start : tie.Need-part-collect-below-start Inv-loop μ-loop
+part-collect-below-start c = omega arith
 
-part-part-end : tie.Need-part-part-end Inv-loop μ-loop
-part-part-end c = omega arith
+part-collect-below-end : tie.Need-part-collect-below-end Inv-loop μ-loop
+part-collect-below-end c = omega arith
 
-array-share-prefix-none : tie.Need-array-share-prefix-none Inv-loop μ-loop
-array-share-prefix-none c = omega arith
-
-slice-aggregate-add-phys : tie.Need-slice-aggregate-add-phys Inv-loop μ-loop
-slice-aggregate-add-phys c = refl
-
-add-phys-requires : tie.Need-add-phys-requires Inv-loop μ-loop
-add-phys-requires c κs = omega arith
+collect-below-requires : tie.Need-collect-below-requires Inv-loop μ-loop
+collect-below-requires c κs =
+    let l = c .before .before .loop in
+    let n = c .before .before .before .expander-count .ensures in
+    part-long (66 * l .i) (l .below) (omega arith) ∙ omega arith
 
 cast-below : tie.Need-cast-below Inv-loop μ-loop
 cast-below c =
-    let g = c .before .before .add-phys .ensures in
-    let l = c .before .before .before .before .before .before .loop in
-    let a : ℕ = 66 * l .i in
-    let k : ℕ = a + 66 - (a + 1) in
-    omega (arith, g .fits, length-take-le k (drop (a + 1) (l .below)) (omega (arith, length-drop (a + 1) (l .below))))
+    let l = c .before .before .before .before .before .loop in
+    let n = c .before .before .before .before .before .before .expander-count .ensures in
+    let r = c .before .before .collect-below in
+    omega (arith, r .ensures .fits, part-long (66 * l .i) (l .below) (omega arith))
 
 slice-write-below : tie.Need-slice-write-below Inv-loop μ-loop
 slice-write-below c =
-    let l = c .before .before .before .before .before .before .loop in
+    let l = c .before .before .before .before .before .loop in
     let a : ℕ = 66 * l .i in
-    let r = c .before .before .add-phys in
+    let r = c .before .before .collect-below in
     omega (arith, same-len-mid (a + 1) (a + 66 - (a + 1)) (l .below) (r .last .1 .1 .0) (r .ensures .same))
 
 add-i : tie.Need-add-i Inv-loop μ-loop
@@ -82,23 +79,20 @@ loop-less c = omega arith
 
 loop-again : tie.Need-loop-again Inv-loop μ-loop
 loop-again c =
-    let l = c .before .before .before .before .before .before .loop in
-    let n = c .before .before .before .before .before .before .before .expander-count .ensures in
-    let d : Domain = domainIn (c .before .before .before .before .before .before .before .before .before .before .args .rows .now) in
+    let l = c .before .before .before .before .before .loop in
+    let n = c .before .before .before .before .before .before .expander-count .ensures in
+    let d : Domain = domainIn (c .before .before .before .before .before .before .before .before .before .args .rows .now) in
     let a : ℕ = 66 * l .i in
     let k : ℕ = a + 66 - (a + 1) in
-    let r = c .before .before .add-phys in
+    let r = c .before .before .collect-below in
     let g = r .ensures in
     let mid : List ℕ = take (a + 1) (l .below) ++ (r .last .1 .1 .0 ++ drop k (drop (a + 1) (l .below))) in
-    let long : length (take k (drop (a + 1) (l .below))) ≡ k = length-take-le k (drop (a + 1) (l .below)) (omega (arith, length-drop (a + 1) (l .below))) in
-    let room : length (take k (drop (a + 1) (l .below))) ≡ 65 = long ∙ omega arith in
     let s = length-set mid a (r .result) ∙ same-len-mid (a + 1) k (l .below) (r .last .1 .1 .0) (g .same) ∙ l .inv .1 .0 in
     let few : (j : ℕ) → length (belowOnce d j) < 66 = λ j. omega (arith, below-few d (omega arith) j) in
-    let e = grown-same g (ap (λ (m : ℕ). addAll m [] [] (below d (l .i))) room ∙ below-made d (omega arith) (l .i)) in
-    (omega arith, (s, cells-put 66 (belowOnce d) (l .i) (l .below) (l .inv .1 .1) few e a k refl long (omega arith)))
+    (omega arith, (s, cells-put 66 (belowOnce d) (l .i) (l .below) (l .inv .1 .1) few g a k refl (part-long a (l .below) (omega arith)) (omega arith)))
 
 same-length : tie.Need-same-length Inv-loop μ-loop
-same-length c = search needs
+same-length c = c .before .loop .inv .1 .0
 
 returns : tie.Need-returns Inv-loop μ-loop
 returns c =
@@ -119,14 +113,12 @@ put-below-spec =
     loop-holds
     cast-a
     mul-a
-    add-part
-    add-part-2
-    sub-part
-    part-part-start
-    part-part-end
-    array-share-prefix-none
-    slice-aggregate-add-phys
-    add-phys-requires
+    add-collect-below
+    add-collect-below-2
+    sub-collect-below
+    part-collect-below-start
+    part-collect-below-end
+    collect-below-requires
     cast-below
     slice-write-below
     add-i

@@ -18,12 +18,13 @@ is-down-requires c κs = search needs
 
 returns : tie.Need-returns
 returns c =
-    let a = c .before .before .before .before .before .args in
+    let s = c .before .before .before .before .before .before in
+    let a = s .args in
     let d : Domain = domainIn (a .rows .now) in
     let room : ℕ = length (a .next .now) in
     let l : List ℕ = take (a .n) (a .next .now) in
     let e = below-none d (a .f) (sym (c .before .is-down .ensures) ∙ not-true _ (c .if1 .taken)) in
-    grown-kept (a .n) (a .next .now) (ap (addAll room (a .last .now) l) e ∙ addAll-none room (a .last .now) l) (omega arith)
+    (grown-kept (a .n) (a .next .now) (ap (addAll room (a .last .now) l) e ∙ addAll-none room (a .last .now) l) (omega arith), s .pre .1)
 
 phy-address-requires : tie.Need-phy-address-requires
 phy-address-requires c κs = search needs
@@ -32,23 +33,27 @@ number-of-requires : tie.Need-number-of-requires
 number-of-requires c κs = search needs
 
 add-number-requires : tie.Need-add-number-requires
-add-number-requires c κs = omega arith
+add-number-requires c κs = search needs
 
 same-length : tie.Need-same-length
 same-length c = search needs
 
+same-length-2 : tie.Need-same-length-2
+same-length-2 c = search needs
+
 returns-2 : tie.Need-returns-2
 returns-2 c =
-    let a = c .before .before .before .before .before .before .before .before .before .before .before .args in
+    let u = c .before .before .before .before .before .before .before in
+    let t = u .before .before in
+    let a = t .before .before .before .before .before .before .args in
     let d : Domain = domainIn (a .rows .now) in
     let room : ℕ = length (a .next .now) in
     let l : List ℕ = take (a .n) (a .next .now) in
-    let s = c .before .before .before .before .before .before .before .is-down .ensures in
-    let t = sym s ∙ not-false _ (c .before .before .before .before .before .before .if1 .left) in
-    let e = below-one d (a .f) t in
-    let f = c .before .before .before .before .number-of in
-    let j : f .result .0 ≡ numberOf d (addressOf (a .f)) = f .ensures ∙ ap (numberOf d) (c .before .before .before .before .before .phy-address .ensures) in
-    grown-same (c .before .before .add-number .ensures) (ap (λ (v : ℕ). addAll room (a .last .now) l (v ∷ [])) j ∙ sym (ap (addAll room (a .last .now) l) e))
+    let e = below-one d (a .f) (sym (t .before .is-down .ensures) ∙ not-false _ (t .if1 .left)) in
+    let f = u .number-of in
+    let j : f .result .0 ≡ numberOf d (addressOf (a .f)) = f .ensures ∙ ap (numberOf d) (u .before .phy-address .ensures) in
+    let g = c .before .before .before .before .add-number .ensures in
+    (grown-same (g .0) (ap (λ (v : ℕ). addAll room (a .last .now) l (v ∷ [])) j ∙ sym (ap (addAll room (a .last .now) l) e)), g .1)
 
 pub add-phy-spec : {M : Type 1} → statement M
 add-phy-spec =
@@ -60,4 +65,5 @@ add-phy-spec =
     number-of-requires
     add-number-requires
     same-length
+    same-length-2
     returns-2)

@@ -4,14 +4,14 @@ use mathlib.Core.Path.{_≡_, refl, sym, _∙_, ap}
 use native.Mathlib.Omega.{arith}
 use lib.ListN.{length, take, length-append}
 use lib.Seq.{length-take-le}
+use borrow.Author.Tests.{not-true}
 use Rattle.wiring.specs.Domain.{Domain}
 use Rattle.wiring.specs.Rows.{domainIn}
 use Rattle.tables.specs.Levels.{levelsFrom}
 use Rattle.tables.specs.Filling.{addAll}
 use Rattle.tables.specs.Prepared.{belowOnce}
-use Rattle.tables.proofs.Growing.{grown-length}
-use Rattle.tables.proofs.Queues.{first-level}
-use Rattle.tables.proofs.Orders.{next-made, order-start, order-go, order-stop, order-end}
+use Rattle.tables.proofs.Growing.{grown-kept, grown-length}
+use Rattle.tables.proofs.Orders.{order-none, next-made, order-start, order-go, order-stop, order-end}
 use borrow.Author.Needs.{needs}
 use Rattle.tables.proofs.order.put_order.Statement.{statement}
 use Rattle.tables.proofs.order.put_order.Tie as tie
@@ -32,43 +32,44 @@ Inv-loop rows below order₀ turns last₀ level₀ next₀ b₀ e₀ m₀ k₀ 
 abbrev μ-loop : tie.MeasureT-loop
 μ-loop rows below order₀ turns last₀ level₀ next₀ b₀ e₀ m₀ k₀ order last level next b e m k = turns - k
 
+is-down-requires : tie.Need-is-down-requires Inv-loop μ-loop
+is-down-requires c κs = search needs
+
+returns : tie.Need-returns Inv-loop μ-loop
+returns c =
+    let a = c .before .before .before .before .before .args in
+    let e = order-none (domainIn (a .rows .now)) (a .x .0) (a .f) (sym (c .before .is-down .ensures) ∙ not-true _ (c .if1 .taken)) in
+    grown-kept 0 (a .order .now) e (omega arith)
+
 expander-count-requires : tie.Need-expander-count-requires Inv-loop μ-loop
 expander-count-requires c κs = search needs
 
 array-write-last : tie.Need-array-write-last Inv-loop μ-loop
 array-write-last c = omega arith
 
-array-share-prefix-last : tie.Need-array-share-prefix-last Inv-loop μ-loop
-array-share-prefix-last c = omega arith
+slice-aggregate-first-level : tie.Need-slice-aggregate-first-level Inv-loop μ-loop
+slice-aggregate-first-level c = refl
 
-slice-aggregate-add-phy : tie.Need-slice-aggregate-add-phy Inv-loop μ-loop
-slice-aggregate-add-phy c = refl
-
-slice-aggregate-add-phy-2 : tie.Need-slice-aggregate-add-phy-2 Inv-loop μ-loop
-slice-aggregate-add-phy-2 c = refl
-
-add-phy-requires : tie.Need-add-phy-requires Inv-loop μ-loop
-add-phy-requires c κs = search needs
+first-level-requires : tie.Need-first-level-requires Inv-loop μ-loop
+first-level-requires c κs = omega arith
 
 loop-holds : tie.Need-loop-holds Inv-loop μ-loop
 loop-holds c =
-    let g = c .before .add-phy .ensures in
+    let g = c .before .first-level .ensures in
     (omega arith, (refl, (omega arith, (refl, (g .same, (refl, (omega arith, (g .fits, refl))))))))
 
 same-length : tie.Need-same-length Inv-loop μ-loop
 same-length c = search needs
 
--- the first k levels, and what is left, are the order
-returns : tie.Need-returns Inv-loop μ-loop
-returns c =
-    let a = c .before .before .before .before .before .before .before .before .before .before .before .args in
+returns-2 : tie.Need-returns-2 Inv-loop μ-loop
+returns-2 c =
+    let a = c .before .before .before .before .before .before .before .before .before .before .before .before .args in
     let l = c .before .before .loop in
     let i = l .inv in
     let d : Domain = domainIn (a .rows .now) in
-    let n = c .before .before .before .before .before .before .before .expander-count in
+    let n = c .before .before .before .before .before .before .expander-count in
     let t = n .ensures in
-    let f = c .before .before .before .before .add-phy .ensures .whole ∙ first-level d (a .f) in
-    let v = i .1 .1 .1 .1 .1 .1 .1 .1 ∙ order-start d (a .x .0) (n .result) (a .f) _ _ (t .0) refl f in
+    let v = i .1 .1 .1 .1 .1 .1 .1 .1 ∙ order-start d (a .x .0) (n .result) (a .f) _ _ (t .0) refl (c .before .before .before .before .first-level .ensures .whole) in
     let z : l .e ≡ 0 = omega arith in
     record {
       same = i .1 .0;
@@ -86,12 +87,12 @@ slice-aggregate-append-level c = sym (length-take-le _ _ (omega arith))
 append-level-requires : tie.Need-append-level-requires Inv-loop μ-loop
 append-level-requires c κs =
     let l = c .before .before .before .before .loop in
-    let t = c .before .before .before .before .before .before .before .before .before .expander-count .ensures in
-    let z = c .before .before .before .before .before .before .before .before .before .before .before .before .before .pre .1 in
+    let t = c .before .before .before .before .before .before .before .before .expander-count .ensures in
+    let z = c .before .before .before .before .before .before .before .before .before .before .before .before .before .before .pre .1 in
     omega (arith, length-take-le (l .e) (l .level) (omega arith))
 
-array-share-prefix-last-2 : tie.Need-array-share-prefix-last-2 Inv-loop μ-loop
-array-share-prefix-last-2 c = omega arith
+array-share-prefix-last : tie.Need-array-share-prefix-last Inv-loop μ-loop
+array-share-prefix-last c = omega arith
 
 slice-aggregate-next-level : tie.Need-slice-aggregate-next-level Inv-loop μ-loop
 slice-aggregate-next-level c = sym (length-take-le _ _ (omega arith))
@@ -106,7 +107,9 @@ slice-aggregate-next-level-3 : tie.Need-slice-aggregate-next-level-3 Inv-loop μ
 slice-aggregate-next-level-3 c = omega arith
 
 next-level-requires : tie.Need-next-level-requires Inv-loop μ-loop
-next-level-requires c κs = c .before .before .before .before .before .before .before .before .before .before .before .before .before .before .before .before .before .before .before .pre .0
+next-level-requires c κs =
+    let s = c .before .before .before .before .before .before .before .before .before .before in
+    s .before .before .before .before .before .before .before .before .before .before .pre .0
 
 add-k : tie.Need-add-k Inv-loop μ-loop
 add-k c = omega arith
@@ -117,10 +120,10 @@ loop-less c = omega arith
 loop-again : tie.Need-loop-again Inv-loop μ-loop
 loop-again c =
     let l = c .before .before .before .before .before .before .before .before .before .before .before .before .loop in
-    let s = c .before .before .before .before .before .before .before .before .before .before .before .before .before .before .before .before .before in
+    let s = c .before .before .before .before .before .before .before .before .before .before .before .before .before .before .before .before in
     let n = s .expander-count in
     let t = n .ensures in
-    let d : Domain = domainIn (s .before .before .before .before .args .rows .now) in
+    let d : Domain = domainIn (s .before .before .before .before .before .before .args .rows .now) in
     let i = l .inv in
     let v = i .1 .1 .1 .1 .1 .1 .1 .1 in
     let la : List ℕ = take (l .b) (l .last) in
@@ -131,7 +134,7 @@ loop-again c =
     let long = h .same ∙ i .1 .1 .1 .1 .1 .0 in
     let q = h .whole ∙ ap (λ (c : ℕ). addAll c la [] (flatMap (belowOnce d) lev)) (i .1 .1 .1 .1 .1 .0) ∙ next-made d (omega arith) la lev in
     let e = order-go d (n .result) (l .k) now la lev v (g .whole) q (omega arith) in
-    let z = c .before .before .before .before .before .before .before .before .before .before .before .before .before .before .before .before .before .before .before .before .before .pre .1 in
+    let z = s .before .before .before .before .before .before .pre .1 in
     let r = grown-length g in
     let m = length-append now lev in
     let w = length-take-le (l .m) (l .order) (omega arith) in
@@ -141,16 +144,15 @@ loop-again c =
 same-length-2 : tie.Need-same-length-2 Inv-loop μ-loop
 same-length-2 c = search needs
 
-returns-2 : tie.Need-returns-2 Inv-loop μ-loop
-returns-2 c =
-    let a = c .before .before .before .before .before .before .before .before .before .before .args in
+returns-3 : tie.Need-returns-3 Inv-loop μ-loop
+returns-3 c =
+    let a = c .before .before .before .before .before .before .before .before .before .before .before .args in
     let l = c .before .loop in
     let i = l .inv in
     let d : Domain = domainIn (a .rows .now) in
-    let n = c .before .before .before .before .before .before .expander-count in
+    let n = c .before .before .before .before .before .expander-count in
     let t = n .ensures in
-    let f = c .before .before .before .add-phy .ensures .whole ∙ first-level d (a .f) in
-    let v = i .1 .1 .1 .1 .1 .1 .1 .1 ∙ order-start d (a .x .0) (n .result) (a .f) _ _ (t .0) refl f in
+    let v = i .1 .1 .1 .1 .1 .1 .1 .1 ∙ order-start d (a .x .0) (n .result) (a .f) _ _ (t .0) refl (c .before .before .before .first-level .ensures .whole) in
     record {
       same = i .1 .0;
       fits = omega arith;
@@ -163,19 +165,19 @@ put-order-spec =
     (tie.spec
     Inv-loop
     μ-loop
+    is-down-requires
+    returns
     expander-count-requires
     array-write-last
-    array-share-prefix-last
-    slice-aggregate-add-phy
-    slice-aggregate-add-phy-2
-    add-phy-requires
+    slice-aggregate-first-level
+    first-level-requires
     loop-holds
     same-length
-    returns
+    returns-2
     array-share-prefix-level
     slice-aggregate-append-level
     append-level-requires
-    array-share-prefix-last-2
+    array-share-prefix-last
     slice-aggregate-next-level
     array-share-prefix-level-2
     slice-aggregate-next-level-2
@@ -185,4 +187,4 @@ put-order-spec =
     loop-less
     loop-again
     same-length-2
-    returns-2)
+    returns-3)

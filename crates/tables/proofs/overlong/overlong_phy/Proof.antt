@@ -1,32 +1,31 @@
-use Prim.Native.Nat.{ℕ, _-_, _≤_}
+use Prim.Native.Nat.{ℕ, _-_, _≤_, _<_}
+use mathlib.Core.Bool.{false}
 use mathlib.Core.Path.{_≡_, refl, sym, _∙_, ap}
 use native.Mathlib.Omega.{arith}
 use native.Mathlib.Nat.{sub-zero}
-use lib.ListN.{length, take}
-use lib.Seq.{length-take-le}
+use lib.ListN.{length}
 use Rattle.wiring.specs.Domain.{Domain}
 use Rattle.wiring.specs.Causes.{phyPlaces, firstIn}
 use Rattle.wiring.specs.Rows.{domainIn}
 use Rattle.wiring.proofs.Searches.{phy-stop, phy-go, phy-end}
 use Rattle.tables.specs.Filling.{placesAt}
-use Rattle.tables.specs.Prepared.{orderOf, overOwn}
-use Rattle.tables.proofs.Orders.{order-none}
-use Rattle.tables.proofs.Over.{over-order}
+use Rattle.tables.specs.Prepared.{overOwn}
+use Rattle.tables.proofs.Over.{below-next}
 use borrow.Author.Needs.{needs}
 use Rattle.tables.proofs.overlong.overlong_phy.Statement.{statement}
 use Rattle.tables.proofs.overlong.overlong_phy.Tie as tie
 
 abbrev Inv-loop : tie.InvT-loop
-Inv-loop rows lists below i order₀ n g₀ m₀ p₀ order g m p =
+Inv-loop rows lists below i order₀ n slots₀ p₀ order slots p =
     (p ≤ n)
     × ((length order ≡ length order₀)
-    × ((m ≤ length order)
-    × ((take m order ≡ orderOf (domainIn rows) (i .0) g)
+    × ((length slots ≡ 256)
+    × (((k : ℕ) → k < p → overOwn (domainIn rows) (i .0) k ≡ false)
     × (firstIn 14 (overOwn (domainIn rows)) (phyPlaces (i .0) p (n - p)) (domainIn rows)
     ≡ firstIn 14 (overOwn (domainIn rows)) (placesAt (domainIn rows) (i .0)) (domainIn rows)))))
 
 abbrev μ-loop : tie.MeasureT-loop
-μ-loop rows lists below i order₀ n g₀ m₀ p₀ order g m p = n - p
+μ-loop rows lists below i order₀ n slots₀ p₀ order slots p = n - p
 
 phy-count-requires : tie.Need-phy-count-requires Inv-loop μ-loop
 phy-count-requires c κs = search needs
@@ -36,36 +35,19 @@ loop-holds c =
     let a = c .before .before .before .before .before .args in
     let d : Domain = domainIn (a .rows .now) in
     let e = sub-zero (c .phy-count .result) ∙ c .phy-count .ensures .0 in
-    (omega arith, (refl, (omega arith, (sym (order-none d (a .i .0) 0), ap (λ (k : ℕ). firstIn 14 (overOwn d) (phyPlaces (a .i .0) 0 k) d) e))))
+    (omega arith, (refl, (refl, ((λ k h. absurd (omega (arith, h))), ap (λ (k : ℕ). firstIn 14 (overOwn d) (phyPlaces (a .i .0) 0 k) d) e))))
 
-phy-at-requires : tie.Need-phy-at-requires Inv-loop μ-loop
-phy-at-requires c κs = search needs
+slice-aggregate-lower-phy : tie.Need-slice-aggregate-lower-phy Inv-loop μ-loop
+slice-aggregate-lower-phy c = sym (c .before .before .loop .inv .1 .1 .0)
 
-order-for-requires : tie.Need-order-for-requires Inv-loop μ-loop
-order-for-requires c κs =
-    let s = c .before .before .before .before .before .before .before .before .before in
-    let l = c .before .before .before .loop in
-    let z = s .pre .1 .1 in
-    (s .pre .1 .0, (omega arith, record { same = refl; fits = l .inv .1 .1 .0; whole = l .inv .1 .1 .1 .0 }))
-
-slice-reshare-prefix-is-overlong : tie.Need-slice-reshare-prefix-is-overlong Inv-loop μ-loop
-slice-reshare-prefix-is-overlong c =
-    let g = c .before .before .order-for .ensures in
-    omega (arith, g .same, g .fits)
-
-slice-aggregate-is-overlong : tie.Need-slice-aggregate-is-overlong Inv-loop μ-loop
-slice-aggregate-is-overlong c =
-    let g = c .before .before .before .order-for .ensures in
-    sym (length-take-le _ _ (omega (arith, g .same, g .fits)))
+lower-phy-requires : tie.Need-lower-phy-requires Inv-loop μ-loop
+lower-phy-requires c κs = c .before .before .loop .inv .1 .1 .0
 
 is-overlong-requires : tie.Need-is-overlong-requires Inv-loop μ-loop
 is-overlong-requires c κs =
-    let s = c .before .before .before .before .before .before .before .before .before .before .before .before .before in
-    let l = c .before .before .before .before .before .before .before .loop in
-    let g = c .before .before .before .order-for .ensures in
-    let r = c .before .before .before .order-for in
-    let f : r .result ≤ length (r .last .1 .1 .1 .1 .1 .1 .0) = omega (arith, g .same, g .fits) in
-    (s .pre .0, omega (arith, length-take-le (r .result) (r .last .1 .1 .1 .1 .1 .1 .0) f, g .fits, l .inv .1 .0, s .pre .1 .1))
+    let s = c .before .before .before .before .before .before .before .before .before .before .before in
+    let l = c .before .before .before .before .before .loop in
+    (s .pre .0, (s .pre .1 .0, (l .inv .1 .0 ∙ s .pre .1 .1, (c .before .before .lower-phy .ensures, l .inv .1 .1 .1 .0))))
 
 same-length : tie.Need-same-length Inv-loop μ-loop
 same-length c = search needs
@@ -74,11 +56,9 @@ returns : tie.Need-returns Inv-loop μ-loop
 returns c =
     let a = c .before .before .before .before .before .before .before .before .before .before .before .before .before .before .before .args in
     let l = c .before .before .before .before .before .before .before .before .before .loop in
-    let d : Domain = domainIn (a .rows .now) in
     let n : ℕ = c .before .before .before .before .before .before .before .before .before .before .phy-count .result in
-    let g = c .before .before .before .before .before .order-for .ensures in
-    let t = over-order d (a .i .0) (l .p) _ _ (c .before .before .before .before .before .before .before .phy-at .ensures) (g .whole) in
-    phy-stop 14 (overOwn d) d (a .i .0) n (l .p) (l .inv .1 .1 .1 .1) (sym t ∙ sym (c .before .is-overlong .ensures) ∙ c .if1 .taken) (omega arith)
+    let d : Domain = domainIn (a .rows .now) in
+    phy-stop 14 (overOwn d) d (a .i .0) n (l .p) (l .inv .1 .1 .1 .1) (sym (c .before .before .before .is-overlong .ensures) ∙ c .if1 .taken) (omega arith)
 
 add-p : tie.Need-add-p Inv-loop μ-loop
 add-p c = omega arith
@@ -90,12 +70,11 @@ loop-again : tie.Need-loop-again Inv-loop μ-loop
 loop-again c =
     let a = c .before .before .before .before .before .before .before .before .before .before .before .before .before .before .before .args in
     let l = c .before .before .before .before .before .before .before .before .before .loop in
-    let d : Domain = domainIn (a .rows .now) in
     let n : ℕ = c .before .before .before .before .before .before .before .before .before .before .phy-count .result in
-    let g = c .before .before .before .before .before .order-for .ensures in
-    let t = over-order d (a .i .0) (l .p) _ _ (c .before .before .before .before .before .before .before .phy-at .ensures) (g .whole) in
-    let v = phy-go 14 (overOwn d) d (a .i .0) n (l .p) (l .inv .1 .1 .1 .1) (sym t ∙ sym (c .before .is-overlong .ensures) ∙ c .if1 .left) (omega arith) in
-    (omega arith, (g .same ∙ l .inv .1 .0, (omega (arith, g .same, g .fits), (g .whole, v))))
+    let d : Domain = domainIn (a .rows .now) in
+    let o = sym (c .before .before .before .is-overlong .ensures) ∙ c .if1 .left in
+    let v = phy-go 14 (overOwn d) d (a .i .0) n (l .p) (l .inv .1 .1 .1 .1) o (omega arith) in
+    (omega arith, (c .before .before .before .is-overlong .kept .1 .1 .1 .1 .1 .1 .0 ∙ l .inv .1 .0, (c .before .before .before .before .before .before .lower-phy .kept .1 .0 ∙ l .inv .1 .1 .0, (below-next (λ (k : ℕ). overOwn d (a .i .0) k) (l .p) (l .inv .1 .1 .1 .0) o, v))))
 
 same-length-2 : tie.Need-same-length-2 Inv-loop μ-loop
 same-length-2 c = search needs
@@ -116,10 +95,8 @@ overlong-phy-spec =
     μ-loop
     phy-count-requires
     loop-holds
-    phy-at-requires
-    order-for-requires
-    slice-reshare-prefix-is-overlong
-    slice-aggregate-is-overlong
+    slice-aggregate-lower-phy
+    lower-phy-requires
     is-overlong-requires
     same-length
     returns
