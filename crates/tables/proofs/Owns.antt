@@ -1,5 +1,5 @@
 -- Own lists: the search among lower phys, the set of their addresses, and lists that grow phy by phy.
-use Prim.Native.Nat.{ℕ, suc, _+_, _*_, _≤_, _<_}
+use Prim.Native.Nat.{ℕ, zero, suc, _+_, _*_, _≤_, _<_}
 use mathlib.Core.Path.{_≡_, refl, sym, _∙_, ap, subst}
 use mathlib.Core.Logic.{⊎-elim, by-cases}
 use mathlib.Core.Bool.{Bool, true, false, cond, not, _||_, _&&_}
@@ -16,7 +16,7 @@ use Rattle.wiring.specs.Lists.{any}
 use Rattle.wiring.specs.Domain.{Domain, Expander, noExpander, expanderAt, addressOf, attributeOf, typeOf, attached, bears}
 use Rattle.wiring.specs.Rows.{domainIn}
 use Rattle.wiring.specs.Seen.{mayHave, KeyAdded}
-use Rattle.wiring.proofs.Members.{or-cases, and-right, is-false, was-false}
+use Rattle.wiring.proofs.Members.{or-cases, or-right, and-right, is-true, is-false, was-true, was-false}
 use Rattle.wiring.proofs.InRows.{head-in, no-head}
 use Rattle.tables.specs.Tables.{word}
 use Rattle.tables.specs.Own.{lower, owns, ownFrom, own}
@@ -39,6 +39,14 @@ module _ (s : ℕ) (φs : List Phy) (q : ℕ) {v : Bool} (inv : any (bears s) (l
   pub lower-end : q ≡ 0 → false ≡ v
   unfolding any lower
   lower-end e = sym (rw e) ∙ inv
+
+pub lower-has : (s : ℕ) (φs : List Phy) (q : ℕ) → bears s (getD φs q (Vacant 0)) ≡ true → (p : ℕ) → q < p → true ≡ any (bears s) (lower φs p)
+unfolding any lower
+lower-has s φs q t zero h = absurd (omega (arith, h))
+lower-has s φs q t (suc p) h =
+    by-cases (decLt q p)
+    (λ k. sym (is-true _ (or-right (bears s (getD φs p (Vacant 0))) _ (was-true _ (sym (lower-has s φs q t p k))))))
+    (λ k. let e : q ≡ p = omega arith in sym (rw (sym e, t) refl))
 
 -- is a phy its expander's own?
 pub owns-by : (l : List Phy) (φ : Phy) {b₁ b₂ b₃ b₄ : Bool} → eqb (attributeOf φ) 0 ≡ b₁ → eqb (attributeOf φ) 2 ≡ b₂ → eqb (typeOf φ) 0 ≡ b₃

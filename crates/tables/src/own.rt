@@ -9,12 +9,12 @@ ghost use mathlib.Core.List.{[], _∷_, _++_};
 ghost use Prim.Native.Nat.{_≤_, _<_};
 ghost use lib.ListN.{length, take};
 ghost use Rattle.wiring.specs.Lists.{any};
-ghost use Rattle.wiring.specs.Domain.{expanderAt, bears};
+ghost use Rattle.wiring.specs.Domain.{expanderAt, addressOf, bears};
 ghost use Rattle.wiring.specs.Rows.{domainIn};
 ghost use Rattle.tables.specs.Tables.{word};
 ghost use Rattle.tables.specs.Own.{lower, owns, own};
 ghost use Rattle.tables.specs.Filling.{Grown};
-ghost use Rattle.tables.specs.Prepared.{OwnHeld, Noted, PhyNoted};
+ghost use Rattle.tables.specs.Prepared.{OwnHeld, keyOf, Noted, PhyNoted};
 
 // Is it an attached phy that bears the address?
 pub(crate) fn phy_bears(s: u64, f: Phy) -> bool
@@ -36,9 +36,8 @@ pub(crate) fn word_of(f: Phy) -> u64
     wiring::phy_address(f)
 }
 
-// Does an attached phy of expander i below p bear the address? The phys of a wide link mostly stand
-// side by side, so the search goes down from p - 1.
-fn is_lower(rows: &[u64], i: ExpanderNumber, p: PhyId, s: u64) -> bool
+// Does an attached phy of expander i below p bear the address?
+fn has_lower(rows: &[u64], i: ExpanderNumber, p: PhyId, s: u64) -> bool
     ensures { λ r. ⌜ r ≡ any (bears s) (lower (expanderAt (domainIn (now (rows .entry))) (i .0) .phys) (p .0)) ⌝ }
 {
     let mut q = p.0;
@@ -51,9 +50,29 @@ fn is_lower(rows: &[u64], i: ExpanderNumber, p: PhyId, s: u64) -> bool
     false
 }
 
+// The same, where phy q is tried first.
+fn is_lower(rows: &[u64], i: ExpanderNumber, p: PhyId, q: PhyId, s: u64) -> bool
+    ensures { λ r. ⌜ r ≡ any (bears s) (lower (expanderAt (domainIn (now (rows .entry))) (i .0) .phys) (p .0)) ⌝ }
+{
+    if q.0 < p.0 {
+        if phy_bears(s, wiring::phy_at(rows, i, q)) {
+            return true;
+        }
+    }
+    has_lower(rows, i, p, s)
+}
+
+// The key of the attached address in a set of 4,096.
+fn key_of(f: Phy) -> usize
+    ensures { λ r. ⌜ (r ≡ keyOf (addressOf f)) × (r < 4093) ⌝ }
+{
+    (wiring::phy_address(f) % 4093) as usize
+}
+
 // Does f, as phy p of expander i, give its word to the expander's own list? `seen` has the keys of the
-// addresses attached below p; where it lacks the key of f's address no lower phy bears it.
-fn is_own(rows: &[u64], i: ExpanderNumber, p: PhyId, seen: &[u64], f: Phy) -> bool
+// addresses attached below p; where it lacks the key of f's address no lower phy bears it. q, the last phy
+// that was seen with this key, is tried before all lower phys are.
+fn is_own(rows: &[u64], i: ExpanderNumber, p: PhyId, seen: &[u64], q: PhyId, f: Phy) -> bool
     requires { ⌜ Noted (lower (expanderAt (domainIn (now rows)) (i .0) .phys) (p .0)) (now seen) ⌝ }
     ensures { λ r. ⌜ r ≡ owns (lower (expanderAt (domainIn (now (rows .entry))) (i .0) .phys) (p .0)) f ⌝ }
 {
@@ -69,10 +88,10 @@ fn is_own(rows: &[u64], i: ExpanderNumber, p: PhyId, seen: &[u64], f: Phy) -> bo
         return false;
     }
     let s = wiring::phy_address(f);
-    if !wiring::may_have(seen, (s % 4093) as usize) {
+    if !wiring::may_have(seen, key_of(f)) {
         return true;
     }
-    !is_lower(rows, i, p, s)
+    !is_lower(rows, i, p, q, s)
 }
 
 // Adds the key of the attached address to a set of 4,096 keys; nothing where nothing is attached.
@@ -82,7 +101,7 @@ fn note_phy(seen: &mut [u64], f: Phy)
     if wiring::phy_type(f) == 0 {
         return;
     }
-    wiring::add_key(seen, (wiring::phy_address(f) % 4093) as usize);
+    wiring::add_key(seen, key_of(f));
 }
 
 // Writes a phy's word after the first m of `part`, where it belongs to the own list (`mine`), and yields
@@ -105,13 +124,17 @@ fn collect_own(rows: &[u64], i: ExpanderNumber, part: &mut [u64]) -> usize
 {
     let n = wiring::phy_count(rows, i);
     let mut seen = [0u64; 64];
+    let mut last = [0u8; 4096];
     let mut m: usize = 0;
     let mut p: u8 = 0;
     while p < n {
         let f = wiring::phy_at(rows, i, PhyId(p));
-        let mine = is_own(rows, i, PhyId(p), &seen[..], f);
+        let k = key_of(f);
+        let q = last[k];
+        let mine = is_own(rows, i, PhyId(p), &seen[..], PhyId(q), f);
         m = put_word(part, m, mine, f);
         note_phy(&mut seen[..], f);
+        last[k] = p;
         p += 1;
     }
     m

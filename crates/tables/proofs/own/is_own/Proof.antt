@@ -43,16 +43,19 @@ returns-3 c =
 phy-address-requires : tie.Need-phy-address-requires
 phy-address-requires c κs = search needs
 
+key-of-requires : tie.Need-key-of-requires
+key-of-requires c κs = search needs
+
 may-have-requires : tie.Need-may-have-requires
 may-have-requires c κs = search needs
 
 returns-4 : tie.Need-returns-4
 returns-4 c =
-    let a = c .before .before .before .before .before .before .before .before .before .before .args in
+    let a = c .before .before .before .before .before .before .before .before .before .before .before .args in
     let l : List Phy = lower (expanderAt (domainIn (a .rows .now)) (a .i .0) .phys) (a .p .0) in
     let m : mayHave (a .seen .now) (keyOf (addressOf (a .f))) ≡ false =
-    ap (λ (s : ℕ). mayHave (a .seen .now) (keyOf s)) (sym (c .before .before .phy-address .ensures)) ∙ sym (c .before .may-have .ensures) ∙ not-true _ (c .if4 .taken) in
-    let n = not-noted l (a .seen .now) (addressOf (a .f)) (c .before .before .before .before .before .before .before .before .before .before .pre) m in
+    ap (mayHave (a .seen .now)) (sym (c .before .before .key-of .ensures .0)) ∙ sym (c .before .may-have .ensures) ∙ not-true _ (c .if4 .taken) in
+    let n = not-noted l (a .seen .now) (addressOf (a .f)) (c .before .before .before .before .before .before .before .before .before .before .before .pre) m in
     sym (owns-by l (a .f) (ne-eqb (attributeOf (a .f)) 0 (λ e. omega arith)) (eq-eqb (attributeOf (a .f)) 2 (omega arith)) (ne-eqb (typeOf (a .f)) 0 (λ e. omega arith)) n)
 
 is-lower-requires : tie.Need-is-lower-requires
@@ -60,10 +63,10 @@ is-lower-requires c κs = search needs
 
 returns-5 : tie.Need-returns-5
 returns-5 c =
-    let a = c .before .before .before .before .before .before .before .before .before .before .before .args in
+    let a = c .before .before .before .before .before .before .before .before .before .before .before .before .args in
     let l : List Phy = lower (expanderAt (domainIn (a .rows .now)) (a .i .0) .phys) (a .p .0) in
     let n : c .is-lower .result ≡ any (bears (addressOf (a .f))) l =
-    c .is-lower .ensures ∙ ap (λ (s : ℕ). any (bears s) l) (c .before .before .before .phy-address .ensures) in
+    c .is-lower .ensures ∙ ap (λ (s : ℕ). any (bears s) l) (c .before .before .before .before .phy-address .ensures) in
     ap not n ∙ sym (owns-by l (a .f) (ne-eqb (attributeOf (a .f)) 0 (λ e. omega arith)) (eq-eqb (attributeOf (a .f)) 2 (omega arith)) (ne-eqb (typeOf (a .f)) 0 (λ e. omega arith)) refl)
 
 pub is-own-spec : {M : Type 1} → statement M
@@ -76,6 +79,7 @@ is-own-spec =
     returns-2
     returns-3
     phy-address-requires
+    key-of-requires
     may-have-requires
     returns-4
     is-lower-requires

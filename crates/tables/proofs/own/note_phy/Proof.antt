@@ -15,8 +15,8 @@ returns c =
     let a = c .before .before .before .args in
     noted-vacant (a .f) (a .seen .now) (eq-eqb (typeOf (a .f)) 0 (omega arith))
 
-phy-address-requires : tie.Need-phy-address-requires
-phy-address-requires c κs = search needs
+key-of-requires : tie.Need-key-of-requires
+key-of-requires c κs = search needs
 
 add-key-requires : tie.Need-add-key-requires
 add-key-requires c κs = search needs
@@ -27,15 +27,9 @@ same-length c = search needs
 returns-2 : tie.Need-returns-2
 returns-2 c =
     let a = c .before .before .before .before .before .before .before .before .args in
-    noted-more (a .f) (a .seen .now) (c .before .before .add-key .last .0) (rw (sym (c .before .before .before .phy-address .ensures)) (c .before .before .add-key .ensures))
+    noted-more (a .f) (a .seen .now) (c .before .before .add-key .last .0) (rw (sym (c .before .before .before .key-of .ensures .0)) (c .before .before .add-key .ensures))
 
 pub note-phy-spec : {M : Type 1} → statement M
 note-phy-spec =
     tie.close
-    (tie.spec
-    phy-type-requires
-    returns
-    phy-address-requires
-    add-key-requires
-    same-length
-    returns-2)
+    (tie.spec phy-type-requires returns key-of-requires add-key-requires same-length returns-2)
