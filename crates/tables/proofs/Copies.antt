@@ -1,7 +1,7 @@
 -- A table that is a copy of that of a lower phy on the same link, and the places at which the tables start.
 use Prim.Native.Nat.{ℕ, _+_, _≤_, _<_}
 use mathlib.Core.Path.{_≡_, refl, sym, _∙_, ap, subst}
-use mathlib.Core.Bool.{Bool, true, false, cond, _&&_}
+use mathlib.Core.Bool.{Bool, true, false, cond}
 use mathlib.Core.Logic.{by-cases}
 use mathlib.Core.List.{List, [], _∷_, _++_, append-assoc}
 use native.Mathlib.Omega.{arith}
@@ -10,14 +10,13 @@ use native.Mathlib.Numerals.{add-one}
 use lib.ListN.{length, getD, take, drop, set, length-drop, take-append-drop, List·getD-append}
 use lib.Seq.{take-at, drop-at, length-take-le, take-append-le, drop-append-le, getD-drop, getD-set-same, getD-set-other, paste, paste-suc}
 use lib.Dec.{T, ltb, ltb→lt}
-use Rattle.wiring.specs.Domain.{Domain, expanderAt, phyAt, routes, toExpander}
+use Rattle.wiring.specs.Domain.{Domain, expanderAt, phyAt, routes}
 use Rattle.wiring.specs.Causes.{place}
-use Rattle.wiring.proofs.Members.{and-left, and-right, is-true, was-true}
-use Rattle.tables.specs.Levels.{levels}
+use Rattle.wiring.proofs.Members.{is-true, was-true}
 use Rattle.tables.specs.Tables.{levelList, table, size}
 use Rattle.tables.specs.Filling.{tablesOf, overlay, Put}
 use Rattle.tables.specs.Prepared.{oneLink, Told, TableAt, startOf, Started}
-use Rattle.tables.proofs.Orders.{order-linked, order-levels}
+use Rattle.tables.proofs.Orders.{linked-levels, linked-routes}
 use Rattle.tables.proofs.Fills.{length-table}
 use Rattle.tables.proofs.Puts.{size-by, tables-by, put-one}
 
@@ -64,21 +63,9 @@ module _ (ws : List ℕ) (at : ℕ) (new : List ℕ) (h : at ≤ length ws) wher
       ap (take n) (drop-at (take at ws) (new ++ drop (at + length new) ws) at (length-take-le at ws h)) ∙ take-at new (drop (at + length new) ws) n q
 
 -- tables of phys of one link
-module _ (d : Domain) (i q p : ℕ) (one : T (oneLink (phyAt d i q) (phyAt d i p))) where
-  linked-levels : levels d i q ≡ levels d i p
-  linked-levels = sym (order-levels d i q) ∙ order-linked d i (phyAt d i q) (phyAt d i p) one ∙ order-levels d i p
-
-  table-linked : table d i q ≡ table d i p
-  unfolding table levelList
-  table-linked = rw linked-levels
-
-  linked-routes : T (routes 2 (phyAt d i q)) × T (routes 2 (phyAt d i p))
-  unfolding oneLink
-  linked-routes =
-      let φ = phyAt d i q in
-      let ψ = phyAt d i p in
-      let more = and-right (toExpander φ && routes 2 φ) _ one in
-      (and-right (toExpander φ) _ (and-left (toExpander φ && routes 2 φ) _ one), and-right (toExpander ψ) _ (and-left (toExpander ψ && routes 2 ψ) _ more))
+table-linked : (d : Domain) (i q p : ℕ) → T (oneLink (phyAt d i q) (phyAt d i p)) → table d i q ≡ table d i p
+unfolding table levelList
+table-linked d i q p one = rw (linked-levels d i q p one)
 
 -- a table that stands already
 module _ (d : Domain) (i p : ℕ) {from at : ℕ} {ws : List ℕ} (t : TableAt d i p from at ws) where

@@ -9,7 +9,7 @@ use lib.ListN.{length, List·getD-eq-default}
 use lib.Dec.{T, eqb→eq}
 use Rattle.wiring.specs.declared.Phy.{Phy}
 use Rattle.wiring.specs.Lists.{keep, isIn, any, In, Below}
-use Rattle.wiring.specs.Domain.{Domain, Expander, noExpander, phyAt, addressOf, numberOf}
+use Rattle.wiring.specs.Domain.{Domain, Expander, noExpander, phyAt, addressOf, routes, toExpander, numberOf}
 use Rattle.wiring.proofs.Members.{and-left, and-right, is-true, in-cast, isIn-of, of-isIn, was-true, was-false, at-most, in-flatMap, flatMap-in}
 use Rattle.tables.specs.Levels.{once, down, belowPhys, below, nextLevel, levelsFrom, levels}
 use Rattle.tables.specs.Filling.{addAll}
@@ -143,7 +143,7 @@ module _ (d : Domain) (φ ψ : Phy) (one : T (oneLink φ ψ)) where
       below-one d φ (is-true (down d φ) (and-left (down d φ) _ one)) ∙ ap (λ (s : ℕ). numberOf d s ∷ []) same
       ∙ sym (below-one d ψ (is-true (down d ψ) (and-left (down d ψ) _ more)))
 
-pub order-linked : (d : Domain) (x : ℕ) (φ ψ : Phy) → T (oneLink φ ψ) → orderOf d x φ ≡ orderOf d x ψ
+order-linked : (d : Domain) (x : ℕ) (φ ψ : Phy) → T (oneLink φ ψ) → orderOf d x φ ≡ orderOf d x ψ
 unfolding orderOf
 order-linked d x φ ψ one = ap (levelsFrom (length d) d (x ∷ [])) (linked-number d φ ψ one)
 
@@ -151,3 +151,16 @@ order-linked d x φ ψ one = ap (levelsFrom (length d) d (x ∷ [])) (linked-num
 pub order-levels : (d : Domain) (x p : ℕ) → orderOf d x (phyAt d x p) ≡ levels d x p
 unfolding orderOf levels
 order-levels d x p = refl
+
+-- phys q and p of one link: the same levels, and table phys
+module _ (d : Domain) (i q p : ℕ) (one : T (oneLink (phyAt d i q) (phyAt d i p))) where
+  pub linked-levels : levels d i q ≡ levels d i p
+  linked-levels = sym (order-levels d i q) ∙ order-linked d i (phyAt d i q) (phyAt d i p) one ∙ order-levels d i p
+
+  pub linked-routes : T (routes 2 (phyAt d i q)) × T (routes 2 (phyAt d i p))
+  unfolding oneLink
+  linked-routes =
+      let φ = phyAt d i q in
+      let ψ = phyAt d i p in
+      let more = and-right (down d φ) _ one in
+      (and-right (toExpander φ) _ (and-left (down d φ) _ one), and-right (toExpander ψ) _ (and-left (down d ψ) _ more))

@@ -10,25 +10,20 @@ use lib.ListN.{length}
 use lib.Dec.{T, ltb, ltb→lt}
 use Rattle.wiring.specs.declared.Phy.{Phy}
 use Rattle.wiring.specs.Domain.{Domain, expanderAt, phyAt, routes, toExpander}
-use Rattle.wiring.proofs.Members.{and-left, and-right, is-true, is-false, was-true, was-false}
+use Rattle.wiring.proofs.Members.{and-right, is-true, is-false, was-true, was-false}
 use Rattle.tables.specs.Levels.{levels}
 use Rattle.tables.specs.Own.{own, ownList}
 use Rattle.tables.specs.Prepared.{orderOf, oneLink, overOwn}
 use Rattle.tables.proofs.Growing.{and-false}
 use Rattle.tables.proofs.Law.{levels-empty}
-use Rattle.tables.proofs.Orders.{order-linked, order-levels}
+use Rattle.tables.proofs.Orders.{order-levels, linked-levels, linked-routes}
 
 -- phys of one link are table phys with the same levels
 pub over-linked : (d : Domain) (i q p : ℕ) → T (oneLink (phyAt d i q) (phyAt d i p)) → overOwn d i q ≡ overOwn d i p
-unfolding overOwn ownList oneLink
+unfolding overOwn ownList
 over-linked d i q p one =
-    let φ : Phy = phyAt d i q in
-    let ψ : Phy = phyAt d i p in
-    let more = and-right (toExpander φ && routes 2 φ) _ one in
-    let a = is-true (routes 2 φ) (and-right (toExpander φ) _ (and-left (toExpander φ && routes 2 φ) _ one)) in
-    let b = is-true (routes 2 ψ) (and-right (toExpander ψ) _ (and-left (toExpander ψ && routes 2 ψ) _ more)) in
-    let e = sym (order-levels d i q) ∙ order-linked d i φ ψ one ∙ order-levels d i p in
-    rw (a, b, e) refl
+    let r = linked-routes d i q p one in
+    rw (is-true (routes 2 (phyAt d i q)) (r .0), is-true (routes 2 (phyAt d i p)) (r .1), linked-levels d i q p one) refl
 
 -- phy p, by the tests of the phy that was read
 module _ (d : Domain) (i p : ℕ) (φ : Phy) (at : φ ≡ phyAt d i p) where

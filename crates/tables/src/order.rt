@@ -3,7 +3,6 @@ use crate::below;
 use crate::levels;
 use frames::ExpanderNumber;
 use wiring::Phy;
-ghost use mathlib.Core.Path.{_≡_};
 ghost use mathlib.Core.List.{[], _∷_, _++_};
 ghost use Prim.Native.Nat.{_+_, _≤_};
 ghost use lib.ListN.{length, take};

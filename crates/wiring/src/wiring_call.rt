@@ -9,7 +9,6 @@ use crate::view;
 use frames::ExpanderNumber;
 use frames::PhyId;
 use frames::Refusal;
-ghost use mathlib.Core.Path.{_≡_};
 ghost use lib.ListN.{length};
 ghost use Rattle.frames.specs.Refusals.{then};
 ghost use Rattle.wiring.specs.Rows.{domainIn};

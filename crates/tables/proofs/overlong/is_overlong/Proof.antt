@@ -1,15 +1,13 @@
 use Prim.Native.Nat.{ℕ, _≤_}
 use mathlib.Core.List.{List}
-use mathlib.Core.Path.{sym, _∙_, ap}
+use mathlib.Core.Path.{sym, _∙_}
 use native.Mathlib.Omega.{arith}
 use lib.ListN.{length}
 use lib.Seq.{length-take-le}
 use borrow.Author.Tests.{not-true, not-false}
 use borrow.Author.Needs.{needs}
-use Rattle.wiring.specs.Domain.{Domain, routes, toExpander}
-use Rattle.wiring.specs.declared.Phy.{Phy}
+use Rattle.wiring.specs.Domain.{Domain}
 use Rattle.wiring.specs.Rows.{domainIn}
-use Rattle.tables.specs.Prepared.{orderOf}
 use Rattle.tables.proofs.Over.{over-linked, over-none, over-order}
 use Rattle.tables.proofs.overlong.is_overlong.Statement.{statement}
 use Rattle.tables.proofs.overlong.is_overlong.Tie as tie

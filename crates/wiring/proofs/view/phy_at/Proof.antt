@@ -1,4 +1,5 @@
-use mathlib.Core.Path.{sym}
+use mathlib.Core.Path.{sym, _∙_, ap₂}
+use Rattle.wiring.specs.Rows.{phyIn}
 use native.Mathlib.Omega.{arith}
 use borrow.Author.Needs.{needs}
 use Rattle.wiring.proofs.InRows.{no-phy, phy-at-in}
@@ -41,7 +42,8 @@ phy-from-requires c κs = search needs
 returns : tie.Need-returns
 returns c =
     let a = c .before .before .before .before .before .before .before .before .before .args in
-    let q = phy-at-in (a .rows .now) (a .i .0) (a .p .0) (omega arith) in cc
+    let q = phy-at-in (a .rows .now) (a .i .0) (a .p .0) (omega arith) in
+    c .phy-from .ensures ∙ ap₂ phyIn (c .before .before .word-at .ensures) (c .before .word-at2 .ensures) ∙ sym q
 
 returns-2 : tie.Need-returns-2
 returns-2 c = let a = c .before .before .before .before .args in sym (no-phy (a .rows .now) (a .i .0) (a .p .0) (omega arith))
