@@ -6,19 +6,14 @@ use std::fmt::{Debug, Write};
 use crate::calls::Calls;
 use crate::generate;
 use crate::random::Random;
-use crate::reference::{self, Attached, Discover, General, Judged, Outcome, Refusal, Route};
+use crate::reference::{self, Discover, General, Judged, Outcome, Refusal, Route, Trace};
+use crate::traces::Traces;
 
 /// Bytes or words kept before and behind each lent buffer.
 const EDGE: usize = 16;
 
-/// A file longer than this many bytes gets fewer calls.
-const LARGE: usize = 50_000;
-
-/// Time of the calls on one file, about, in nanoseconds.
-const TIME_PER_FILE: usize = 3_000_000;
-
 /// Tables longer than this many words are not written out.
-const MOST_WORDS: usize = 3_000_000;
+pub const MOST_WORDS: usize = 3_000_000;
 
 pub struct Difference {
     pub what: String,
@@ -35,6 +30,11 @@ pub struct Counts {
     /// Files that the judging call refuses, by number.
     pub refused_files: [u64; 18],
     pub accepted_files: u64,
+    /// Accepted files by their traces: all requests, a sample, none because the
+    /// tables are too long.
+    pub whole_files: u64,
+    pub sampled_files: u64,
+    pub untraced_files: u64,
     pub wired_files: u64,
     pub frames: u64,
     pub outcomes: [u64; 3],
@@ -46,6 +46,9 @@ impl Counts {
     pub fn add(&mut self, other: &Counts) {
         self.calls += other.calls;
         self.accepted_files += other.accepted_files;
+        self.whole_files += other.whole_files;
+        self.sampled_files += other.sampled_files;
+        self.untraced_files += other.untraced_files;
         self.wired_files += other.wired_files;
         self.frames += other.frames;
         for (sum, more) in self.refusals.iter_mut().zip(other.refusals) {
@@ -61,11 +64,20 @@ impl Counts {
         self.largest_file = self.largest_file.max(other.largest_file);
     }
 
-    fn answer(&mut self, answer: u64) {
+    pub fn answer(&mut self, answer: u64) {
         self.calls += 1;
         if answer >> 63 == 1 {
             self.refusals[(answer >> 16 & 0xff) as usize] += 1;
         }
+    }
+
+    pub fn trace(&mut self, trace: &Trace) {
+        self.outcomes[match trace.outcome {
+            Outcome::Arrived => 0,
+            Outcome::NoDestination => 1,
+            Outcome::BadDestination => 2,
+        }] += 1;
+        self.longest_trace = self.longest_trace.max(trace.passed.len() as u64);
     }
 }
 
@@ -100,6 +112,10 @@ impl<T: Copy + PartialEq + Debug> Lent<T> {
 
     pub fn part(&mut self) -> &mut [T] {
         &mut self.all[EDGE..EDGE + self.length]
+    }
+
+    pub fn read(&self) -> &[T] {
+        &self.all[EDGE..EDGE + self.length]
     }
 
     /// Everything as it should be after `written` went into the first places.
@@ -173,7 +189,7 @@ pub fn check_file(
         Err(refusal) => check.refused(*refusal, random, counts)?,
         Ok(judged) => {
             check.tables(judged, random, counts)?;
-            check.traces(judged, random, counts)?;
+            Traces::of(subject, &lent_file, judged, random).check(random, counts)?;
         }
     }
     match lent_file.iter().zip(file).position(|(a, b)| a != b) {
@@ -205,7 +221,6 @@ impl Check<'_> {
         counts.wired_files += wired.is_ok() as u64;
         let needed = neighbours.len();
         let lengths = match wired {
-            Ok(_) if self.file.len() > LARGE => vec![needed - 1, random.between(needed, 70)],
             Ok(_) => vec![
                 0,
                 needed - 1,
@@ -293,19 +308,16 @@ impl Check<'_> {
         counts: &mut Counts,
     ) -> Result<(), Difference> {
         let needed = judged.needed;
-        let mut lengths = Vec::new();
-        if needed > 0 {
-            lengths.push((needed - 1).min(MOST_WORDS));
-        }
-        if needed <= MOST_WORDS {
-            lengths.push(needed + random.below(2) * random.between(1, 20));
-        }
-        if self.file.len() <= LARGE {
-            lengths.push(0);
-            if needed <= MOST_WORDS {
-                lengths.push(needed);
-            }
-        }
+        let lengths = match needed <= MOST_WORDS {
+            true => vec![
+                0,
+                needed.saturating_sub(1),
+                needed,
+                needed + 1,
+                needed + random.between(2, 20),
+            ],
+            false => vec![0, MOST_WORDS],
+        };
         let words = match needed <= MOST_WORDS {
             true => judged.table_words(),
             false => Vec::new(),
@@ -323,223 +335,6 @@ impl Check<'_> {
         }
         Ok(())
     }
-
-    fn traces(
-        &self,
-        judged: &Judged,
-        random: &mut Random,
-        counts: &mut Counts,
-    ) -> Result<(), Difference> {
-        let requests = Requests::of(judged, random);
-        let calls = TIME_PER_FILE / time_of_a_call(judged);
-        let wild = (calls / 4).clamp(2, 12);
-        if judged.needed > MOST_WORDS {
-            let words = Lent::new(10, || random.next());
-            return self.wild(judged, &requests, words, wild, random, counts);
-        }
-        let more = random.pick(&[0, 0, 1, 7]);
-        let given = judged.table_words();
-
-        let mut words = Lent::new(judged.needed + more, || requests.word(random));
-        words.part()[..judged.needed].copy_from_slice(&given);
-        self.sample(
-            judged,
-            &requests,
-            &mut words,
-            calls.clamp(1, 200),
-            true,
-            random,
-            counts,
-        )?;
-
-        // Some entries changed.
-        for word in words.part() {
-            if random.chance(1, 6) {
-                *word = requests.word(random);
-            }
-        }
-        self.sample(
-            judged,
-            &requests,
-            &mut words,
-            (calls / 4).clamp(1, 50),
-            false,
-            random,
-            counts,
-        )?;
-
-        // Other words altogether.
-        for word in words.part() {
-            *word = requests.word(random);
-        }
-        self.sample(
-            judged,
-            &requests,
-            &mut words,
-            (calls / 2).clamp(1, 100),
-            false,
-            random,
-            counts,
-        )?;
-
-        self.wild(judged, &requests, words, wild, random, counts)
-    }
-
-    /// Requests over given words: all of them, or a sample.
-    #[allow(clippy::too_many_arguments)]
-    fn sample(
-        &self,
-        judged: &Judged,
-        requests: &Requests,
-        words: &mut Lent<u64>,
-        budget: usize,
-        given: bool,
-        random: &mut Random,
-        counts: &mut Counts,
-    ) -> Result<(), Difference> {
-        let kept = words.after(&[]);
-        let routes = judged.routes(words.part());
-        let (starts, addresses) = (requests.starts.len(), requests.addresses.len());
-        let all = starts * addresses;
-        for round in 0..all.min(budget) {
-            let choice = if all <= budget {
-                round
-            } else {
-                random.below(all)
-            };
-            let (start, arrival) = requests.starts[choice % starts];
-            let address = requests.addresses[choice / starts];
-            let trace = judged.trace(&routes, start, arrival, address);
-            if given {
-                requests.check_given(judged, start, arrival, address, &trace)?;
-            }
-            let room = judged.expanders() + random.pick(&[0, 0, 1, 9]);
-            let mut passed = Lent::new(room, || random.byte());
-            let after = passed.after(&trace.passed);
-            let expected = trace.answer();
-            let got = self.subject.trace(
-                self.file,
-                words.part(),
-                start,
-                arrival,
-                address,
-                passed.part(),
-            );
-            counts.answer(expected);
-            counts.outcomes[match trace.outcome {
-                Outcome::Arrived => 0,
-                Outcome::NoDestination => 1,
-                Outcome::BadDestination => 2,
-            }] += 1;
-            counts.longest_trace = counts.longest_trace.max(trace.passed.len() as u64);
-            let what = || {
-                format!(
-                    "trace over {}, start {start}, arrival {arrival}, {address:016x}h",
-                    if given {
-                        "the tables given".into()
-                    } else {
-                        list(&kept[EDGE..kept.len() - EDGE])
-                    },
-                )
-            };
-            same(what, expected, got)?;
-            passed.check(what, &after)?;
-        }
-        words.check(|| "trace, words".into(), &kept)
-    }
-
-    /// Traces with starts, arrivals, addresses and lengths in and out of range.
-    fn wild(
-        &self,
-        judged: &Judged,
-        requests: &Requests,
-        mut words: Lent<u64>,
-        rounds: usize,
-        random: &mut Random,
-        counts: &mut Counts,
-    ) -> Result<(), Difference> {
-        let kept = words.after(&[]);
-        let expanders = judged.expanders();
-        for _ in 0..rounds {
-            let start = match random.below(6) {
-                0 => random.byte(),
-                1 => expanders as u8,
-                _ => random.below(expanders) as u8,
-            };
-            let arrival = match random.below(5) {
-                0 => 255,
-                1 => random.pick(&requests.starts).1,
-                2 => random.byte(),
-                _ => match judged.domain.expanders.get(&start) {
-                    Some(expander) => {
-                        let last = expander.phys.keys().last().copied().unwrap_or(0);
-                        random.between(0, usize::from(last) + 1) as u8
-                    }
-                    None => random.pick(&[255, 0, 1]),
-                },
-            };
-            let address = match random.chance(1, 4) {
-                true => 0,
-                false => random.pick(&requests.addresses),
-            };
-            let room = match random.below(4) {
-                0 => random.below(expanders),
-                1 => expanders - 1,
-                _ => expanders + random.below(3),
-            };
-            let length = match random.below(4) {
-                0 => judged.needed.saturating_sub(1).min(words.part().len()),
-                1 => 0,
-                _ => words.part().len(),
-            };
-            let mut passed = Lent::new(room, || random.byte());
-            let outcome = judged
-                .test_request(length, start, arrival, address, room)
-                .map(|()| {
-                    let routes = judged.routes(&words.part()[..length]);
-                    judged.trace(&routes, start, arrival, address)
-                });
-            let (expected, after) = match &outcome {
-                Ok(trace) => (trace.answer(), passed.after(&trace.passed)),
-                Err(refusal) => (refusal.answer(), passed.after(&[])),
-            };
-            let got = self.subject.trace(
-                self.file,
-                &words.part()[..length],
-                start,
-                arrival,
-                address,
-                passed.part(),
-            );
-            counts.answer(expected);
-            let what = || {
-                format!(
-                    "trace over {}, {room} bytes, start {start}, arrival {arrival}, {address:016x}h",
-                    list(&kept[EDGE..EDGE + length])
-                )
-            };
-            same(what, expected, got)?;
-            passed.check(what, &after)?;
-        }
-        words.check(|| "trace, words".into(), &kept)
-    }
-}
-
-/// A high estimate in nanoseconds for a call that takes all level lists: as if
-/// every two phys were compared, and every phy with every word of each list.
-fn time_of_a_call(judged: &Judged) -> usize {
-    let expanders = &judged.domain.expanders;
-    let all: usize = expanders.values().map(|expander| expander.phys.len()).sum();
-    let lists: usize = expanders
-        .iter()
-        .flat_map(|(&number, expander)| {
-            expander.phys.keys().map(move |&phy| {
-                let list = judged.list_of((number, phy));
-                list.map_or(0, |list| expander.phys.len() + list.len())
-            })
-        })
-        .sum();
-    15_000 + 3 * all * all + 2 * all * lists
 }
 
 fn refused(number: u8) -> u64 {
@@ -549,103 +344,6 @@ fn refused(number: u8) -> u64 {
         phy: 0,
     }
     .answer()
-}
-
-/// Words in hexadecimal, cut where there are many.
-fn list(words: &[u64]) -> String {
-    let mut text = format!("{} words", words.len());
-    for (place, word) in words.iter().take(600).enumerate() {
-        let _ = write!(text, "{} {word:016x}", if place == 0 { ":" } else { "" });
-    }
-    text
-}
-
-/// Starts and addresses for the traces of one domain.
-struct Requests {
-    /// Start expander and arrival phy.
-    starts: Vec<(u8, u8)>,
-    /// Addresses of the domain first, then some that nobody bears.
-    addresses: Vec<u64>,
-    borne: usize,
-}
-
-impl Requests {
-    fn of(judged: &Judged, random: &mut Random) -> Requests {
-        let mut starts = Vec::new();
-        let mut addresses = Vec::new();
-        let mut drives = std::collections::BTreeSet::new();
-        for (&number, expander) in &judged.domain.expanders {
-            starts.push((number, 255));
-            addresses.push(expander.address);
-            for (&phy, fields) in &expander.phys {
-                if let Attached::EndDevice(address) = fields.attached {
-                    starts.push((number, phy));
-                    drives.insert(address);
-                }
-            }
-        }
-        addresses.extend(drives);
-        let borne = addresses.len();
-        let near = random.pick(&addresses);
-        for address in [
-            random.next(),
-            near ^ 1,
-            near ^ 1 << random.below(64),
-            u64::MAX,
-            1,
-        ] {
-            if address != 0 && !addresses.contains(&address) {
-                addresses.push(address);
-            }
-        }
-        Requests {
-            starts,
-            addresses,
-            borne,
-        }
-    }
-
-    /// A word for a table that need not be right.
-    fn word(&self, random: &mut Random) -> u64 {
-        match random.below(10) {
-            0..=2 => 0,
-            3 => random.next(),
-            _ => random.pick(&self.addresses),
-        }
-    }
-
-    /// Over the tables given a request to a device of the domain arrives there,
-    /// but for an end device that asks for itself; no other request arrives.
-    fn check_given(
-        &self,
-        judged: &Judged,
-        start: u8,
-        arrival: u8,
-        address: u64,
-        trace: &reference::Trace,
-    ) -> Result<(), Difference> {
-        let source = judged.domain.expanders[&start]
-            .phys
-            .get(&arrival)
-            .and_then(|phy| phy.attached_address());
-        let expected = if source == Some(address) {
-            Outcome::BadDestination
-        } else if self.addresses[..self.borne].contains(&address) {
-            Outcome::Arrived
-        } else {
-            Outcome::NoDestination
-        };
-        if trace.outcome == expected {
-            return Ok(());
-        }
-        Err(Difference {
-            what: format!(
-                "the reference over the tables given, start {start}, arrival {arrival}, {address:016x}h"
-            ),
-            expected: format!("{expected:?}"),
-            got: format!("{trace:?}"),
-        })
-    }
 }
 
 /// The calls that read or write one frame.

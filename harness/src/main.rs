@@ -20,6 +20,7 @@ mod layout;
 mod random;
 mod reference;
 mod stack;
+mod traces;
 mod vectors;
 
 use std::collections::BTreeMap;
@@ -260,8 +261,12 @@ fn run(subject: &dyn Calls, files: u64, seed: u64) {
         counts.wired_files, counts.accepted_files, counts.largest_file, counts.frames
     );
     println!(
-        "  traces: {} arrived, {} NO DESTINATION, {} BAD DESTINATION, longest {} expanders",
-        counts.outcomes[0], counts.outcomes[1], counts.outcomes[2], counts.longest_trace
+        "  traced whole: {} files, by a sample: {}, tables too long to trace over: {}",
+        counts.whole_files, counts.sampled_files, counts.untraced_files
+    );
+    println!(
+        "  traces: {} in all, {} arrived, {} NO DESTINATION, {} BAD DESTINATION, longest {} expanders",
+        counts.outcomes.iter().sum::<u64>(), counts.outcomes[0], counts.outcomes[1], counts.outcomes[2], counts.longest_trace
     );
     let mut missing = false;
     for number in 1..=17 {
