@@ -8,7 +8,7 @@
 use std::collections::{BTreeSet, HashSet};
 
 use crate::layout::*;
-use crate::random::Random;
+use crate::random::{Random, ROUND};
 use crate::reference;
 
 /// A file and the name of the way it was made.
@@ -17,8 +17,16 @@ pub struct Made {
     pub way: &'static str,
 }
 
-/// Makes one file. Most are small; a few have up to 64 x 128 phys.
-pub fn make(random: &mut Random) -> Made {
+/// Makes the file of a seed. Most are small; a few have up to 64 x 128 phys.
+pub fn make(seed: u64, random: &mut Random) -> Made {
+    let place = (seed % ROUND) as usize;
+    if place < LARGEST.len() {
+        let way = LARGEST[place];
+        return Made {
+            file: largest(way, random),
+            way,
+        };
+    }
     let choice = random.below(100);
     let size = Size::of(random);
     let (way, file) = match choice {
@@ -65,6 +73,42 @@ pub fn make(random: &mut Random) -> Made {
     Made { file, way }
 }
 
+/// Trees of 64 x 128 phys, one of each among `ROUND` files of a run.
+const LARGEST: [&str; 4] = [
+    "64 x 128, star",
+    "64 x 128, chain",
+    "64 x 128, chain of 64-wide links",
+    "64 x 128, any tree",
+];
+
+fn largest(way: &str, random: &mut Random) -> Vec<u8> {
+    let any = random.below(SHAPES);
+    let shape = match way {
+        "64 x 128, star" => STAR,
+        "64 x 128, any tree" => any,
+        _ => CHAIN,
+    };
+    let mut sketch = tree_links(random, 64, shape);
+    if way == "64 x 128, chain of 64-wide links" {
+        for link in 0..sketch.links.len() {
+            (1..64).for_each(|_| sketch.widen(link));
+        }
+    }
+    let size = Size {
+        expanders: 64,
+        more_phys: (128, 128),
+        width: 4,
+    };
+    match way {
+        "64 x 128, star" => sketch.furnish(random, &size),
+        // With table phys at end devices the tables would be too long to write out.
+        _ => sketch.furnish_with(random, &size, [100, 0, 0]),
+    }
+    let mut plan = sketch.lay_out(random);
+    set_route_indexes(&mut plan, random, false);
+    finish(&plan, random)
+}
+
 /// How many expanders, and how many phys beside the links.
 struct Size {
     expanders: usize,
@@ -77,13 +121,13 @@ impl Size {
         let (low, high, more, width) = match random.below(100_000) {
             0..=9_999 => (1, 1, (1, 8), 4),
             10_000..=69_999 => (1, 5, (0, 5), 3),
-            70_000..=91_999 => (2, 12, (0, 7), 4),
-            92_000..=97_999 => (6, 40, (0, 6), 4),
-            98_000..=99_499 => (30, 64, (0, 5), 3),
-            99_500..=99_749 => (2, 10, (20, 128), 64),
-            99_750..=99_949 => (20, 64, (10, 60), 8),
-            99_950..=99_998 => (64, 64, (90, 128), 4),
-            // The largest files, with wide links.
+            70_000..=93_999 => (2, 12, (0, 7), 4),
+            94_000..=98_499 => (6, 40, (0, 6), 4),
+            98_500..=99_599 => (30, 64, (0, 5), 3),
+            99_600..=99_799 => (2, 10, (20, 128), 64),
+            99_800..=99_974 => (20, 64, (10, 60), 8),
+            99_975..=99_994 => (64, 64, (90, 128), 4),
+            // Nearly the largest, with wide links.
             _ => (60, 64, (110, 128), 40),
         };
         Size {
@@ -211,6 +255,12 @@ impl Sketch {
 
     /// Adds lanes, end devices, empty and vacant phys.
     fn furnish(&mut self, random: &mut Random, size: &Size) {
+        let attributes = random.pick(&[[80, 15, 5], [100, 0, 0], [30, 60, 10], [0, 100, 0]]);
+        self.furnish_with(random, size, attributes);
+    }
+
+    /// The attributes are shares of: direct, table, subtractive end devices.
+    fn furnish_with(&mut self, random: &mut Random, size: &Size, attributes: [usize; 3]) {
         let wide = random.chance(1, 2);
         for link in 0..self.links.len() {
             if self.links[link].same_phy || !wide || !random.chance(1, 2) {
@@ -228,9 +278,6 @@ impl Sketch {
             [40, 5, 10, 45],
             [70, 5, 20, 5],
         ]);
-        // Shares of: direct, table, subtractive end devices.
-        let attributes: [usize; 3] =
-            random.pick(&[[80, 15, 5], [100, 0, 0], [30, 60, 10], [0, 100, 0]]);
         for expander in 0..self.len() {
             let (low, high) = size.more_phys;
             let mut left = random.between(low, high).min(self.room(expander));
@@ -418,17 +465,18 @@ impl Addresses {
 
 // ---------------------------------------------------------------- shapes
 
+const CHAIN: usize = 0;
+const STAR: usize = 1;
+const SHAPES: usize = 8;
+
 /// The upper expander of each expander but the first.
-fn upper(random: &mut Random, expanders: usize) -> Vec<usize> {
-    let shape = random.below(8);
+fn upper(random: &mut Random, expanders: usize, shape: usize) -> Vec<usize> {
     let stride = random.between(1, 4);
     let mut upper = vec![0];
     for expander in 1..expanders {
         upper.push(match shape {
-            // chain
-            0 => expander - 1,
-            // star
-            1 => 0,
+            CHAIN => expander - 1,
+            STAR => 0,
             // binary tree
             2 => (expander - 1) / 2,
             // comb: every second expander is a tooth
@@ -444,9 +492,14 @@ fn upper(random: &mut Random, expanders: usize) -> Vec<usize> {
     upper
 }
 
-fn tree_links(random: &mut Random, expanders: usize) -> Sketch {
+fn any_links(random: &mut Random, expanders: usize) -> Sketch {
+    let shape = random.below(SHAPES);
+    tree_links(random, expanders, shape)
+}
+
+fn tree_links(random: &mut Random, expanders: usize, shape: usize) -> Sketch {
     let mut sketch = Sketch::new(expanders);
-    let upper = upper(random, expanders);
+    let upper = upper(random, expanders, shape);
     let top_pair = (expanders > 1 && random.chance(1, 3)).then(|| {
         let below: Vec<usize> = (1..expanders).filter(|&e| upper[e] == 0).collect();
         random.pick(&below)
@@ -463,7 +516,7 @@ fn tree_links(random: &mut Random, expanders: usize) -> Sketch {
 }
 
 fn tree(random: &mut Random, size: &Size) -> Sketch {
-    let mut sketch = tree_links(random, size.expanders);
+    let mut sketch = any_links(random, size.expanders);
     sketch.furnish(random, size);
     sketch
 }
@@ -478,7 +531,7 @@ fn looped(random: &mut Random, size: &Size) -> Sketch {
         }
         ring
     } else {
-        let mut sketch = tree_links(random, expanders);
+        let mut sketch = any_links(random, expanders);
         for _ in 0..random.pick(&[1, 1, 2, 5]) {
             let (a, b) = (random.below(expanders), random.below(expanders));
             if a != b && !sketch.adjacent(a, b) {
@@ -496,7 +549,7 @@ fn looped(random: &mut Random, size: &Size) -> Sketch {
 }
 
 fn self_cabled(random: &mut Random, size: &Size) -> Sketch {
-    let mut sketch = tree_links(random, size.expanders);
+    let mut sketch = any_links(random, size.expanders);
     let expander = random.below(size.expanders);
     let same = match sketch.no_subtractive[expander] && random.chance(1, 2) {
         true => SUBTRACTIVE,
@@ -526,7 +579,7 @@ fn islands(random: &mut Random, size: &Size) -> Sketch {
     let mut start = 0;
     let bad = random.below(4);
     for end in ends {
-        let part = tree_links(random, end - start);
+        let part = any_links(random, end - start);
         for link in part.links {
             let [near, far] = link.ends;
             sketch.link((near.0 + start, near.1), (far.0 + start, far.1));
@@ -542,7 +595,7 @@ fn islands(random: &mut Random, size: &Size) -> Sketch {
 }
 
 fn table_to_table(random: &mut Random, size: &Size) -> Sketch {
-    let mut sketch = tree_links(random, size.expanders.max(2));
+    let mut sketch = any_links(random, size.expanders.max(2));
     for _ in 0..random.pick(&[1, 1, 2]) {
         let link = random.below(sketch.links.len());
         for end in 0..2 {

@@ -134,7 +134,7 @@ fn numbers(words: &[&str]) -> (u64, u64) {
 /// Makes the file of a seed and checks it.
 fn check(subject: &dyn Calls, seed: u64, counts: &mut Counts) -> Result<&'static str, Failure> {
     let mut random = Random::new(seed);
-    let made = generate::make(&mut random);
+    let made = generate::make(seed, &mut random);
     compare::check_file(subject, &made.file, &mut random, counts)
         .and_then(|()| {
             for _ in 0..FRAMES_PER_FILE {

@@ -51,7 +51,12 @@ impl Random {
     }
 }
 
-/// The seed of file `index` in a run with seed `seed`.
+/// Files of a run after which its largest files come again.
+pub const ROUND: u64 = 1 << 15;
+
+/// The seed of file `index` in a run with seed `seed`. It keeps the place of the
+/// file in its round, by which the generator makes the largest files.
 pub fn file_seed(seed: u64, index: u64) -> u64 {
-    Random::new(seed.wrapping_mul(0x2545_f491_4f6c_dd1d) ^ index).next()
+    let mixed = Random::new(seed.wrapping_mul(0x2545_f491_4f6c_dd1d) ^ index).next();
+    mixed - mixed % ROUND + index % ROUND
 }
