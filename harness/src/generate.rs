@@ -19,13 +19,9 @@ pub struct Made {
 
 /// Makes the file of a seed. Most are small; a few have up to 64 x 128 phys.
 pub fn make(seed: u64, random: &mut Random) -> Made {
-    let place = (seed % ROUND) as usize;
-    if place < LARGEST.len() {
-        let way = LARGEST[place];
-        return Made {
-            file: largest(way, random),
-            way,
-        };
+    if let Some(&(way, shape, lanes)) = LARGEST.get((seed % ROUND) as usize) {
+        let file = largest(shape, lanes, random);
+        return Made { file, way };
     }
     let choice = random.below(100);
     let size = Size::of(random);
@@ -73,34 +69,29 @@ pub fn make(seed: u64, random: &mut Random) -> Made {
     Made { file, way }
 }
 
-/// Trees of 64 x 128 phys, one of each among `ROUND` files of a run.
-const LARGEST: [&str; 4] = [
-    "64 x 128, star",
-    "64 x 128, chain",
-    "64 x 128, chain of 64-wide links",
-    "64 x 128, any tree",
+/// Trees of 64 x 128 phys, one of each among `ROUND` files of a run: the shape,
+/// or any, and the lanes of each link.
+const LARGEST: [(&str, Option<usize>, usize); 4] = [
+    ("64 x 128, star", Some(STAR), 1),
+    ("64 x 128, chain", Some(CHAIN), 1),
+    ("64 x 128, chain of 64-wide links", Some(CHAIN), 64),
+    ("64 x 128, any tree", None, 1),
 ];
 
-fn largest(way: &str, random: &mut Random) -> Vec<u8> {
+fn largest(shape: Option<usize>, lanes: usize, random: &mut Random) -> Vec<u8> {
     let any = random.below(SHAPES);
-    let shape = match way {
-        "64 x 128, star" => STAR,
-        "64 x 128, any tree" => any,
-        _ => CHAIN,
-    };
+    let shape = shape.unwrap_or(any);
     let mut sketch = tree_links(random, 64, shape);
-    if way == "64 x 128, chain of 64-wide links" {
-        for link in 0..sketch.links.len() {
-            (1..64).for_each(|_| sketch.widen(link));
-        }
+    for link in 0..sketch.links.len() {
+        (1..lanes).for_each(|_| sketch.widen(link));
     }
     let size = Size {
         expanders: 64,
         more_phys: (128, 128),
         width: 4,
     };
-    match way {
-        "64 x 128, star" => sketch.furnish(random, &size),
+    match shape {
+        STAR => sketch.furnish(random, &size),
         // With table phys at end devices the tables would be too long to write out.
         _ => sketch.furnish_with(random, &size, [100, 0, 0]),
     }
@@ -120,13 +111,13 @@ impl Size {
     fn of(random: &mut Random) -> Size {
         let (low, high, more, width) = match random.below(100_000) {
             0..=9_999 => (1, 1, (1, 8), 4),
-            10_000..=69_999 => (1, 5, (0, 5), 3),
-            70_000..=93_999 => (2, 12, (0, 7), 4),
-            94_000..=98_499 => (6, 40, (0, 6), 4),
-            98_500..=99_599 => (30, 64, (0, 5), 3),
-            99_600..=99_799 => (2, 10, (20, 128), 64),
-            99_800..=99_974 => (20, 64, (10, 60), 8),
-            99_975..=99_994 => (64, 64, (90, 128), 4),
+            10_000..=74_129 => (1, 5, (0, 5), 3),
+            74_130..=95_129 => (2, 12, (0, 7), 4),
+            95_130..=98_629 => (6, 40, (0, 6), 4),
+            98_630..=99_629 => (30, 64, (0, 5), 3),
+            99_630..=99_829 => (2, 10, (20, 128), 64),
+            99_830..=99_979 => (20, 64, (10, 60), 8),
+            99_980..=99_994 => (64, 64, (90, 128), 4),
             // Nearly the largest, with wide links.
             _ => (60, 64, (110, 128), 40),
         };
