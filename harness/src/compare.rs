@@ -101,6 +101,15 @@ pub struct Lent<T> {
     length: usize,
 }
 
+impl Lent<u8> {
+    /// A copy of what a call only reads.
+    pub fn of(content: &[u8]) -> Lent<u8> {
+        let mut lent = Lent::new(content.len(), || 0xa5);
+        lent.part().copy_from_slice(content);
+        lent
+    }
+}
+
 impl<T: Copy + PartialEq + Debug> Lent<T> {
     pub fn new(length: usize, fill: impl FnMut() -> T) -> Lent<T> {
         let mut fill = fill;
@@ -174,10 +183,11 @@ pub fn check_file(
     random: &mut Random,
     counts: &mut Counts,
 ) -> Result<(), Difference> {
-    let lent_file = file.to_vec();
+    let lent = Lent::of(file);
+    let kept = lent.after(&[]);
     let check = Check {
         subject,
-        file: &lent_file,
+        file: lent.read(),
     };
     counts.largest_file = counts.largest_file.max(file.len() as u64);
 
@@ -189,17 +199,10 @@ pub fn check_file(
         Err(refusal) => check.refused(*refusal, random, counts)?,
         Ok(judged) => {
             check.tables(judged, random, counts)?;
-            Traces::of(subject, &lent_file, judged, random).check(random, counts)?;
+            Traces::of(subject, lent.read(), judged, random).check(random, counts)?;
         }
     }
-    match lent_file.iter().zip(file).position(|(a, b)| a != b) {
-        None => Ok(()),
-        Some(place) => Err(Difference {
-            what: format!("the file was written to at byte {place}"),
-            expected: format!("{:02x}", file[place]),
-            got: format!("{:02x}", lent_file[place]),
-        }),
-    }
+    lent.check(|| "the file".into(), &kept)
 }
 
 struct Check<'a> {
@@ -354,7 +357,8 @@ pub fn check_frame(
 ) -> Result<(), Difference> {
     counts.frames += 1;
     let frame = generate::frame(random);
-    let read = frame.clone();
+    let lent = Lent::of(&frame);
+    let read = lent.read();
     let what = |call: &str| format!("{call} of {}", hex(&frame));
     let own = Discover::addresses(&frame);
     let route = Route::read(&frame);
@@ -362,27 +366,27 @@ pub fn check_frame(
         (
             "read_general",
             General::answer(&frame),
-            subject.read_general(&read),
+            subject.read_general(read),
         ),
         (
             "read_discover",
             Discover::answer(&frame),
-            subject.read_discover(&read),
+            subject.read_discover(read),
         ),
-        ("discover_own", own.0, subject.discover_own(&read)),
-        ("discover_attached", own.1, subject.discover_attached(&read)),
+        ("discover_own", own.0, subject.discover_own(read)),
+        ("discover_attached", own.1, subject.discover_attached(read)),
         (
             "read_route",
             match route {
                 Ok(route) => u64::from(route.phy) * 65536 + u64::from(route.index),
                 Err(refusal) => refusal.answer(),
             },
-            subject.read_route(&read),
+            subject.read_route(read),
         ),
         (
             "read_route_entry",
             route.map_or(0, |route| route.entry),
-            subject.read_route_entry(&read),
+            subject.read_route_entry(read),
         ),
     ];
     for (call, expected, got) in checks {
@@ -391,13 +395,7 @@ pub fn check_frame(
         }
         same(|| what(call), expected, got)?;
     }
-    if read != frame {
-        return Err(Difference {
-            what: what("a frame was written to by a read call"),
-            expected: hex(&frame),
-            got: hex(&read),
-        });
-    }
+    lent.check(|| what("the frame of a read call"), &Lent::of(&frame).all)?;
 
     let route = Route {
         phy: match random.below(4) {
