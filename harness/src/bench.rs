@@ -44,6 +44,12 @@ pub fn run() {
             address: d(63, 127),
         },
         Case {
+            name: "64 x 128, star, spread addresses",
+            file: spread_drives(full_star(DIRECT)),
+            start: (1, 127),
+            address: spread(d(63, 127)),
+        },
+        Case {
             name: "64 x 128, chain of 64-wide links",
             file: chain(),
             start: (0, 0),
@@ -244,4 +250,27 @@ fn chain() -> Vec<u8> {
         expanders.push(expander);
     }
     DomainFile::of(expanders).bytes()
+}
+
+/// A file of expanders with 128 phys each, with other addresses of its end
+/// devices.
+fn spread_drives(mut file: Vec<u8>) -> Vec<u8> {
+    for unit in file[2..].chunks_mut(36 + 128 * 52) {
+        for phy in unit[36..].chunks_mut(52) {
+            if phy[12] >> 4 & 7 == 1 {
+                let mut address = [0; 8];
+                address.copy_from_slice(&phy[24..32]);
+                let address = spread(u64::from_be_bytes(address));
+                phy[24..32].copy_from_slice(&address.to_be_bytes());
+            }
+        }
+    }
+    file
+}
+
+/// Another address for each, with no order in them.
+fn spread(address: u64) -> u64 {
+    let mixed = (address ^ address >> 30).wrapping_mul(0xbf58_476d_1ce4_e5b9);
+    let mixed = (mixed ^ mixed >> 27).wrapping_mul(0x94d0_49bb_1331_11eb);
+    mixed ^ mixed >> 31
 }
