@@ -408,19 +408,14 @@ class Reader:
             raise TextError(
                 phy.line, f"{phy} is cabled to {far}, which is empty (line {far.line})"
             )
-        if far.named and far.named != near_end:
-            other, number = far.named
+        end = far.named or far.attached
+        if end and end != near_end:
+            other, number = end
+            line = far.line if far.named else other.phys[number].line
             raise TextError(
                 phy.line,
                 f"{phy} is cabled to {far}, which is cabled to {other.name}.{number}"
-                f" (line {far.line})",
-            )
-        if far.attached and far.attached != near_end:
-            other, number = far.attached
-            raise TextError(
-                phy.line,
-                f"{phy} is cabled to {far}, which is cabled to {other.name}.{number}"
-                f" (line {other.phys[number].line})",
+                f" (line {line})",
             )
         far.attached = near_end
 
