@@ -16,7 +16,7 @@ use Rattle.tables.proofs.Growing.{grown-length}
 abbrev pub filled : ℕ → List ℕ → List ℕ
 filled n l = take n (l ++ replicate n 0)
 
-length-filled : (n : ℕ) (l : List ℕ) → length (filled n l) ≡ n
+pub length-filled : (n : ℕ) (l : List ℕ) → length (filled n l) ≡ n
 length-filled n l = length-take-le n (l ++ replicate n 0) (omega (arith, length-append l (replicate n 0), length-replicate {A = ℕ} n 0))
 
 pub length-table : (d : Domain) (i p : ℕ) → length (table d i p) ≡ expanderAt d i .indexes

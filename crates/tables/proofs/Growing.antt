@@ -82,6 +82,9 @@ grown-kept n next q h = record { same = refl; fits = h; whole = sym q }
 pub grown-more : (n : ℕ) (next : List ℕ) {l : List ℕ} (j : ℕ) → l ≡ take n next ++ (j ∷ []) → n < length next → Grown next (set next n j) (n + 1) l
 grown-more n next j q h = record { same = length-set next n j; fits = omega arith; whole = stored n next j h ∙ sym q }
 
+pub grown-again : {before after : List ℕ} {r : ℕ} {l : List ℕ} → Grown before after r l → Grown after after r l
+grown-again {before} {after} {r} g = let s = g .same in let h = g .fits in record { same = refl; fits = omega arith; whole = g .whole }
+
 pub grown-length : {before after : List ℕ} {r : ℕ} {l : List ℕ} → Grown before after r l → r ≡ length l
 grown-length {before} {after} {r} {l} g =
     let s = g .same in

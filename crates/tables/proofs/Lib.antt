@@ -17,7 +17,6 @@ pub mod Collecting
 pub mod Law
 pub mod Fills
 pub mod Puts
-pub mod Copies
 pub mod Over
 pub mod Judging
 pub mod Lawful

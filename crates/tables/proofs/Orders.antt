@@ -143,7 +143,7 @@ module _ (d : Domain) (φ ψ : Phy) (one : T (oneLink φ ψ)) where
       below-one d φ (is-true (down d φ) (and-left (down d φ) _ one)) ∙ ap (λ (s : ℕ). numberOf d s ∷ []) same
       ∙ sym (below-one d ψ (is-true (down d ψ) (and-left (down d ψ) _ more)))
 
-order-linked : (d : Domain) (x : ℕ) (φ ψ : Phy) → T (oneLink φ ψ) → orderOf d x φ ≡ orderOf d x ψ
+pub order-linked : (d : Domain) (x : ℕ) (φ ψ : Phy) → T (oneLink φ ψ) → orderOf d x φ ≡ orderOf d x ψ
 unfolding orderOf
 order-linked d x φ ψ one = ap (levelsFrom (length d) d (x ∷ [])) (linked-number d φ ψ one)
 

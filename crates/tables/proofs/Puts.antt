@@ -7,18 +7,16 @@ use mathlib.Core.List.{List, [], _∷_, _++_, flatMap, append-nil, append-assoc}
 use native.Mathlib.Omega.{arith}
 use native.Mathlib.Nat.{add-zero}
 use native.Mathlib.Numerals.{add-one}
-use lib.ListN.{length, take, drop, length-append, length-drop, take-append-drop, drop-of-length-le}
+use lib.ListN.{length, take, drop, replicate, length-append, length-drop, take-append-drop, drop-of-length-le}
 use lib.Seq.{take-at, drop-at, drop-cons, drop-drop, length-take-le}
 use Rattle.wiring.specs.Lists.{keep}
-use Rattle.wiring.specs.Domain.{Domain, noExpander, expanderAt, phyAt, routes, toExpander}
+use Rattle.wiring.specs.Domain.{Domain, noExpander, expanderAt, phyAt, routes}
 use Rattle.wiring.specs.Causes.{Place, place, phyPlaces, placesFrom, places}
-use Rattle.wiring.proofs.Members.{and-right, was-true, was-false, keep-append}
-use Rattle.tables.specs.Tables.{giveAll, levelList, table, tablePlaces, tables, size, sizes, needed}
+use Rattle.wiring.proofs.Members.{keep-append}
+use Rattle.tables.specs.Tables.{levelList, table, tablePlaces, tables, size, sizes, needed}
 use Rattle.tables.specs.Filling.{TableFilled, placesAt, withTables, tablesOf, overlay, Put}
 use Rattle.tables.proofs.Growing.{flat-append}
-use Rattle.tables.specs.Prepared.{Fillable}
-use Rattle.tables.proofs.Law.{levels-empty}
-use Rattle.tables.proofs.Fills.{filled, length-table}
+use Rattle.tables.proofs.Fills.{length-filled, length-table}
 
 -- the places left
 module _ (i n p : ℕ) where
@@ -107,7 +105,7 @@ module _ (d : Domain) where
   unfolding tablesOf keep flatMap
   tables-none rest q = ap (tablesOf d) q
 
-  pub tables-by : (i p : ℕ) {b : Bool} → routes 2 (phyAt d i p) ≡ b → tablesOf d (place i p ∷ []) ≡ cond b (table d i p) []
+  tables-by : (i p : ℕ) {b : Bool} → routes 2 (phyAt d i p) ≡ b → tablesOf d (place i p ∷ []) ≡ cond b (table d i p) []
   unfolding tablesOf keep flatMap
   tables-by i p {b} q = rw q (go b)
     where
@@ -157,41 +155,29 @@ length-overlay ws at r h =
     let c = length-drop (at + length r) ws in
     omega (arith, length-take-le at ws (omega arith))
 
--- the table at one place, in words of its own and put in words; none at a phy that is no table phy
-module _ (d : Domain) (i p : ℕ) where
-  list-none : routes 2 (phyAt d i p) ≡ false → levelList d i p ≡ []
-  unfolding levelList flatMap giveAll
-  list-none q = rw (levels-empty d i p (λ t. was-false _ q (and-right (toExpander (phyAt d i p)) _ t))) refl
+put-part : (ws : List ℕ) (at k : ℕ) (r : List ℕ) → length r ≡ k → take at ws ++ (r ++ drop k (drop at ws)) ≡ overlay ws at r
+unfolding overlay
+put-part ws at k r q = rw (drop-drop k at ws, q)
 
-  pub fits-one : Fillable d → length (levelList d i p) ≤ size d (place i p)
-  fits-one f = go (routes 2 (phyAt d i p)) refl
-    where
-      go : (b : Bool) → routes 2 (phyAt d i p) ≡ b → length (levelList d i p) ≤ size d (place i p)
-      go true q = omega (arith, size-by d i p q, f .fits i p (was-true _ q))
-      go false q = omega (arith, ap length (list-none q))
+module _ (d : Domain) (i p : ℕ) (ws : List ℕ) (at : ℕ) where
+  -- no table phy
+  pub put-none : routes 2 (phyAt d i p) ≡ false → Put ws ws at at (tablesOf d (place i p ∷ []))
+  put-none b =
+      let q = tables-by d i p b in
+      record { same = refl; next = omega (arith, ap length q); words = sym (ap (overlay ws at) q ∙ overlay-none ws at) }
 
-  filled-by : (b : Bool) → filled (cond b (expanderAt d i .indexes) 0) (levelList d i p) ≡ cond b (table d i p) []
+  -- a part of the words, lent and filled
+  pub put-one : {part r : List ℕ} {n : ℕ} → TableFilled d i p part r n → routes 2 (phyAt d i p) ≡ true → (k : ℕ) → length part ≡ k
+      → k ≡ expanderAt d i .indexes → (e : ℕ) → e ≡ at + k → e ≤ length ws
+      → Put ws (take at ws ++ (r ++ drop k (drop at ws))) at e (tablesOf d (place i p ∷ []))
   unfolding table
-  filled-by true = refl
-  filled-by false = refl
-
-  pub filled-one : {part r : List ℕ} {n : ℕ} → TableFilled d i p part r n → length part ≡ size d (place i p) → r ≡ tablesOf d (place i p ∷ [])
-  filled-one t q =
-      t .words ∙ ap (λ (n : ℕ). filled n (levelList d i p)) (q ∙ size-by d i p refl) ∙ filled-by (routes 2 (phyAt d i p)) ∙ sym (tables-by d i p refl)
-
-  pub put-one : (ws ws' : List ℕ) (at k : ℕ) → ws' ≡ overlay ws at (tablesOf d (place i p ∷ [])) → k ≡ size d (place i p) → at + k ≤ length ws
-      → Put ws ws' at (at + k) (tablesOf d (place i p ∷ []))
-  put-one ws ws' at k q z h =
-      let n = length-one d (place i p) in
-      record { same = ap length q ∙ length-overlay ws at (tablesOf d (place i p ∷ [])) (omega arith); next = omega arith; words = q }
-
-  -- a part of the words, n of them, lent and filled
-  pub put-lent : (ws ws' r : List ℕ) (at n k : ℕ) → ws' ≡ take at ws ++ (r ++ drop n (drop at ws)) → r ≡ tablesOf d (place i p ∷ []) → n ≡ k
-      → k ≡ size d (place i p) → at + k ≤ length ws → Put ws ws' at (at + k) (tablesOf d (place i p ∷ []))
-  unfolding overlay
-  put-lent ws ws' r at n k q f e z h =
-      let g : n ≡ length (tablesOf d (place i p ∷ [])) = omega (arith, length-one d (place i p)) in
-      put-one ws ws' at k (q ∙ rw (drop-drop n at ws, f, g)) z h
+  put-one {part} {r} t b k q z e qe h =
+      let new : List ℕ = tablesOf d (place i p ∷ []) in
+      let s : r ≡ new = t .words ∙ ap (λ (n : ℕ). take n (levelList d i p ++ replicate n 0)) (q ∙ z) ∙ sym (tables-by d i p b) in
+      let lr : length r ≡ k = ap length (t .words) ∙ length-filled (length part) (levelList d i p) ∙ q in
+      let w : take at ws ++ (r ++ drop k (drop at ws)) ≡ overlay ws at new = put-part ws at k r lr ∙ ap (overlay ws at) s in
+      let ln : length new ≡ k = sym (ap length s) ∙ lr in
+      record { same = ap length w ∙ length-overlay ws at new (omega arith); next = omega arith; words = w }
 
 -- a turn, and the end
 module _ (d : Domain) (ws : List ℕ) (at : ℕ) (rest : List Place) {v : List ℕ} (inv : overlay ws at (tablesOf d rest) ≡ v) where

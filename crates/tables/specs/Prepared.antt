@@ -1,10 +1,10 @@
 -- What the judging and table calls prepare before they go through the table phys: each expander's own list, the expanders below each,
 -- and the expanders of a phy's levels in their order.
-use Prim.Native.Nat.{ℕ, suc, _+_, _*_, _%_, _≤_, _<_}
+use Prim.Native.Nat.{ℕ, suc, _*_, _%_, _≤_, _<_}
 use mathlib.Core.Path.{_≡_}
-use mathlib.Core.Bool.{Bool, cond, _&&_}
+use mathlib.Core.Bool.{Bool, _&&_}
 use mathlib.Core.List.{List, [], _∷_}
-use lib.ListN.{length, take, drop, getD}
+use lib.ListN.{length, take, drop}
 use lib.Dec.{T, eqb, ltb}
 use Rattle.wiring.specs.Frames.{Result, good, then}
 use Rattle.wiring.specs.declared.Phy.{Phy}
@@ -14,7 +14,7 @@ use Rattle.wiring.specs.Causes.{firstOf}
 use Rattle.wiring.specs.Links.{checkedDomain}
 use Rattle.wiring.specs.Seen.{mayHave}
 use Rattle.tables.specs.Levels.{once, belowPhys, below, levelsFrom, levels}
-use Rattle.tables.specs.Tables.{levelList, table}
+use Rattle.tables.specs.Tables.{levelList}
 use Rattle.tables.specs.Own.{own, ownList}
 
 -- from word stride * i on stand the length of list i and then the list, for each i below n
@@ -65,20 +65,6 @@ Told d i p q = q < p → T (oneLink (phyAt d i q) (phyAt d i p))
 -- the set has each of these numbers
 pub record Holds (l words : List ℕ) : Type 0 where
   pub held : (j : ℕ) → T (isIn j l) → T (mayHave words j)
-
--- phy p of expander i is a table phy, and its table stands in the words from a place on and ends before `at`
-pub record TableAt (d : Domain) (i p from at : ℕ) (words : List ℕ) : Type 0 where
-  pub routed : T (routes 2 (phyAt d i p))
-  pub before : from + expanderAt d i .indexes ≤ at
-  pub same : take (expanderAt d i .indexes) (drop from words) ≡ table d i p
-
--- the place that is kept for phy q, where it is lower than p
-unfoldable pub startOf : List ℕ → ℕ → ℕ → ℕ → ℕ
-startOf starts q p at = cond (ltb q p) (getD starts q 0) at
-
--- the tables of table phys below p of expander i stand where `starts` says, and end before `at`
-pub record Started (d : Domain) (i p at : ℕ) (starts words : List ℕ) : Type 0 where
-  pub given : (q : ℕ) → q < p → T (routes 2 (phyAt d i q)) → TableAt d i q (getD starts q 0) at words
 
 -- 14 by own lists: those of the phy's levels have more than R words in all
 unfoldable pub overOwn : Domain → ℕ → ℕ → Bool

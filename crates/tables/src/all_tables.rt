@@ -3,9 +3,9 @@ use crate::below;
 use crate::filling;
 use crate::order;
 use crate::own;
-use crate::wide;
 use frames::ExpanderNumber;
 use frames::PhyId;
+use wiring::Phy;
 ghost use mathlib.Core.Path.{_≡_};
 ghost use mathlib.Core.List.{[], _∷_, _++_};
 ghost use Prim.Native.Nat.{_+_, _^_, _≤_, _<_};
@@ -14,8 +14,9 @@ ghost use Rattle.wiring.specs.Domain.{phyAt, routes};
 ghost use Rattle.wiring.specs.Causes.{place};
 ghost use Rattle.wiring.specs.Rows.{domainIn};
 ghost use Rattle.tables.specs.Tables.{tablePlaces, tables, size, sizes, needed};
+ghost use Rattle.tables.specs.Levels.{levels};
 ghost use Rattle.tables.specs.Filling.{placesAt, withTables, tablesOf, Put};
-ghost use Rattle.tables.specs.Prepared.{OwnHeld, BelowHeld, Fillable, startOf};
+ghost use Rattle.tables.specs.Prepared.{OwnHeld, BelowHeld, Fillable};
 
 // Is phy p of expander i a non-vacant table phy?
 pub(crate) fn is_table(rows: &[u64], i: ExpanderNumber, p: PhyId) -> bool
@@ -100,38 +101,32 @@ pub fn table_count(rows: &[u64]) -> usize
     sum
 }
 
-// Writes the table of phy p of expander i, by own lists; none where it is no table phy. `order` is room for
-// the levels.
-fn own_table(
+// Writes the table of phy p of expander i from `at` on, and yields the place after it. `lists` has the
+// own lists, `order` the expanders of the phy's levels.
+fn put_table(
     rows: &[u64],
     lists: &[u64],
-    below: &[u8],
-    order: &mut [u8],
+    order: &[u8],
     i: ExpanderNumber,
     p: PhyId,
-    part: &mut [u64],
-)
-    requires { ⌜ OwnHeld (domainIn (now rows)) (now lists) × (BelowHeld (domainIn (now rows)) (now below) × ((length (now order) ≡ 4160)
-        × (Fillable (domainIn (now rows)) × (length (now part) ≡ size (domainIn (now rows)) (place (i .0) (p .0)))))) ⌝ }
-    ensures { λ _. ⌜ now (part .exit) ≡ tablesOf (domainIn (now (rows .entry))) (place (i .0) (p .0) ∷ []) ⌝ }
+    words: &mut [u64],
+    at: usize,
+) -> usize
+    requires { ⌜ OwnHeld (domainIn (now rows)) (now lists) × ((now order ≡ levels (domainIn (now rows)) (i .0) (p .0))
+        × (Fillable (domainIn (now rows)) × (at + size (domainIn (now rows)) (place (i .0) (p .0)) ≤ length (now words)))) ⌝ }
+    ensures { λ r. ⌜ Put (now (words .entry)) (now (words .exit)) at r
+        (tablesOf (domainIn (now (rows .entry))) (place (i .0) (p .0) ∷ [])) ⌝ }
 {
-    let m = order::put_order(rows, below, i, wiring::phy_at(rows, i, p), order);
-    filling::fill_table(rows, lists, &order[..m], i, p, part);
-}
-
-// Where the table of phy q starts, if q is lower than p; `at` otherwise. `starts` has it for each phy below p.
-fn start_of(starts: &[usize], q: u8, p: PhyId, at: usize) -> usize
-    requires { ⌜ p .0 ≤ length (now starts) ⌝ }
-    ensures { λ r. ⌜ r ≡ startOf (now (starts .entry)) q (p .0) at ⌝ }
-{
-    if q >= p.0 {
+    if !is_table(rows, i, p) {
         return at;
     }
-    starts[q as usize]
+    let e = at + wiring::index_count(rows, i) as usize;
+    filling::fill_table(rows, lists, order, i, p, &mut words[at..e]);
+    e
 }
 
-// Writes the tables of expander i from `at` on, and yields the place after them: a phy's table is a copy of
-// that of a lower phy on its link, if there is one. `order` is room for the levels of one phy.
+// Writes the tables of expander i from `at` on, and yields the place after them. `order` is room for
+// the levels of one phy.
 fn put_tables(
     rows: &[u64],
     lists: &[u64],
@@ -147,22 +142,15 @@ fn put_tables(
         (tablesOf (domainIn (now (rows .entry))) (placesAt (domainIn (now (rows .entry))) (i .0))) ⌝ }
 {
     let n = wiring::phy_count(rows, i);
-    let mut slots = [255u8; 256];
-    let mut starts = [0usize; 128];
     let mut to = at;
+    let mut g = Phy::Vacant(0);
+    let mut m: usize = 0;
     let mut p: u8 = 0;
     while p < n {
-        let q = wide::lower_phy(rows, &mut slots[..], i, PhyId(p));
-        let from = start_of(&starts[..], q, PhyId(p), to);
-        let size = size_at(rows, i, PhyId(p));
-        let e = to + size;
-        if from < to {
-            filling::copy_table(words, from, size, to);
-        } else {
-            own_table(rows, lists, below, order, i, PhyId(p), &mut words[to..e]);
-        }
-        starts[p as usize] = to;
-        to = e;
+        let f = wiring::phy_at(rows, i, PhyId(p));
+        m = order::order_for(rows, below, i, g, m, f, order);
+        g = f;
+        to = put_table(rows, lists, &order[..m], i, PhyId(p), words, to);
         p += 1;
     }
     to

@@ -4,10 +4,10 @@ use frames::PhyId;
 ghost use mathlib.Core.Path.{_≡_};
 ghost use mathlib.Core.List.{_++_, flatMap};
 ghost use Prim.Native.Nat.{_+_, _-_, _≤_};
-ghost use lib.ListN.{length, take, drop, replicate};
+ghost use lib.ListN.{length, take, replicate};
 ghost use Rattle.wiring.specs.Rows.{domainIn};
 ghost use Rattle.tables.specs.Own.{own};
-ghost use Rattle.tables.specs.Filling.{Grown, TableFilled, overlay};
+ghost use Rattle.tables.specs.Filling.{Grown, TableFilled};
 ghost use Rattle.tables.specs.Prepared.{OwnHeld, FilledFrom};
 
 // Copies the words after the first n of `part`, and yields how many stand there then.
@@ -82,16 +82,4 @@ pub(crate) fn fill_table(
     let n = copy_lists(rows, lists, order, part);
     clear_from(part, n);
     n
-}
-
-// Copies the n words from `from` on to the words from `at` on, which stand behind them.
-pub(crate) fn copy_table(words: &mut [u64], from: usize, n: usize, at: usize)
-    requires { ⌜ (from + n ≤ at) × (at + n ≤ length (now words)) ⌝ }
-    ensures { λ _. ⌜ now (words .exit) ≡ overlay (now (words .entry)) at (take n (drop from (now (words .entry)))) ⌝ }
-{
-    let mut k: usize = 0;
-    while k < n {
-        words[at + k] = words[from + k];
-        k += 1;
-    }
 }

@@ -1,6 +1,7 @@
 // The order of a phy: the expanders of its levels, level by level.
 use crate::below;
 use crate::levels;
+use crate::wide;
 use frames::ExpanderNumber;
 use wiring::Phy;
 ghost use mathlib.Core.List.{[], _∷_, _++_};
@@ -76,4 +77,24 @@ pub(crate) fn put_order(
         k += 1;
     }
     m
+}
+
+// The same, where the first n numbers of `order` are the order of phy g of expander x, which is kept where
+// f is on g's link.
+pub(crate) fn order_for(
+    rows: &[u64],
+    below: &[u8],
+    x: ExpanderNumber,
+    g: Phy,
+    n: usize,
+    f: Phy,
+    order: &mut [u8],
+) -> usize
+    requires { ⌜ BelowHeld (domainIn (now rows)) (now below) × ((4160 ≤ length (now order)) × Grown (now order) (now order) n (orderOf (domainIn (now rows)) (x .0) g)) ⌝ }
+    ensures { λ r. ⌜ Grown (now (order .entry)) (now (order .exit)) r (orderOf (domainIn (now (rows .entry))) (x .0) f) ⌝ }
+{
+    if wide::are_one_link(g, f) {
+        return n;
+    }
+    put_order(rows, below, x, f, order)
 }

@@ -11,7 +11,7 @@ ghost use Rattle.wiring.specs.Rows.{domainIn};
 ghost use Rattle.tables.specs.Prepared.{oneLink, Told};
 
 // Do the levels of two phys of one expander go on, at the same expander?
-fn are_one_link(f: Phy, g: Phy) -> bool
+pub(crate) fn are_one_link(f: Phy, g: Phy) -> bool
     ensures { λ r. ⌜ r ≡ oneLink f g ⌝ }
 {
     if !levels::is_down(f) {

@@ -1,0 +1,95 @@
+use Prim.Native.Nat.{ℕ, _+_, _-_}
+use mathlib.Core.Path.{sym, _∙_}
+use native.Mathlib.Omega.{arith}
+use lib.ListN.{drop, length-drop}
+use lib.Seq.{length-take-le}
+use borrow.Author.Tests.{not-true, not-false}
+use Rattle.wiring.specs.Domain.{Domain}
+use Rattle.wiring.specs.Rows.{domainIn}
+use Rattle.wiring.proofs.Members.{was-true}
+use Rattle.tables.proofs.Puts.{size-by, put-none, put-one}
+use borrow.Author.Needs.{needs}
+use Rattle.tables.proofs.all_tables.put_table.Statement.{statement}
+use Rattle.tables.proofs.all_tables.put_table.Tie as tie
+
+is-table-requires : tie.Need-is-table-requires
+is-table-requires c κs = search needs
+
+returns : tie.Need-returns
+returns c =
+    let a = c .before .before .before .before .before .before .args in
+    let d : Domain = domainIn (a .rows .now) in
+    put-none d (a .i .0) (a .p .0) (a .words .now) (a .at) (sym (c .before .is-table .ensures) ∙ not-true _ (c .if1 .taken))
+
+index-count-requires : tie.Need-index-count-requires
+index-count-requires c κs = search needs
+
+cast-e : tie.Need-cast-e
+cast-e c = search needs
+
+add-e : tie.Need-add-e
+add-e c =
+    let a = c .before .before .before .before .before .before .before .args in
+    let d : Domain = domainIn (a .rows .now) in
+    let t = sym (c .before .before .is-table .ensures) ∙ not-false _ (c .before .if1 .left) in
+    let s = size-by d (a .i .0) (a .p .0) t in
+    omega arith
+
+mul-fill-table : tie.Need-mul-fill-table
+mul-fill-table c = search needs
+
+sub-fill-table : tie.Need-sub-fill-table
+sub-fill-table c = search needs
+
+part-fill-table-start : tie.Need-part-fill-table-start
+part-fill-table-start c = search needs
+
+part-fill-table-end : tie.Need-part-fill-table-end
+part-fill-table-end c =
+    let a = c .before .before .before .before .before .before .before .args in
+    let d : Domain = domainIn (a .rows .now) in
+    let t = sym (c .before .before .is-table .ensures) ∙ not-false _ (c .before .if1 .left) in
+    let s = size-by d (a .i .0) (a .p .0) t in
+    omega arith
+
+fill-table-requires : tie.Need-fill-table-requires
+fill-table-requires c κs =
+    let u = c .before .before .before .before .before .before .before .before in
+    let a = u .args in
+    let f = u .pre .1 .1 .0 in
+    let t = sym (c .before .before .before .is-table .ensures) ∙ not-false _ (c .before .before .if1 .left) in
+    let s = size-by (domainIn (a .rows .now)) (a .i .0) (a .p .0) t in
+    let k : ℕ = a .at + c .before .index-count .result - a .at in
+    let n = length-take-le k (drop (a .at) (a .words .now)) (simp length-drop (omega arith)) in
+    record { held = u .pre .0; ordered = u .pre .1 .0; same = f .same; fits = omega (arith, f .fits (a .i .0) (a .p .0) (was-true _ t)) }
+
+same-length : tie.Need-same-length
+same-length c = search needs
+
+returns-2 : tie.Need-returns-2
+returns-2 c =
+    let a = c .before .before .before .before .before .before .before .before .before .before .before .args in
+    let d : Domain = domainIn (a .rows .now) in
+    let t = sym (c .before .before .before .before .before .before .is-table .ensures) ∙ not-false _ (c .before .before .before .before .before .if1 .left) in
+    let s = size-by d (a .i .0) (a .p .0) t in
+    let r : ℕ = c .before .before .before .before .index-count .result in
+    let k : ℕ = a .at + r - a .at in
+    let z = length-take-le k (drop (a .at) (a .words .now)) (simp length-drop (omega arith)) in
+    put-one d (a .i .0) (a .p .0) (a .words .now) (a .at) (c .before .before .fill-table .ensures) t k z (omega arith) (a .at + r) (omega arith) (omega arith)
+
+pub put-table-spec : {M : Type 1} → statement M
+put-table-spec =
+    tie.close
+    (tie.spec
+    is-table-requires
+    returns
+    index-count-requires
+    cast-e
+    add-e
+    mul-fill-table
+    sub-fill-table
+    part-fill-table-start
+    part-fill-table-end
+    fill-table-requires
+    same-length
+    returns-2)

@@ -1,0 +1,29 @@
+use mathlib.Core.Path.{sym, _∙_}
+use Rattle.wiring.specs.Rows.{domainIn}
+use Rattle.wiring.proofs.Members.{was-true}
+use Rattle.tables.proofs.Growing.{grown-same}
+use Rattle.tables.proofs.Orders.{order-linked}
+use borrow.Author.Needs.{needs}
+use Rattle.tables.proofs.order.order_for.Statement.{statement}
+use Rattle.tables.proofs.order.order_for.Tie as tie
+
+are-one-link-requires : tie.Need-are-one-link-requires
+are-one-link-requires c κs = search needs
+
+returns : tie.Need-returns
+returns c =
+    let s = c .before .before .before .before .before in
+    let a = s .args in
+    grown-same (s .pre .1 .1) (order-linked (domainIn (a .rows .now)) (a .x .0) (a .g) (a .f) (was-true _ (sym (c .before .are-one-link .ensures) ∙ c .if1 .taken)))
+
+put-order-requires : tie.Need-put-order-requires
+put-order-requires c κs = let p = c .before .before .before .before .before .before .pre in (p .0, p .1 .0)
+
+same-length : tie.Need-same-length
+same-length c = search needs
+
+returns-2 : tie.Need-returns-2
+returns-2 c = c .before .before .put-order .ensures
+
+pub order-for-spec : {M : Type 1} → statement M
+order-for-spec = tie.close (tie.spec are-one-link-requires returns put-order-requires same-length returns-2)
