@@ -1,5 +1,5 @@
-// Phys of one wide link: a lower phy of the same link for each phy, so that the levels of a link are gone
-// through once.
+// Phys of one wide link: a lower phy of the same link for each phy, so that judging goes through the levels
+// of a link once.
 use crate::levels;
 use frames::ExpanderNumber;
 use frames::PhyId;
