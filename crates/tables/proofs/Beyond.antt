@@ -223,7 +223,7 @@ module _ (d : Domain) (w : Wired d) where
     leads-down i p l = and-both (toExpander (phyAt d i p)) (routes 2 (phyAt d i p)) (l .expander) (l .routed)
 
     -- an expander below is one to which a table phy leads
-    in-below : (i v : ℕ) → In v (below d i) → Table d i v
+    pub in-below : (i v : ℕ) → In v (below d i) → Table d i v
     unfolding below belowPhys
     in-below i v h =
         let m = in-map (λ φ. numberOf d (addressOf φ)) (keep (down d) (expanderAt d i .phys)) v h in
@@ -276,16 +276,16 @@ module _ (d : Domain) (w : Wired d) where
 
     module _ (x n : ℕ) (a : Table d x n) where
       -- v is k levels below n
-      record Deep (k v : ℕ) : Type 0 where
-        way : List ℕ
-        descent : Descent d n way
-        ends : last n way ≡ v
-        size : length way ≡ k
+      pub record Deep (k v : ℕ) : Type 0 where
+        pub way : List ℕ
+        pub descent : Descent d n way
+        pub ends : last n way ≡ v
+        pub size : length way ≡ k
 
-      top : (v : ℕ) → In v (n ∷ []) → Deep 0 v
+      pub top : (v : ℕ) → In v (n ∷ []) → Deep 0 v
       top v = ⊎-elim (λ e. record { way = []; descent = tt; ends = sym e; size = refl }) (λ o. absurd o)
 
-      deeper : (k u v : ℕ) → Deep k u → Table d u v → Deep (suc k) v
+      pub deeper : (k u v : ℕ) → Deep k u → Table d u v → Deep (suc k) v
       deeper k u v p t = record {
         way = p .way ++ (v ∷ []);
         descent = descent-snoc n (p .way) v (p .descent) (subst (λ y. Table d y v) (sym (p .ends)) t);
@@ -297,14 +297,14 @@ module _ (d : Domain) (w : Wired d) where
       deep-chain k v p = descent-chain x v (n ∷ p .way) (table-start x n a) (a, p .descent) (p .ends)
 
       -- at one depth only
-      deep-once : (k m v : ℕ) → Deep k v → Deep m v → k ≡ m
+      pub deep-once : (k m v : ℕ) → Deep k v → Deep m v → k ≡ m
       deep-once k m v p q =
           let c = deep-chain k v p in
           let e = deep-chain m v q in
           let same = ap length (same-rest (length d) (neighbours d) (adj-symmetric d) (r .noLoop) x v (n ∷ p .way) (n ∷ q .way) c e) in
           omega (arith, p .size, q .size)
 
-      next-deep : (j : ℕ) (before level : List ℕ) → ((v : ℕ) → In v level → Deep j v) → (v : ℕ) → In v (nextLevel d before level) → Deep (suc j) v
+      pub next-deep : (j : ℕ) (before level : List ℕ) → ((v : ℕ) → In v level → Deep j v) → (v : ℕ) → In v (nextLevel d before level) → Deep (suc j) v
       next-deep j before level f v o = let e = in-next before level v o in deeper j (e .0) v (f (e .0) (e .1)) (e .2)
 
       -- what lies down the tables from the first level is in a level: nothing is left out for being in the level before
@@ -339,7 +339,7 @@ module _ (d : Domain) (w : Wired d) where
           (λ m o q. let e = levels-deep k (suc j) level next (next-deep j before level f) m q in
           let same = deep-once j (e .0) m (f m o) (e .2) in omega (arith, e .1))
 
-      deep-small : (k v : ℕ) → Deep k v → suc (suc k) ≤ length d
+      pub deep-small : (k v : ℕ) → Deep k v → suc (suc k) ≤ length d
       deep-small k v p = let c = deep-chain k v p in omega (arith, at-most (length d) (x ∷ n ∷ p .way) (c .below) (c .diff), p .size)
 
       -- deep enough, there are no more levels

@@ -14,23 +14,21 @@ use Rattle.wiring.specs.Domain.{Domain, expanderAt, phyAt}
 use Rattle.wiring.proofs.Members.{or-left, or-right, is-true, was-true, isIn-of, of-isIn, in-left, in-right, in-take}
 use Rattle.tables.specs.Levels.{belowPhys, below}
 use Rattle.tables.specs.Filling.{add, addAll, Grown, Added}
-use Rattle.tables.specs.Prepared.{belowOnce, oneLink, Holds}
+use Rattle.tables.specs.Prepared.{belowOnce, oneLink}
 use Rattle.tables.proofs.Growing.{addAll-append}
-use Rattle.tables.proofs.Held.{holds-none}
-use Rattle.tables.proofs.Queues.{below-more, below-whole, below-among}
-use Rattle.tables.proofs.Orders.{below-made, linked-number}
+use Rattle.tables.proofs.BelowLists.{below-more, below-whole, below-among, below-made, linked-number}
 
 -- numbers that are added again
 or-map : (a b c d : Bool) → (T a → T c) → (T b → T d) → T (a || b) → T (c || d)
 or-map true b c d f g t = or-left c d (f t)
 or-map false b c d f g t = or-right c d (g t)
 
-module _ (room : ℕ) (last : List ℕ) where
+module _ (room : ℕ) where
   -- adding j changes nothing
   abbrev settled : List ℕ → ℕ → Bool
-  settled l j = isIn j last || (isIn j l || leb room (length l))
+  settled l j = isIn j l || leb room (length l)
 
-  add-settled : (l : List ℕ) (j : ℕ) → T (settled l j) → add room last l j ≡ l
+  add-settled : (l : List ℕ) (j : ℕ) → T (settled l j) → add room l j ≡ l
   unfolding add
   add-settled l j t = rw (is-true (settled l j) t)
 
@@ -40,10 +38,9 @@ module _ (room : ℕ) (last : List ℕ) where
       let there : T (isIn j l) → T (isIn j (l ++ m)) = λ t. isIn-of j (l ++ m) (in-left l m j (of-isIn j l t)) in
       let full : T (leb room (length l)) → T (leb room (length (l ++ m))) =
       λ t. le→leb room (length (l ++ m)) (omega (arith, leb→le room (length l) t, length-append l m)) in
-      or-map (isIn j last) (isIn j l || leb room (length l)) (isIn j last) (isIn j (l ++ m) || leb room (length (l ++ m))) (λ t. t)
-      (or-map (isIn j l) (leb room (length l)) (isIn j (l ++ m)) (leb room (length (l ++ m))) there full)
+      or-map (isIn j l) (leb room (length l)) (isIn j (l ++ m)) (leb room (length (l ++ m))) there full
 
-  settled-add : (l : List ℕ) (j k : ℕ) → T (settled l j) → T (settled (add room last l k) j)
+  settled-add : (l : List ℕ) (j k : ℕ) → T (settled l j) → T (settled (add room l k) j)
   unfolding add
   settled-add l j k t = go (settled l k)
     where
@@ -51,7 +48,7 @@ module _ (room : ℕ) (last : List ℕ) where
       go true = t
       go false = settled-more l j (k ∷ []) t
 
-  settled-now : (l : List ℕ) (j : ℕ) → T (settled (add room last l j) j)
+  settled-now : (l : List ℕ) (j : ℕ) → T (settled (add room l j) j)
   unfolding add
   settled-now l j = go (settled l j) refl
     where
@@ -60,40 +57,38 @@ module _ (room : ℕ) (last : List ℕ) where
 
       go : (b : Bool) → settled l j ≡ b → T (settled (cond b l m) j)
       go true q = was-true (settled l j) q
-      go false q = or-right (isIn j last) _ (or-left (isIn j m) _ (isIn-of j m (in-right l (j ∷ []) j (inl refl))))
+      go false q = or-left (isIn j m) _ (isIn-of j m (in-right l (j ∷ []) j (inl refl)))
 
-  settled-all : (js l : List ℕ) (j : ℕ) → T (settled l j) → T (settled (addAll room last l js) j)
+  settled-all : (js l : List ℕ) (j : ℕ) → T (settled l j) → T (settled (addAll room l js) j)
   unfolding addAll
   settled-all [] l j t = t
-  settled-all (k ∷ js) l j t = settled-all js (add room last l k) j (settled-add l j k t)
+  settled-all (k ∷ js) l j t = settled-all js (add room l k) j (settled-add l j k t)
 
-  offered : (js l : List ℕ) (j : ℕ) → In j js → T (settled (addAll room last l js) j)
+  offered : (js l : List ℕ) (j : ℕ) → In j js → T (settled (addAll room l js) j)
   unfolding addAll
   offered [] l j i = absurd i
-  offered (k ∷ js) l j (inl e) = settled-all js (add room last l k) j (subst (λ (v : ℕ). T (settled (add room last l v) j)) e (settled-now l j))
-  offered (k ∷ js) l j (inr i) = offered js (add room last l k) j i
+  offered (k ∷ js) l j (inl e) = settled-all js (add room l k) j (subst (λ (v : ℕ). T (settled (add room l v) j)) e (settled-now l j))
+  offered (k ∷ js) l j (inr i) = offered js (add room l k) j i
 
   -- so numbers that were added are not added again
-  add-again : (js ks l : List ℕ) → ((w : ℕ) → In w ks → In w js) → addAll room last (addAll room last l js) ks ≡ addAll room last l js
+  add-again : (js ks l : List ℕ) → ((w : ℕ) → In w ks → In w js) → addAll room (addAll room l js) ks ≡ addAll room l js
   unfolding addAll
   add-again js [] l f = refl
   add-again js (k ∷ ks) l f =
-      ap (λ (m : List ℕ). addAll room last m ks) (add-settled (addAll room last l js) k (offered js l k (f k (inl refl))))
+      ap (λ (m : List ℕ). addAll room m ks) (add-settled (addAll room l js) k (offered js l k (f k (inl refl))))
       ∙ add-again js ks l (λ w i. f w (inr i))
 
--- the list so far, of the phys below p: m numbers in `part`, and the set has them
-pub record Collected (d : Domain) (i p m : ℕ) (part held : List ℕ) : Type 0 where
+-- the list so far, of the phys below p: m numbers in `part`
+pub record Collected (d : Domain) (i p m : ℕ) (part : List ℕ) : Type 0 where
   pub room : length part ≡ 65
   pub fits : m ≤ 65
-  pub words : length held ≡ 4
-  pub holds : Holds (take m part ++ []) held
-  pub whole : take m part ≡ addAll 65 [] [] (belowPhys d (take p (expanderAt d i .phys)))
+  pub whole : take m part ≡ addAll 65 [] (belowPhys d (take p (expanderAt d i .phys)))
 
-pub collect-start : (d : Domain) (i : ℕ) (part held : List ℕ) → length part ≡ 65 → length held ≡ 4 → Collected d i 0 0 part held
+pub collect-start : (d : Domain) (i : ℕ) (part : List ℕ) → length part ≡ 65 → Collected d i 0 0 part
 unfolding belowPhys keep addAll
-collect-start d i part held r w = record { room = r; fits = omega arith; words = w; holds = holds-none held; whole = refl }
+collect-start d i part r = record { room = r; fits = omega arith; whole = refl }
 
-module _ (d : Domain) (i p : ℕ) {m : ℕ} {part held : List ℕ} (so : Collected d i p m part held) where
+module _ (d : Domain) (i p : ℕ) {m : ℕ} {part : List ℕ} (so : Collected d i p m part) where
   abbrev φs : List Phy
   φs = expanderAt d i .phys
 
@@ -103,32 +98,30 @@ module _ (d : Domain) (i p : ℕ) {m : ℕ} {part held : List ℕ} (so : Collect
   abbrev new : List ℕ
   new = belowPhys d (phyAt d i p ∷ [])
 
-  more : p < length φs → addAll 65 [] (take m part) new ≡ addAll 65 [] [] (belowPhys d (take (p + 1) φs))
-  more h = ap (λ (l : List ℕ). addAll 65 [] l new) (so .whole) ∙ sym (ap (addAll 65 [] []) (below-more d φs p h) ∙ addAll-append 65 [] [] done new)
+  more : p < length φs → addAll 65 (take m part) new ≡ addAll 65 [] (belowPhys d (take (p + 1) φs))
+  more h = ap (λ (l : List ℕ). addAll 65 l new) (so .whole) ∙ sym (ap (addAll 65 []) (below-more d φs p h) ∙ addAll-append 65 [] done new)
 
-  pub collect-go : (φ : Phy) {after held' : List ℕ} {r : ℕ} → φ ≡ phyAt d i p → Added [] part after m r (belowPhys d (φ ∷ []))
-      → Holds (take r after ++ []) held' → length held' ≡ length held → p < length φs → Collected d i (p + 1) r after held'
-  collect-go φ e g k w h =
+  pub collect-go : (φ : Phy) {after : List ℕ} {r : ℕ} → φ ≡ phyAt d i p → Added part after m r (belowPhys d (φ ∷ [])) → p < length φs
+      → Collected d i (p + 1) r after
+  collect-go φ e g h =
       let s = so .room in
       let f = g .fits in
       record {
         room = g .same ∙ so .room;
         fits = omega arith;
-        words = w ∙ so .words;
-        holds = k;
-        whole = g .whole ∙ ap (λ (n : ℕ). addAll n [] (take m part) (belowPhys d (φ ∷ []))) s
-            ∙ ap (λ (ψ : Phy). addAll 65 [] (take m part) (belowPhys d (ψ ∷ []))) e ∙ more h;
+        whole = g .whole ∙ ap (λ (n : ℕ). addAll n (take m part) (belowPhys d (φ ∷ []))) s
+            ∙ ap (λ (ψ : Phy). addAll 65 (take m part) (belowPhys d (ψ ∷ []))) e ∙ more h;
       }
 
   -- a lower phy of the link gave the same number
-  pub collect-skip : (q : ℕ) → q < p → T (oneLink (phyAt d i q) (phyAt d i p)) → p < length φs → Collected d i (p + 1) m part held
+  pub collect-skip : (q : ℕ) → q < p → T (oneLink (phyAt d i q) (phyAt d i p)) → p < length φs → Collected d i (p + 1) m part
   collect-skip q k one h =
       let there : (w : ℕ) → In w new → In w done =
       λ w o. below-among d (take p φs) (phyAt d i q) (in-take φs (Vacant 0) q p k (omega arith)) w
       (subst (λ (l : List ℕ). In w l) (sym (linked-number d (phyAt d i q) (phyAt d i p) one)) o) in
-      let same : take m part ≡ addAll 65 [] (take m part) new =
-      so .whole ∙ sym (ap (λ (l : List ℕ). addAll 65 [] l new) (so .whole) ∙ add-again 65 [] done new [] there) in
-      record { room = so .room; fits = so .fits; words = so .words; holds = so .holds; whole = same ∙ more h }
+      let same : take m part ≡ addAll 65 (take m part) new =
+      so .whole ∙ sym (ap (λ (l : List ℕ). addAll 65 l new) (so .whole) ∙ add-again 65 done new [] there) in
+      record { room = so .room; fits = so .fits; whole = same ∙ more h }
 
   pub collect-end : {before : List ℕ} → length before ≡ 65 → length d ≤ 64 → length φs ≤ p → Grown before part m (belowOnce d i)
   unfolding below
@@ -137,5 +130,5 @@ module _ (d : Domain) (i p : ℕ) {m : ℕ} {part held : List ℕ} (so : Collect
       record {
         same = so .room ∙ sym r;
         fits = omega arith;
-        whole = so .whole ∙ ap (addAll 65 [] []) (below-whole d φs p h) ∙ below-made d few i;
+        whole = so .whole ∙ ap (addAll 65 []) (below-whole d φs p h) ∙ below-made d few i;
       }

@@ -7,9 +7,9 @@ use lib.ListN.{length, take, replicate, length-append, length-replicate, replica
 use lib.Seq.{take-at, take-append-add, length-take-le}
 use Rattle.wiring.specs.Domain.{Domain, expanderAt}
 use Rattle.tables.specs.Tables.{levelList, table}
-use Rattle.tables.specs.Own.{own, ownList}
+use Rattle.tables.specs.Own.{own}
 use Rattle.tables.specs.Filling.{Grown, TableFilled}
-use Rattle.tables.specs.Prepared.{FilledFrom}
+use Rattle.tables.specs.Prepared.{orderList, FilledFrom}
 use Rattle.tables.proofs.Growing.{grown-length}
 
 -- the list and zeros after it, n words
@@ -34,10 +34,10 @@ zeros-after l m n q =
     ∙ ap (λ (y : List ℕ). l ++ take m y) t
     ∙ ap (λ (y : List ℕ). l ++ y) (take-at (replicate m o) (replicate (length l) o) m (length-replicate m o))
 
--- the own lists of its levels, and zeros after them
+-- the own lists of its order, and zeros after them
 module _ (d : Domain) (x p : ℕ) {lists order : List ℕ} {room : ℕ} (f : FilledFrom d x p lists order room) where
   from-own : flatMap (own d) order ≡ levelList d x p
-  unfolding ownList
+  unfolding orderList
   from-own = ap (flatMap (own d)) (f .ordered) ∙ sym (f .same x p)
 
   pub filled-room : length (flatMap (own d) order) ≤ room

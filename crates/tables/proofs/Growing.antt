@@ -1,4 +1,4 @@
--- Lists that grow in loops: searches among numbers, a level with room for so many, words and lists copied one after the other, zeros after them.
+-- Lists that grow in loops: searches among numbers, numbers with room for so many, words and lists copied one after the other, zeros after them.
 -- `inv` is the loop's invariant; a turn takes `piece` from what is left, `rest ≡ piece ++ rest'`.
 use Prim.Native.Nat.{ℕ, _+_, _-_, _≤_, _<_}
 use mathlib.Core.Path.{_≡_, refl, sym, _∙_, ap}
@@ -17,7 +17,7 @@ use Rattle.wiring.specs.Domain.{Domain}
 use Rattle.wiring.proofs.Members.{isIn-of, in-getD, in-cast, is-true}
 use Rattle.wiring.proofs.Searches.{any-go, any-end}
 use Rattle.tables.specs.Tables.{give, giveAll}
-use Rattle.tables.specs.Filling.{add, addAll, Grown, Added}
+use Rattle.tables.specs.Filling.{add, addAll, Grown}
 
 -- one place more, and one place in what is left
 pub take-next : {A : Type 0} (e : A) (l : List A) (k : ℕ) → k < length l → take (k + 1) l ≡ take k l ++ (getD l k e ∷ [])
@@ -54,27 +54,23 @@ module _ (a i : ℕ) (l : List ℕ) {v : Bool} (inv : isIn a (drop i l) ≡ v) w
   unfolding isIn
   isIn-end h = any-end (eqb a) 0 l i inv h
 
--- a level
+-- one number more
 pub stored : (n : ℕ) (l : List ℕ) (v : ℕ) → n < length l → take (n + 1) (set l n v) ≡ take n l ++ (v ∷ [])
 stored n l v h = rw add-one (take-suc-set l n v h)
 
-pub add-by : (room : ℕ) (last l : List ℕ) (j : ℕ) {r a b : Bool} → r ≡ (isIn j last || isIn j l) → r ≡ a → leb room (length l) ≡ b
-    → addAll room last l (j ∷ []) ≡ cond (a || b) l (l ++ (j ∷ []))
+pub add-by : (room : ℕ) (l : List ℕ) (j : ℕ) {r a b : Bool} → r ≡ isIn j l → r ≡ a → leb room (length l) ≡ b
+    → addAll room l (j ∷ []) ≡ cond (a || b) l (l ++ (j ∷ []))
 unfolding addAll add
-add-by room last l j q e h = ap (λ (b : Bool). cond b l (l ++ (j ∷ []))) (shift (isIn j last) (isIn j l) (leb room (length l))) ∙ rw (sym q, e, h)
-  where
-    shift : (a b c : Bool) → (a || (b || c)) ≡ ((a || b) || c)
-    shift true b c = refl
-    shift false b c = refl
+add-by room l j q e h = rw (sym q, e, h)
 
-pub addAll-append : (room : ℕ) (last l xs ys : List ℕ) → addAll room last l (xs ++ ys) ≡ addAll room last (addAll room last l xs) ys
+pub addAll-append : (room : ℕ) (l xs ys : List ℕ) → addAll room l (xs ++ ys) ≡ addAll room (addAll room l xs) ys
 unfolding addAll
-addAll-append room last l [] ys = refl
-addAll-append room last l (x ∷ xs) ys = addAll-append room last (add room last l x) xs ys
+addAll-append room l [] ys = refl
+addAll-append room l (x ∷ xs) ys = addAll-append room (add room l x) xs ys
 
-pub addAll-none : (room : ℕ) (last l : List ℕ) → addAll room last l [] ≡ l
+pub addAll-none : (room : ℕ) (l : List ℕ) → addAll room l [] ≡ l
 unfolding addAll
-addAll-none room last l = refl
+addAll-none room l = refl
 
 pub grown-kept : (n : ℕ) (next : List ℕ) {l : List ℕ} → l ≡ take n next → n ≤ length next → Grown next next n l
 grown-kept n next q h = record { same = refl; fits = h; whole = sym q }
@@ -93,21 +89,6 @@ grown-length {before} {after} {r} {l} g =
 
 pub grown-same : {before after : List ℕ} {r : ℕ} {l m : List ℕ} → Grown before after r l → l ≡ m → Grown before after r m
 grown-same g q = record { same = g .same; fits = g .fits; whole = g .whole ∙ q }
-
-module _ (room : ℕ) (last l rest : List ℕ) {v : List ℕ} (inv : addAll room last l rest ≡ v) where
-  add-go : (piece rest' : List ℕ) {l' : List ℕ} → rest ≡ piece ++ rest' → l' ≡ addAll room last l piece → addAll room last l' rest' ≡ v
-  add-go piece rest' q e =
-      ap (λ (m : List ℕ). addAll room last m rest') e ∙ sym (ap (addAll room last l) q ∙ addAll-append room last l piece rest') ∙ inv
-
-  pub add-end : rest ≡ [] → l ≡ v
-  unfolding addAll
-  add-end q = sym (ap (addAll room last l) q) ∙ inv
-
-module _ (room : ℕ) (last before rest : List ℕ) (n : ℕ) {v : List ℕ} (inv : addAll room last (take n before) rest ≡ v) where
-  pub added-go : (piece rest' : List ℕ) {after : List ℕ} {r : ℕ} → Added last before after n r piece → length before ≡ room → rest ≡ piece ++ rest'
-      → addAll room last (take r after) rest' ≡ v
-  added-go piece rest' g s q =
-      add-go room last (take n before) rest inv piece rest' q (g .whole ∙ ap (λ (k : ℕ). addAll k last (take n before) piece) s)
 
 -- words copied one by one after the first ones
 module _ (to k : ℕ) (part words : List ℕ) {v : List ℕ} (inv : take to part ++ drop k words ≡ v) where

@@ -18,11 +18,10 @@ use Rattle.tables.specs.Levels.{down, nextLevel, levelsFrom, levels}
 use Rattle.tables.specs.Tables.{word, heldBy, gives, give, giveAll, levelList}
 use Rattle.tables.specs.Own.{owns, ownFrom, own, ownList}
 use Rattle.tables.specs.Filling.{physOf}
-use Rattle.tables.proofs.Beyond.{Leads, Table, Sub, Descent, last-snoc, linked-clear, table-start, table-back, adj-cases, one-sub, descent-chain, descent-snoc, in-next, down-leads, levels-few}
+use Rattle.tables.proofs.Beyond.{Leads, Table, Sub, Descent, last-snoc, linked-clear, table-start, table-back, adj-cases, one-sub, descent-chain, descent-snoc, in-next, down-leads, levels-few, levels-none}
 use Rattle.tables.proofs.Listed.{held-cases, held-self, held-phy, in-give, give-old, give-new, in-given, given-in, end-far}
 use Rattle.tables.proofs.Growing.{flat-append, and-false, giveAll-append}
-use Rattle.tables.proofs.Queues.{below-one}
-use Rattle.tables.proofs.Orders.{order-none, order-levels}
+use Rattle.tables.proofs.BelowLists.{below-none, below-one}
 
 -- the phys of one expander, after the list `before`
 module _ (d : Domain) (x : ℕ) (before : List ℕ) where
@@ -101,7 +100,7 @@ module _ (d : Domain) (w : Wired d) (r : Linked d) where
   table-to : (i p : ℕ) → T (toExpander (phyAt d i p)) → T (routes 2 (phyAt d i p)) → Table d i (numberOf d (addressOf (phyAt d i p)))
   table-to i p t u = record { phy = p; to = far-is d w i p t; routed = u; end = far-below d w i p t; single = r .noTables i p t u }
 
-  one-above : (u v e : ℕ) → Table d u e → Table d v e → u ≡ v
+  pub one-above : (u v e : ℕ) → Table d u e → Table d v e → u ≡ v
   one-above u v e s t = one-sub d w e u v (table-back d w r u e s) (table-back d w r v e t)
 
   -- the subtractive phys of an expander bear the address of the one above it
@@ -285,7 +284,8 @@ module _ (d : Domain) (w : Wired d) (r : Linked d) where
 
 -- the law, whether the phy leads down or not
 pub levels-empty : (d : Domain) (x p : ℕ) → ¬ (T (down d (phyAt d x p))) → levels d x p ≡ []
-levels-empty d x p k = sym (order-levels d x p) ∙ order-none d x (phyAt d x p) (is-false (down d (phyAt d x p)) k)
+unfolding levels
+levels-empty d x p k = ap (levelsFrom (length d) d (x ∷ [])) (below-none d (phyAt d x p) (is-false (down d (phyAt d x p)) k)) ∙ levels-none (length d) d (x ∷ [])
 
 law-down : (d : Domain) → Wired d → Linked d → (x p : ℕ) → T (down d (phyAt d x p)) → levelList d x p ≡ ownList d x p
 unfolding levelList ownList levels giveAll flatMap

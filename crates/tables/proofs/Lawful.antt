@@ -2,7 +2,7 @@
 use Prim.Native.Nat.{ℕ}
 use mathlib.Core.Path.{_≡_, refl, sym, _∙_, ap}
 use mathlib.Core.Bool.{Bool, cond, _&&_}
-use mathlib.Core.List.{List, [], _∷_}
+use mathlib.Core.List.{List, [], _∷_, flatMap}
 use lib.ListN.{length}
 use lib.Dec.{ltb}
 use Rattle.wiring.specs.Frames.{Result, refused, good, then, refusal}
@@ -11,11 +11,14 @@ use Rattle.wiring.specs.File.{limits, domainRead}
 use Rattle.wiring.specs.Causes.{Place, places, firstIn, firstOf, wiredDomain}
 use Rattle.wiring.specs.Links.{linkedDomain, checkedDomain}
 use Rattle.wiring.proofs.Results.{then-good, good-then}
-use Rattle.wiring.proofs.Accepted.{wired-same, wired-wires, linked-iff, linked-same}
+use Rattle.wiring.proofs.Wires.{Wired}
+use Rattle.wiring.proofs.Accepted.{Linked, wired-same, wired-wires, linked-iff, linked-same}
 use Rattle.tables.specs.Judge.{overlong, judgedDomain}
-use Rattle.tables.specs.Prepared.{overOwn, judgedOwn, Same, Lawful, Fillable}
+use Rattle.tables.specs.Own.{own, ownList}
+use Rattle.tables.specs.Prepared.{orderList, overOwn, judgedOwn, Same, Lawful, Fillable}
 use Rattle.tables.proofs.Given.{judged-routable}
 use Rattle.tables.proofs.Law.{law}
+use Rattle.tables.proofs.Orders.{order-levels}
 use Rattle.tables.proofs.Judging.{judge-checked}
 
 -- a domain past causes 7 to 13: the same domain, past 7 to 10 and past 11 to 13
@@ -26,12 +29,17 @@ checked-passes d e f =
     let q = linked-same d e (a .2) in
     (q, a .1 ∙ ap good (sym (wired-same d (a .0) (a .1))), a .2 ∙ ap good (sym q))
 
--- the law holds of a domain that was read from a file
+-- the law, by the order of each phy
+law-order : (d : Domain) → Wired d → Linked d → Same d
+unfolding ownList orderList
+law-order d w r x p = law d w r x p ∙ ap (flatMap (own d)) (sym (order-levels d w r x p))
+
+-- it holds of a domain that was read from a file
 pub lawful : (file : List ℕ) (d : Domain) → domainRead limits file ≡ good d → Lawful d
 lawful file d e f =
     let p = checked-passes d d f in
     let w = wired-wires file d (good-then (domainRead limits file) wiredDomain d d e (p .1)) in
-    law d w (linked-iff d .0 (p .2))
+    law-order d w (linked-iff d .0 (p .2))
 
 -- two tests that agree have the same lowest place
 first-same : (k : ℕ) (f g : ℕ → ℕ → Bool) (qs : List Place) (d : Domain) → ((i p : ℕ) → f i p ≡ g i p) → firstIn k f qs d ≡ firstIn k g qs d

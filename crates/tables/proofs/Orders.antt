@@ -1,166 +1,223 @@
--- The order of a phy's levels, made level by level from the expanders below each, each once.
-use Prim.Native.Nat.{ℕ, suc, _+_, _-_, _≤_, _<_}
-use mathlib.Core.Path.{_≡_, refl, sym, _∙_, ap, subst}
-use mathlib.Core.Bool.{Bool, true, false, not}
+-- The order of a phy, made in a queue: past causes 1 to 13 it is the levels, level by level.
+use Prim.Native.Nat.{ℕ, zero, suc, _+_, _-_, _*_, _≤_, _<_}
+use mathlib.Core.Path.{_≡_, refl, sym, _∙_, ap, subst, subst₂}
+use mathlib.Core.Bool.{Bool, true, false, not, _||_}
 use mathlib.Core.Logic.{inl, inr, ⊎-elim}
 use mathlib.Core.List.{List, [], _∷_, _++_, flatMap, append-nil, append-assoc}
 use native.Mathlib.Omega.{arith}
-use lib.ListN.{length, List·getD-eq-default}
-use lib.Dec.{T, eqb→eq}
+use lib.ListN.{length, getD, take, drop, length-append, take-append-drop, drop-of-length-le}
+use lib.Seq.{take-all, getD-take, length-take-le}
+use lib.Dec.{T, eqb, eqb→eq, not-T}
 use Rattle.wiring.specs.declared.Phy.{Phy}
-use Rattle.wiring.specs.Lists.{keep, isIn, any, In, Below}
-use Rattle.wiring.specs.Domain.{Domain, Expander, noExpander, phyAt, addressOf, routes, toExpander, numberOf}
-use Rattle.wiring.proofs.Members.{and-left, and-right, is-true, in-cast, isIn-of, of-isIn, was-true, was-false, at-most, in-flatMap, flatMap-in}
+use Rattle.wiring.specs.Lists.{any, keep, isIn, In, Distinct}
+use Rattle.wiring.specs.Domain.{Domain, phyAt, addressOf, numberOf}
+use Rattle.wiring.proofs.Members.{T?, is-true, is-false, keep-more, in-flatMap, of-isIn}
+use Rattle.wiring.proofs.Wires.{Wired, far-below, far-is}
+use Rattle.wiring.proofs.Accepted.{Linked}
 use Rattle.tables.specs.Levels.{once, down, belowPhys, below, nextLevel, levelsFrom, levels}
-use Rattle.tables.specs.Filling.{addAll}
-use Rattle.tables.specs.Prepared.{belowOnce, orderOf, oneLink}
-use Rattle.tables.proofs.Once.{once-skip, once-take, in-once, once-distinct}
-use Rattle.tables.proofs.Beyond.{levels-none}
-use Rattle.tables.proofs.Queues.{below-none, below-one, level-under, all-new}
+use Rattle.tables.specs.Filling.{Grown}
+use Rattle.tables.specs.Prepared.{belowOnce, queue, orderOf, oneLink}
+use Rattle.tables.proofs.Once.{once-skip, once-take}
+use Rattle.tables.proofs.Beyond.{Table, Deep, top, deeper, deep-once, next-deep, deep-small, in-below, not-both, table-back, next-distinct, down-leads, levels-few}
+use Rattle.tables.proofs.BelowLists.{below-none, below-one, below-few, linked-number}
+use Rattle.tables.proofs.Growing.{grown-length}
+use Rattle.tables.proofs.Law.{one-above, levels-empty}
 
--- what stands once in a part need not stand more often there
-module _ (test : ℕ → Bool) where
-  keep-yes : (x : ℕ) (l : List ℕ) → test x ≡ true → keep test (x ∷ l) ≡ x ∷ keep test l
-  unfolding keep
-  keep-yes x l q = rw q
+-- the queue
+module _ (d : Domain) where
+  pub queue-none : (t : ℕ) → queue t d [] ≡ []
+  unfolding queue
+  queue-none zero = refl
+  queue-none (suc t) = refl
 
-  keep-no : (x : ℕ) (l : List ℕ) → test x ≡ false → keep test (x ∷ l) ≡ keep test l
-  unfolding keep
-  keep-no x l q = rw q
+  -- one expander is followed
+  pub queue-step : (t k : ℕ) (l : List ℕ) → k < length l
+      → take (suc k) (l ++ belowOnce d (getD l k 0)) ++ queue t d (drop (suc k) (l ++ belowOnce d (getD l k 0))) ≡ take k l ++ queue (suc t) d (drop k l)
+  unfolding queue
+  queue-step t k [] h = absurd (omega arith)
+  queue-step t zero (x ∷ l) h = refl
+  queue-step t (suc k) (x ∷ l) h = ap (λ (m : List ℕ). x ∷ m) (queue-step t k l (omega arith))
 
-  -- the numbers done are seen, where they are kept at all
-  abbrev Covered : List ℕ → List ℕ → Type 0
-  Covered done seen = (w : ℕ) → In w done → T (test w) → In w seen
-
-  once-first : (xs rest rest' done seen : List ℕ) → Covered done seen → ((s : List ℕ) → once s (keep test rest) ≡ once s (keep test rest'))
-      → once seen (keep test (once done xs ++ rest)) ≡ once seen (keep test (xs ++ rest'))
-  unfolding once
-  once-first [] rest rest' done seen cover same = same seen
-  once-first (x ∷ xs) rest rest' done seen cover same =
-      go (isIn x done) refl (test x) refl (isIn x seen) refl (λ d s c. once-first xs rest rest' d s c same)
-    where
-      u : List ℕ
-      u = xs ++ rest'
-
-      v : List ℕ
-      v = once (x ∷ done) xs ++ rest
-
-      more : (s : List ℕ) → (T (test x) → In x s) → ((w : ℕ) → In w seen → In w s) → Covered (x ∷ done) s
-      more s f g w = ⊎-elim (λ e t. in-cast s e (f (subst (λ (y : ℕ). T (test y)) e t))) (λ h t. g w (cover w h t))
-
-      go : (a : Bool) → isIn x done ≡ a → (b : Bool) → test x ≡ b → (c : Bool) → isIn x seen ≡ c
-          → ((d s : List ℕ) → Covered d s → once s (keep test (once d xs ++ rest)) ≡ once s (keep test u))
-          → once seen (keep test (once done (x ∷ xs) ++ rest)) ≡ once seen (keep test (x ∷ u))
-      go true p true q true k r =
-          ap (λ (l : List ℕ). once seen (keep test (l ++ rest))) (once-skip done x xs p) ∙ r done seen cover
-          ∙ sym (ap (once seen) (keep-yes x u q) ∙ once-skip seen x (keep test u) k)
-      go true p true q false k r =
-          absurd (was-false (isIn x seen) k (isIn-of x seen (cover x (of-isIn x done (was-true (isIn x done) p)) (was-true (test x) q))))
-      go true p false q c k r =
-          ap (λ (l : List ℕ). once seen (keep test (l ++ rest))) (once-skip done x xs p) ∙ r done seen cover ∙ sym (ap (once seen) (keep-no x u q))
-      go false p true q true k r =
-          ap (λ (l : List ℕ). once seen (keep test (l ++ rest))) (once-take done x xs p) ∙ ap (once seen) (keep-yes x v q) ∙ once-skip seen x (keep test v) k
-          ∙ r (x ∷ done) seen (more seen (λ t. of-isIn x seen (was-true (isIn x seen) k)) (λ w h. h))
-          ∙ sym (ap (once seen) (keep-yes x u q) ∙ once-skip seen x (keep test u) k)
-      go false p true q false k r =
-          ap (λ (l : List ℕ). once seen (keep test (l ++ rest))) (once-take done x xs p) ∙ ap (once seen) (keep-yes x v q) ∙ once-take seen x (keep test v) k
-          ∙ ap (λ (l : List ℕ). x ∷ l) (r (x ∷ done) (x ∷ seen) (more (x ∷ seen) (λ t. inl refl) (λ w h. inr h)))
-          ∙ sym (ap (once seen) (keep-yes x u q) ∙ once-take seen x (keep test u) k)
-      go false p false q c k r =
-          ap (λ (l : List ℕ). once seen (keep test (l ++ rest))) (once-take done x xs p) ∙ ap (once seen) (keep-no x v q)
-          ∙ r (x ∷ done) seen (more seen (λ t. absurd (was-false (test x) q t)) (λ w h. h))
-          ∙ sym (ap (once seen) (keep-no x u q))
-
-  once-flat : (f : ℕ → List ℕ) (level seen : List ℕ) → once seen (keep test (flatMap (λ i. once [] (f i)) level)) ≡ once seen (keep test (flatMap f level))
-  unfolding flatMap
-  once-flat f [] seen = refl
-  once-flat f (i ∷ level) seen =
-      once-first (f i) (flatMap (λ i. once [] (f i)) level) (flatMap f level) [] seen (λ w h t. absurd h) (λ s. once-flat f level s)
-
--- the expanders below, each once
-module _ (d : Domain) (few : length d ≤ 64) where
-  under : (i : ℕ) → Below 65 (below d i)
-  under i w h = level-under d 65 (omega arith) (i ∷ []) w (flatMap-in (below d) (i ∷ []) w i (inl refl) h)
-
-  below-under : (i : ℕ) → Below 65 (belowOnce d i)
-  below-under i w h = under i w (in-once [] (below d i) w h)
-
-  pub below-few : (i : ℕ) → length (belowOnce d i) ≤ 65
-  below-few i = at-most 65 (belowOnce d i) (below-under i) (once-distinct [] (below d i) .0)
-
-  keep-all : (l : List ℕ) → keep (λ i. not (isIn i [])) l ≡ l
-  unfolding keep isIn any
-  keep-all [] = refl
-  keep-all (x ∷ l) = ap (λ (m : List ℕ). x ∷ m) (keep-all l)
-
-  pub below-made : (i : ℕ) → addAll 65 [] [] (below d i) ≡ belowOnce d i
-  below-made i = all-new [] (below d i) (under i) ∙ ap (once []) (keep-all (below d i))
-
-  pub next-made : (last level : List ℕ) → addAll 65 last [] (flatMap (belowOnce d) level) ≡ nextLevel d last level
-  unfolding nextLevel
-  next-made last level =
-      all-new last (flatMap (belowOnce d) level) (λ w h. let m = in-flatMap (belowOnce d) level w h in below-under (m .0) w (m .2))
-      ∙ once-flat (λ i. not (isIn i last)) (below d) level []
-
--- past the last expander
-pub below-past : (d : Domain) (i : ℕ) → length d ≤ i → belowOnce d i ≡ []
-unfolding below belowPhys keep once
-below-past d i h = ap (λ (e : Expander). once [] (belowPhys d (e .phys))) (List·getD-eq-default d noExpander h)
-
--- the levels left. `inv` is the loop's invariant
-pub order-start : (d : Domain) (x n : ℕ) (φ : Phy) (last level : List ℕ) → n ≡ length d → last ≡ x ∷ [] → level ≡ belowPhys d (φ ∷ [])
-    → levelsFrom (n - 0) d last level ≡ orderOf d x φ
-unfolding orderOf
-order-start d x n φ last level q e f = let z : n - 0 ≡ length d = omega arith in rw (z, e, f)
-
-module _ (d : Domain) (n k : ℕ) (l last level : List ℕ) {v : List ℕ} (inv : l ++ levelsFrom (n - k) d last level ≡ v) where
-  pub order-go : {l' next : List ℕ} → l' ≡ l ++ level → next ≡ nextLevel d last level → k < n → l' ++ levelsFrom (n - (k + 1)) d level next ≡ v
-  unfolding levelsFrom
-  order-go {l'} {next} q e h =
-      let z : n - k ≡ suc (n - (k + 1)) = omega arith in
-      let s : l ++ (level ++ levelsFrom (n - (k + 1)) d level (nextLevel d last level)) ≡ v = rw z at inv in
-      rw (q, e) (append-assoc l level (levelsFrom (n - (k + 1)) d level (nextLevel d last level)) ∙ s)
-
-  pub order-stop : level ≡ [] → l ≡ v
-  order-stop q = sym (append-nil l) ∙ ap (λ (m : List ℕ). l ++ m) (sym (ap (levelsFrom (n - k) d last) q ∙ levels-none (n - k) d last)) ∙ inv
-
-  pub order-end : n ≤ k → l ≡ v
-  unfolding levelsFrom
-  order-end h = let z : n - k ≡ 0 = omega arith in sym (append-nil l) ∙ rw z at inv
+  -- all that wait are followed, before those below them
+  queue-all : (xs ys : List ℕ) (t : ℕ) → queue (t + length xs) d (xs ++ ys) ≡ xs ++ queue t d (ys ++ flatMap (belowOnce d) xs)
+  unfolding queue flatMap
+  queue-all [] ys t = let z : t + 0 ≡ t = omega arith in ap (λ (n : ℕ). queue n d ys) z ∙ ap (queue t d) (sym (append-nil ys))
+  queue-all (x ∷ xs) ys t =
+      let z : t + suc (length xs) ≡ suc (t + length xs) = omega arith in
+      ap (λ (n : ℕ). queue n d (x ∷ (xs ++ ys))) z
+      ∙ ap (λ (m : List ℕ). x ∷ m)
+      (ap (queue (t + length xs) d) (append-assoc xs ys (belowOnce d x)) ∙ queue-all xs (ys ++ belowOnce d x) t
+      ∙ ap (λ (m : List ℕ). xs ++ queue t d m) (append-assoc ys (belowOnce d x) (flatMap (belowOnce d) xs)))
 
 -- a phy where the levels do not go on has no order
-pub order-none : (d : Domain) (x : ℕ) (φ : Phy) → down d φ ≡ false → orderOf d x φ ≡ []
+pub order-none : (d : Domain) (φ : Phy) → down d φ ≡ false → orderOf d φ ≡ []
 unfolding orderOf
-order-none d x φ q = ap (levelsFrom (length d) d (x ∷ [])) (below-none d φ q) ∙ levels-none (length d) d (x ∷ [])
+order-none d φ q = ap (queue (length d) d) (below-none d φ q) ∙ queue-none d (length d)
 
 -- phys of one link have the same order
-module _ (d : Domain) (φ ψ : Phy) (one : T (oneLink φ ψ)) where
-  pub linked-number : belowPhys d (φ ∷ []) ≡ belowPhys d (ψ ∷ [])
-  unfolding oneLink
-  linked-number =
-      let more = and-right (down d φ) _ one in
-      let same = eqb→eq (addressOf φ) (addressOf ψ) (and-right (down d ψ) _ more) in
-      below-one d φ (is-true (down d φ) (and-left (down d φ) _ one)) ∙ ap (λ (s : ℕ). numberOf d s ∷ []) same
-      ∙ sym (below-one d ψ (is-true (down d ψ) (and-left (down d ψ) _ more)))
-
-pub order-linked : (d : Domain) (x : ℕ) (φ ψ : Phy) → T (oneLink φ ψ) → orderOf d x φ ≡ orderOf d x ψ
+pub order-linked : (d : Domain) (φ ψ : Phy) → T (oneLink φ ψ) → orderOf d φ ≡ orderOf d ψ
 unfolding orderOf
-order-linked d x φ ψ one = ap (levelsFrom (length d) d (x ∷ [])) (linked-number d φ ψ one)
+order-linked d φ ψ one = ap (queue (length d) d) (linked-number d φ ψ one)
 
--- the order of phy p
-pub order-levels : (d : Domain) (x p : ℕ) → orderOf d x (phyAt d x p) ≡ levels d x p
-unfolding orderOf levels
-order-levels d x p = refl
+-- the queue so far, from the numbers `first` on: m numbers in `order`, of which k were followed, in at most n turns
+pub record Queued (d : Domain) (first : List ℕ) (n k m : ℕ) (order : List ℕ) : Type 0 where
+  pub fits : m ≤ length order
+  pub few : m ≤ 65 * k + 1
+  pub met : take k (take m order) ++ queue (n - k) d (drop k (take m order)) ≡ queue n d first
 
--- phys q and p of one link: the same levels, and table phys
-module _ (d : Domain) (i q p : ℕ) (one : T (oneLink (phyAt d i q) (phyAt d i p))) where
-  pub linked-levels : levels d i q ≡ levels d i p
-  linked-levels = sym (order-levels d i q) ∙ order-linked d i (phyAt d i q) (phyAt d i p) one ∙ order-levels d i p
+pub queue-start : (d : Domain) (n m : ℕ) (order : List ℕ) → m ≤ length order → m ≤ 1 → Queued d (take m order) n 0 m order
+queue-start d n m order h f =
+    let e : n - 0 ≡ n = omega arith in
+    record { fits = h; few = omega arith; met = ap (λ (t : ℕ). queue t d (take m order)) e }
 
-  pub linked-routes : T (routes 2 (phyAt d i q)) × T (routes 2 (phyAt d i p))
-  unfolding oneLink
-  linked-routes =
-      let φ = phyAt d i q in
-      let ψ = phyAt d i p in
-      let more = and-right (down d φ) _ one in
-      (and-right (toExpander φ) _ (and-left (down d φ) _ one), and-right (toExpander ψ) _ (and-left (down d ψ) _ more))
+module _ (d : Domain) {first : List ℕ} {n k m : ℕ} {order : List ℕ} (so : Queued d first n k m order) where
+  abbrev l : List ℕ
+  l = take m order
+
+  long : length l ≡ m
+  long = length-take-le m order (so .fits)
+
+  pub queue-go : {after : List ℕ} {r : ℕ} → Grown order after r (l ++ belowOnce d (getD order k 0)) → length d ≤ 64 → k < n → k < m
+      → Queued d first n (k + 1) r after
+  queue-go {after} {r} g few h i =
+      let b : List ℕ = belowOnce d (getD order k 0) in
+      let t : n - k ≡ suc (n - (k + 1)) = omega arith in
+      let j : k < length l = omega (arith, long) in
+      let e = getD-take m order k 0 i in
+      let u : k + 1 ≡ suc k = omega arith in
+      record {
+        fits = omega (arith, g .same, g .fits);
+        few = omega (arith, so .few, grown-length g, length-append l b, long, below-few d few (getD order k 0));
+        met = ap (λ (v : ℕ). take v (take r after) ++ queue (n - (k + 1)) d (drop v (take r after))) u
+            ∙ ap (λ (v : List ℕ). take (suc k) v ++ queue (n - (k + 1)) d (drop (suc k) v)) (g .whole ∙ ap (λ (v : ℕ). l ++ belowOnce d v) (sym e))
+            ∙ queue-step d (n - (k + 1)) k l j ∙ ap (λ (v : ℕ). take k l ++ queue v d (drop k l)) (sym t) ∙ so .met;
+      }
+
+  pub queue-stop : m ≤ k → l ≡ queue n d first
+  queue-stop h =
+      let j : length l ≤ k = omega (arith, long) in
+      sym (take-all k l j) ∙ sym (append-nil (take k l)) ∙ ap (λ (v : List ℕ). take k l ++ v) (sym (ap (queue (n - k) d) (drop-of-length-le l j) ∙ queue-none d (n - k)))
+      ∙ so .met
+
+  pub queue-end : n ≤ k → l ≡ queue n d first
+  unfolding queue
+  queue-end h =
+      let z : n - k ≡ 0 = omega arith in
+      sym (take-append-drop k l) ∙ ap (λ (t : ℕ). take k l ++ queue t d (drop k l)) (sym z) ∙ so .met
+
+-- so the order of phy φ, whose first level is `first`
+pub order-by : (d : Domain) (φ : Phy) {l first : List ℕ} {n : ℕ} → l ≡ queue n d first → n ≡ length d → first ≡ belowPhys d (φ ∷ []) → l ≡ orderOf d φ
+unfolding orderOf
+order-by d φ {l} {first} e q f = e ∙ ap (λ (t : ℕ). queue t d first) q ∙ ap (queue (length d) d) f
+
+-- numbers once, in parts that share none
+isIn-other : (w x : ℕ) (l : List ℕ) → ¬ (w ≡ x) → isIn w (x ∷ l) ≡ isIn w l
+unfolding isIn any
+isIn-other w x l k = ap (λ (b : Bool). b || isIn w l) (is-false (eqb w x) (λ t. k (eqb→eq w x t)))
+
+isIn-more : (w x : ℕ) (s s' : List ℕ) → isIn w s ≡ isIn w s' → isIn w (x ∷ s) ≡ isIn w (x ∷ s')
+unfolding isIn any
+isIn-more w x s s' q = ap (λ (b : Bool). eqb w x || b) q
+
+once-same : (s s' l : List ℕ) → ((w : ℕ) → In w l → isIn w s ≡ isIn w s') → once s l ≡ once s' l
+unfolding once
+once-same s s' [] f = refl
+once-same s s' (x ∷ l) f =
+    go (isIn x s) refl (once-same s s' l (λ w h. f w (inr h))) (once-same (x ∷ s) (x ∷ s') l (λ w h. isIn-more w x s s' (f w (inr h))))
+  where
+    go : (b : Bool) → isIn x s ≡ b → once s l ≡ once s' l → once (x ∷ s) l ≡ once (x ∷ s') l → once s (x ∷ l) ≡ once s' (x ∷ l)
+    go true q e g = once-skip s x l q ∙ e ∙ sym (once-skip s' x l (sym (f x (inl refl)) ∙ q))
+    go false q e g = once-take s x l q ∙ ap (λ (m : List ℕ). x ∷ m) g ∙ sym (once-take s' x l (sym (f x (inl refl)) ∙ q))
+
+once-apart : (seen xs ys : List ℕ) → ((w : ℕ) → In w ys → ¬ (In w xs)) → once seen (xs ++ ys) ≡ once seen xs ++ once seen ys
+unfolding once
+once-apart seen [] ys f = refl
+once-apart seen (x ∷ xs) ys f =
+    go (isIn x seen) refl (once-apart seen xs ys (λ w h i. f w h (inr i))) (once-apart (x ∷ seen) xs ys (λ w h i. f w h (inr i)))
+  where
+    other : once (x ∷ seen) ys ≡ once seen ys
+    other = once-same (x ∷ seen) seen ys (λ w h. isIn-other w x seen (λ e. f w h (inl e)))
+
+    go : (b : Bool) → isIn x seen ≡ b → once seen (xs ++ ys) ≡ once seen xs ++ once seen ys
+        → once (x ∷ seen) (xs ++ ys) ≡ once (x ∷ seen) xs ++ once (x ∷ seen) ys → once seen (x ∷ (xs ++ ys)) ≡ once seen (x ∷ xs) ++ once seen ys
+    go true q e g = once-skip seen x (xs ++ ys) q ∙ e ∙ ap (λ (m : List ℕ). m ++ once seen ys) (sym (once-skip seen x xs q))
+    go false q e g =
+        once-take seen x (xs ++ ys) q ∙ ap (λ (m : List ℕ). x ∷ m) (g ∙ ap (λ (m : List ℕ). once (x ∷ seen) xs ++ m) other)
+        ∙ ap (λ (m : List ℕ). m ++ once seen ys) (sym (once-take seen x xs q))
+
+keep-all : (test : ℕ → Bool) (l : List ℕ) → ((w : ℕ) → In w l → T (test w)) → keep test l ≡ l
+unfolding keep
+keep-all test [] f = refl
+keep-all test (x ∷ l) f = keep-more test x l (f x (inl refl)) ∙ ap (λ (m : List ℕ). x ∷ m) (keep-all test l (λ w h. f w (inr h)))
+
+module _ (d : Domain) (w : Wired d) (r : Linked d) where
+  -- no expander is below two
+  below-apart : (level : List ℕ) → Distinct level → once [] (flatMap (below d) level) ≡ flatMap (belowOnce d) level
+  unfolding once flatMap
+  below-apart [] k = refl
+  below-apart (i ∷ level) k =
+      once-apart [] (below d i) (flatMap (below d) level)
+      (λ v h o. let m = in-flatMap (below d) level v h in
+      let e = one-above d w r (m .0) i v (in-below d w r (m .0) v (m .2)) (in-below d w r i v o) in
+      k .0 (subst (λ (u : ℕ). In u level) e (m .1)))
+      ∙ ap (λ (l : List ℕ). belowOnce d i ++ l) (below-apart level (k .1))
+
+  module _ (x n : ℕ) (a : Table d x n) where
+    -- nothing is left out for being in the level before
+    abbrev Onward : List ℕ → List ℕ → Type 0
+    Onward before level = (u v : ℕ) → In u before → In v level → Table d v u → ⊥
+
+    next-flat : (before level : List ℕ) → Onward before level → Distinct level → nextLevel d before level ≡ flatMap (belowOnce d) level
+    unfolding nextLevel
+    next-flat before level g k =
+        ap (once []) (keep-all (λ i. not (isIn i before)) (flatMap (below d) level)
+        (λ v h. let m = in-flatMap (below d) level v h in
+        not-T (isIn v before) (λ o. g v (m .0) (of-isIn v before o) (m .1) (in-below d w r (m .0) v (m .2)))))
+        ∙ below-apart level k
+
+    onward : (j : ℕ) (before level : List ℕ) → ((v : ℕ) → In v level → Deep d w r x n a j v) → Onward level (nextLevel d before level)
+    onward j before level f b v o q z =
+        let same = deep-once d w r x n a j (suc (suc j)) b (f b o) (deeper d w r x n a (suc j) v b (next-deep d w r x n a j before level f v q) z) in
+        omega arith
+
+    -- the queue from a level on: the levels from there on
+    queue-levels : (k j t : ℕ) (before level : List ℕ) → ((v : ℕ) → In v level → Deep d w r x n a j v) → Onward before level → Distinct level
+        → length d ≤ suc (k + j) → length (levelsFrom k d before level) ≤ t → queue t d level ≡ levelsFrom k d before level
+    unfolding levelsFrom
+    queue-levels zero j t before [] f g k h s = queue-none d t
+    queue-levels zero j t before (v ∷ level) f g k h s = absurd (omega (arith, deep-small d w r x n a j v (f v (inl refl))))
+    queue-levels (suc m) j t before level f g k h s =
+        let next : List ℕ = nextLevel d before level in
+        let rest : List ℕ = levelsFrom m d level next in
+        let long = length-append level rest in
+        let z : t ≡ t - length level + length level = omega arith in
+        ap (λ (y : ℕ). queue y d level) z
+        ∙ ap (queue (t - length level + length level) d) (sym (append-nil level))
+        ∙ queue-all d level [] (t - length level)
+        ∙ ap (λ (l : List ℕ). level ++ l)
+        (ap (queue (t - length level) d) (sym (next-flat before level g k))
+        ∙ queue-levels m (suc j) (t - length level) level next (next-deep d w r x n a j before level f) (onward j before level f) (next-distinct d before level)
+        (omega arith) (omega arith))
+
+  -- the order of phy p of expander x
+  order-down : (x p : ℕ) → T (down d (phyAt d x p)) → orderOf d (phyAt d x p) ≡ levels d x p
+  unfolding orderOf levels
+  order-down x p t =
+      let φ = phyAt d x p in
+      let n = numberOf d (addressOf φ) in
+      let l = down-leads d w r x p t in
+      let end = far-below d w x p (l .expander) in
+      let to = far-is d w x p (l .expander) in
+      let a : Table d x n = record { phy = p; to = to; routed = l .routed; end = end; single = l .single } in
+      let few = levels-few d w r x p n end to (l .routed) (l .single) .1 in
+      let e = below-one d φ (is-true (down d φ) t) in
+      let s : length (levelsFrom (length d) d (x ∷ []) (n ∷ [])) ≤ length d = subst (λ (v : List ℕ). length (levelsFrom (length d) d (x ∷ []) v) ≤ length d) e (omega arith) in
+      rw e (queue-levels x n a (length d) 0 (length d) (x ∷ []) (n ∷ []) (top d w r x n a)
+      (λ u v. ⊎-elim (λ f. ⊎-elim (λ g z. not-both d w n x (table-back d w r x n a) (subst₂ (Table d) g f z)) (λ o. absurd o)) (λ o. absurd o))
+      (λ o. o, tt) (omega arith) s)
+
+  pub order-levels : (x p : ℕ) → orderOf d (phyAt d x p) ≡ levels d x p
+  order-levels x p =
+      ⊎-elim (order-down x p)
+      (λ k. let φ = phyAt d x p in order-none d φ (is-false (down d φ) k) ∙ sym (levels-empty d x p k))
+      (T? (down d (phyAt d x p)))

@@ -1,7 +1,7 @@
 -- A level list that is too long, by own lists: a phy on a link with a lower phy, one where the levels do not go on, and the others.
 use Prim.Native.Nat.{ℕ, _+_, _<_}
 use mathlib.Core.Path.{_≡_, refl, sym, _∙_, ap}
-use mathlib.Core.Bool.{Bool, true, false, _&&_}
+use mathlib.Core.Bool.{Bool, true, false}
 use mathlib.Core.Logic.{by-cases}
 use mathlib.Core.List.{List, [], flatMap}
 use native.Mathlib.Omega.{arith}
@@ -10,42 +10,48 @@ use lib.ListN.{length}
 use lib.Dec.{T, ltb, ltb→lt}
 use Rattle.wiring.specs.declared.Phy.{Phy}
 use Rattle.wiring.specs.Domain.{Domain, expanderAt, phyAt, routes, toExpander}
-use Rattle.wiring.proofs.Members.{and-right, is-true, is-false, was-true, was-false}
-use Rattle.tables.specs.Levels.{levels}
-use Rattle.tables.specs.Own.{own, ownList}
-use Rattle.tables.specs.Prepared.{orderOf, oneLink, overOwn}
+use Rattle.wiring.proofs.Members.{and-left, and-right, is-true, is-false, was-true}
+use Rattle.tables.specs.Levels.{down}
+use Rattle.tables.specs.Own.{own}
+use Rattle.tables.specs.Prepared.{orderOf, orderList, oneLink, overOwn}
 use Rattle.tables.proofs.Growing.{and-false}
-use Rattle.tables.proofs.Law.{levels-empty}
-use Rattle.tables.proofs.Orders.{order-levels, linked-levels, linked-routes}
+use Rattle.tables.proofs.Orders.{order-none, order-linked}
 
--- phys of one link are table phys with the same levels
+-- phys of one link are table phys with the same order
+module _ (d : Domain) (φ ψ : Phy) (one : T (oneLink φ ψ)) where
+  linked-routes : T (routes 2 φ) × T (routes 2 ψ)
+  unfolding oneLink
+  linked-routes =
+      let more = and-right (down d φ) _ one in
+      (and-right (toExpander φ) _ (and-left (down d φ) _ one), and-right (toExpander ψ) _ (and-left (down d ψ) _ more))
+
 pub over-linked : (d : Domain) (i q p : ℕ) → T (oneLink (phyAt d i q) (phyAt d i p)) → overOwn d i q ≡ overOwn d i p
-unfolding overOwn ownList
+unfolding overOwn orderList
 over-linked d i q p one =
-    let r = linked-routes d i q p one in
-    rw (is-true (routes 2 (phyAt d i q)) (r .0), is-true (routes 2 (phyAt d i p)) (r .1), linked-levels d i q p one) refl
+    let r = linked-routes d (phyAt d i q) (phyAt d i p) one in
+    rw (is-true (routes 2 (phyAt d i q)) (r .0), is-true (routes 2 (phyAt d i p)) (r .1), order-linked d (phyAt d i q) (phyAt d i p) one) refl
 
 -- phy p, by the tests of the phy that was read
 module _ (d : Domain) (i p : ℕ) (φ : Phy) (at : φ ≡ phyAt d i p) where
-  goes : {b : Bool} → (toExpander φ && routes 2 φ) ≡ b → (toExpander (phyAt d i p) && routes 2 (phyAt d i p)) ≡ b
-  goes q = ap (λ (χ : Phy). toExpander χ && routes 2 χ) (sym at) ∙ q
+  goes : {b : Bool} → down d φ ≡ b → down d (phyAt d i p) ≡ b
+  goes q = ap (down d) (sym at) ∙ q
 
   -- no levels, no words
-  pub over-none : (toExpander φ && routes 2 φ) ≡ false → overOwn d i p ≡ false
-  unfolding overOwn ownList flatMap
+  pub over-none : down d φ ≡ false → overOwn d i p ≡ false
+  unfolding overOwn orderList flatMap
   over-none q =
-      let e : levels d i p ≡ [] = levels-empty d i p (was-false _ (goes q)) in
+      let e : orderOf d (phyAt d i p) ≡ [] = order-none d (phyAt d i p) (goes q) in
       let r : ℕ = expanderAt d i .indexes in
       let z = is-false (ltb r 0) (λ t. let h = ltb→lt r 0 t in omega arith) in
       rw (e, z) (and-false (routes 2 (phyAt d i p)))
 
   -- where the levels go on, by their order
-  pub over-order : (order : List ℕ) → (toExpander φ && routes 2 φ) ≡ true → order ≡ orderOf d i φ
+  pub over-order : (order : List ℕ) → down d φ ≡ true → order ≡ orderOf d φ
       → ltb (expanderAt d i .indexes) (length (flatMap (own d) order)) ≡ overOwn d i p
-  unfolding overOwn ownList
+  unfolding overOwn orderList
   over-order order q e =
       let a = is-true (routes 2 (phyAt d i p)) (and-right (toExpander (phyAt d i p)) _ (was-true _ (goes q))) in
-      let f = e ∙ ap (orderOf d i) at ∙ order-levels d i p in
+      let f = e ∙ ap (orderOf d) at in
       rw (a, f) refl
 
 -- false below p, and at p

@@ -1,4 +1,4 @@
--- What the functions that fill tables make: a level with room for so many, a list that grows, words put at a place.
+-- What the functions that fill tables make: numbers with room for so many, a list that grows, words put at a place.
 use Prim.Native.Nat.{ℕ, _+_, _≤_, min}
 use mathlib.Core.Path.{_≡_}
 use mathlib.Core.Bool.{cond, _||_}
@@ -11,13 +11,13 @@ use Rattle.wiring.specs.Domain.{Domain, expanderAt, phyAt, routes}
 use Rattle.wiring.specs.Causes.{Place, phyPlaces}
 use Rattle.tables.specs.Tables.{levelList, table}
 
--- a level so far, and one number more: none of the level before it (`last`), none twice, at most `room` numbers
-unfoldable pub add : ℕ → List ℕ → List ℕ → ℕ → List ℕ
-add room last l j = cond (isIn j last || (isIn j l || leb room (length l))) l (l ++ (j ∷ []))
+-- numbers so far, and one more: none twice, at most `room` of them
+unfoldable pub add : ℕ → List ℕ → ℕ → List ℕ
+add room l j = cond (isIn j l || leb room (length l)) l (l ++ (j ∷ []))
 
-unfoldable pub addAll : ℕ → List ℕ → List ℕ → List ℕ → List ℕ
-addAll room last l [] = l
-addAll room last l (j ∷ js) = addAll room last (add room last l j) js
+unfoldable pub addAll : ℕ → List ℕ → List ℕ → List ℕ
+addAll room l [] = l
+addAll room l (j ∷ js) = addAll room (add room l j) js
 
 -- the first r of the words after a call are l
 pub record Grown (before after : List ℕ) (r : ℕ) (l : List ℕ) : Type 0 where
@@ -26,8 +26,8 @@ pub record Grown (before after : List ℕ) (r : ℕ) (l : List ℕ) : Type 0 whe
   pub whole : take r after ≡ l
 
 -- the first n numbers, and these after them, as far as they are new and there is room
-abbrev pub Added : List ℕ → List ℕ → List ℕ → ℕ → ℕ → List ℕ → Type 0
-Added last before after n r js = Grown before after r (addAll (length before) last (take n before) js)
+abbrev pub Added : List ℕ → List ℕ → ℕ → ℕ → List ℕ → Type 0
+Added before after n r js = Grown before after r (addAll (length before) (take n before) js)
 
 -- the phys of these expanders
 abbrev pub physOf : Domain → List ℕ → List Phy

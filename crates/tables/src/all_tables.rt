@@ -14,9 +14,8 @@ ghost use Rattle.wiring.specs.Domain.{phyAt, routes};
 ghost use Rattle.wiring.specs.Causes.{place};
 ghost use Rattle.wiring.specs.Rows.{domainIn};
 ghost use Rattle.tables.specs.Tables.{tablePlaces, tables, size, sizes, needed};
-ghost use Rattle.tables.specs.Levels.{levels};
 ghost use Rattle.tables.specs.Filling.{placesAt, withTables, tablesOf, Put};
-ghost use Rattle.tables.specs.Prepared.{OwnHeld, BelowHeld, Fillable};
+ghost use Rattle.tables.specs.Prepared.{OwnHeld, BelowHeld, orderOf, Fillable};
 
 // Is phy p of expander i a non-vacant table phy?
 pub(crate) fn is_table(rows: &[u64], i: ExpanderNumber, p: PhyId) -> bool
@@ -112,7 +111,7 @@ fn put_table(
     words: &mut [u64],
     at: usize,
 ) -> usize
-    requires { ⌜ OwnHeld (domainIn (now rows)) (now lists) × ((now order ≡ levels (domainIn (now rows)) (i .0) (p .0))
+    requires { ⌜ OwnHeld (domainIn (now rows)) (now lists) × ((now order ≡ orderOf (domainIn (now rows)) (phyAt (domainIn (now rows)) (i .0) (p .0)))
         × (Fillable (domainIn (now rows)) × (at + size (domainIn (now rows)) (place (i .0) (p .0)) ≤ length (now words)))) ⌝ }
     ensures { λ r. ⌜ Put (now (words .entry)) (now (words .exit)) at r
         (tablesOf (domainIn (now (rows .entry))) (place (i .0) (p .0) ∷ [])) ⌝ }
@@ -136,7 +135,7 @@ fn put_tables(
     words: &mut [u64],
     at: usize,
 ) -> usize
-    requires { ⌜ OwnHeld (domainIn (now rows)) (now lists) × (BelowHeld (domainIn (now rows)) (now below) × ((length (now order) ≡ 4160)
+    requires { ⌜ OwnHeld (domainIn (now rows)) (now lists) × (BelowHeld (domainIn (now rows)) (now below) × ((length (now order) ≡ 4161)
         × (Fillable (domainIn (now rows)) × (at + sizes (domainIn (now rows)) (placesAt (domainIn (now rows)) (i .0)) ≤ length (now words))))) ⌝ }
     ensures { λ r. ⌜ Put (now (words .entry)) (now (words .exit)) at r
         (tablesOf (domainIn (now (rows .entry))) (placesAt (domainIn (now (rows .entry))) (i .0))) ⌝ }
@@ -148,7 +147,7 @@ fn put_tables(
     let mut p: u8 = 0;
     while p < n {
         let f = wiring::phy_at(rows, i, PhyId(p));
-        m = order::order_for(rows, below, i, g, m, f, order);
+        m = order::order_for(rows, below, g, m, f, order);
         g = f;
         to = put_table(rows, lists, &order[..m], i, PhyId(p), words, to);
         p += 1;
@@ -163,7 +162,7 @@ pub(crate) fn put_all(rows: &[u64], words: &mut [u64])
 {
     let mut lists = [0u64; 8256];
     let mut below = [0u8; 4224];
-    let mut order = [0u8; 4160];
+    let mut order = [0u8; 4161];
     own::put_owns(rows, &mut lists[..]);
     below::put_below(rows, &mut below[..]);
     let n = wiring::expander_count(rows);

@@ -3,7 +3,6 @@ mod all_tables;
 mod below;
 mod calls;
 mod filling;
-mod levels;
 mod order;
 mod overlong;
 mod own;

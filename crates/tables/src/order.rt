@@ -1,6 +1,5 @@
-// The order of a phy: the expanders of its levels, level by level.
-use crate::below;
-use crate::levels;
+// The order of a phy: the expanders of its levels, level by level. They stand in a queue: each is followed in
+// turn, and the expanders below it are added behind those that wait.
 use crate::wide;
 use frames::ExpanderNumber;
 use wiring::Phy;
@@ -10,21 +9,35 @@ ghost use lib.ListN.{length, take};
 ghost use Rattle.wiring.specs.Rows.{domainIn};
 ghost use Rattle.tables.specs.Levels.{belowPhys};
 ghost use Rattle.tables.specs.Filling.{Grown};
-ghost use Rattle.tables.specs.Prepared.{BelowHeld, orderOf};
+ghost use Rattle.tables.specs.Prepared.{BelowHeld, belowOnce, orderOf};
 
-// Copies a level after the first m numbers of `order`, and yields how many there are then.
-fn append_level(order: &mut [u8], m: usize, level: &[u8]) -> usize
-    requires { ⌜ m + length (now level) ≤ length (now order) ⌝ }
-    ensures { λ r. ⌜ Grown (now (order .entry)) (now (order .exit)) r (take m (now (order .entry)) ++ now (level .entry)) ⌝ }
+// Copies the numbers after the first m of `order`, and yields how many there are then.
+fn append_numbers(order: &mut [u8], m: usize, more: &[u8]) -> usize
+    requires { ⌜ m + length (now more) ≤ length (now order) ⌝ }
+    ensures { λ r. ⌜ Grown (now (order .entry)) (now (order .exit)) r (take m (now (order .entry)) ++ now (more .entry)) ⌝ }
 {
     let mut to = m;
     let mut k: usize = 0;
-    while k < level.len() {
-        order[to] = level[k];
+    while k < more.len() {
+        order[to] = more[k];
         to += 1;
         k += 1;
     }
     to
+}
+
+// The same of the expanders below expander i.
+fn append_below(rows: &[u64], below: &[u8], i: ExpanderNumber, order: &mut [u8], m: usize) -> usize
+    requires { ⌜ BelowHeld (domainIn (now rows)) (now below) × (m + 65 ≤ length (now order)) ⌝ }
+    ensures { λ r. ⌜ Grown (now (order .entry)) (now (order .exit)) r (take m (now (order .entry)) ++ belowOnce (domainIn (now (rows .entry))) (i .0)) ⌝ }
+{
+    if i.0 >= wiring::expander_count(rows) {
+        return m;
+    }
+    let a = 66 * (i.0 as usize);
+    let from = a + 1;
+    let to = from + below[a] as usize;
+    append_numbers(order, m, &below[from..to])
 }
 
 // Writes the first level of phy f: the expander attached to it, where the levels go on there. The answer is
@@ -33,68 +46,47 @@ fn first_level(rows: &[u64], level: &mut [u8], f: Phy) -> usize
     requires { ⌜ 1 ≤ length (now level) ⌝ }
     ensures { λ r. ⌜ Grown (now (level .entry)) (now (level .exit)) r (belowPhys (domainIn (now (rows .entry))) (f ∷ [])) ⌝ }
 {
-    if !levels::is_down(f) {
+    if !wide::is_down(f) {
         return 0;
     }
     level[0] = wiring::number_of(rows, wiring::phy_address(f)).0;
     1
 }
 
-// Writes the order of phy f of expander x, and yields its length. There are at most 64 levels. A level
-// has at most 65 numbers: at most 64 expanders, and their count for an address that no expander has.
-pub(crate) fn put_order(
-    rows: &[u64],
-    below: &[u8],
-    x: ExpanderNumber,
-    f: Phy,
-    order: &mut [u8],
-) -> usize
-    requires { ⌜ BelowHeld (domainIn (now rows)) (now below) × (4160 ≤ length (now order)) ⌝ }
-    ensures { λ r. ⌜ Grown (now (order .entry)) (now (order .exit)) r (orderOf (domainIn (now (rows .entry))) (x .0) f) ⌝ }
+// Writes the order of phy f, and yields its length. At most 64 expanders are followed, and at most 65 are
+// below each.
+pub(crate) fn put_order(rows: &[u64], below: &[u8], f: Phy, order: &mut [u8]) -> usize
+    requires { ⌜ BelowHeld (domainIn (now rows)) (now below) × (4161 ≤ length (now order)) ⌝ }
+    ensures { λ r. ⌜ Grown (now (order .entry)) (now (order .exit)) r (orderOf (domainIn (now (rows .entry))) f) ⌝ }
 {
-    if !levels::is_down(f) {
-        return 0;
-    }
-    let turns = wiring::expander_count(rows);
-    let mut last = [0u8; 65];
-    let mut level = [0u8; 65];
-    let mut next = [0u8; 65];
-    last[0] = x.0;
-    let mut b: usize = 1;
-    let mut e = first_level(rows, &mut level[..], f);
-    let mut m: usize = 0;
-    let mut k: u8 = 0;
+    let turns = wiring::expander_count(rows) as usize;
+    let mut m = first_level(rows, order, f);
+    let mut k: usize = 0;
     while k < turns {
-        if e == 0 {
+        if k >= m {
             return m;
         }
-        m = append_level(order, m, &level[..e]);
-        let g = below::next_level(rows, below, &last[..b], &level[..e], &mut next[..]);
-        last = level;
-        b = e;
-        level = next;
-        e = g;
+        m = append_below(rows, below, ExpanderNumber(order[k]), order, m);
         k += 1;
     }
     m
 }
 
-// The same, where the first n numbers of `order` are the order of phy g of expander x, which is kept where
-// f is on g's link.
+// The same, where the first n numbers of `order` are the order of phy g, which is kept where f is on g's
+// link.
 pub(crate) fn order_for(
     rows: &[u64],
     below: &[u8],
-    x: ExpanderNumber,
     g: Phy,
     n: usize,
     f: Phy,
     order: &mut [u8],
 ) -> usize
-    requires { ⌜ BelowHeld (domainIn (now rows)) (now below) × ((4160 ≤ length (now order)) × Grown (now order) (now order) n (orderOf (domainIn (now rows)) (x .0) g)) ⌝ }
-    ensures { λ r. ⌜ Grown (now (order .entry)) (now (order .exit)) r (orderOf (domainIn (now (rows .entry))) (x .0) f) ⌝ }
+    requires { ⌜ BelowHeld (domainIn (now rows)) (now below) × ((4161 ≤ length (now order)) × Grown (now order) (now order) n (orderOf (domainIn (now rows)) g)) ⌝ }
+    ensures { λ r. ⌜ Grown (now (order .entry)) (now (order .exit)) r (orderOf (domainIn (now (rows .entry))) f) ⌝ }
 {
     if wide::are_one_link(g, f) {
         return n;
     }
-    put_order(rows, below, x, f, order)
+    put_order(rows, below, f, order)
 }

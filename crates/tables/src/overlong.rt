@@ -1,6 +1,5 @@
-// Cause 14 by own lists: those of a table phy's levels have more than R words in all.
+// Cause 14 by own lists: those of a table phy's order have more than R words in all.
 use crate::below;
-use crate::levels;
 use crate::order;
 use crate::own;
 use crate::wide;
@@ -22,7 +21,7 @@ ghost use Rattle.tables.specs.Prepared.{OwnHeld, BelowHeld, overOwn, Tol
 
 // How many words the own lists of these expanders have.
 fn count_words(rows: &[u64], lists: &[u64], order: &[u8]) -> usize
-    requires { ⌜ OwnHeld (domainIn (now rows)) (now lists) × (length (now order) ≤ 4160) ⌝ }
+    requires { ⌜ OwnHeld (domainIn (now rows)) (now lists) × (length (now order) ≤ 4161) ⌝ }
     ensures { λ r. ⌜ r ≡ length (flatMap (own (domainIn (now (rows .entry)))) (now (order .entry))) ⌝ }
 {
     let mut sum: usize = 0;
@@ -47,7 +46,7 @@ fn is_overlong(
     q: u8,
     order: &mut [u8],
 ) -> bool
-    requires { ⌜ OwnHeld (domainIn (now rows)) (now lists) × (BelowHeld (domainIn (now rows)) (now below) × ((length (now order) ≡ 4160)
+    requires { ⌜ OwnHeld (domainIn (now rows)) (now lists) × (BelowHeld (domainIn (now rows)) (now below) × ((length (now order) ≡ 4161)
         × (Told (domainIn (now rows)) (i .0) (p .0) q × ((k : ℕ) → k < p .0 → overOwn (domainIn (now rows)) (i .0) k ≡ false)))) ⌝ }
     ensures { λ r. ⌜ r ≡ overOwn (domainIn (now (rows .entry))) (i .0) (p .0) ⌝ }
 {
@@ -55,10 +54,10 @@ fn is_overlong(
         return false;
     }
     let f = wiring::phy_at(rows, i, p);
-    if !levels::is_down(f) {
+    if !wide::is_down(f) {
         return false;
     }
-    let m = order::put_order(rows, below, i, f, order);
+    let m = order::put_order(rows, below, f, order);
     (wiring::index_count(rows, i) as usize) < count_words(rows, lists, &order[..m])
 }
 
@@ -70,7 +69,7 @@ fn overlong_phy(
     i: ExpanderNumber,
     order: &mut [u8],
 ) -> Check
-    requires { ⌜ OwnHeld (domainIn (now rows)) (now lists) × (BelowHeld (domainIn (now rows)) (now below) × (length (now order) ≡ 4160)) ⌝ }
+    requires { ⌜ OwnHeld (domainIn (now rows)) (now lists) × (BelowHeld (domainIn (now rows)) (now below) × (length (now order) ≡ 4161)) ⌝ }
     ensures { λ r. ⌜ checkAnswer (domainIn (now (rows .entry))) r
         ≡ firstIn 14 (overOwn (domainIn (now (rows .entry)))) (placesAt (domainIn (now (rows .entry))) (i .0)) (domainIn (now (rows .entry))) ⌝ }
 {
@@ -98,7 +97,7 @@ pub(crate) fn first_overlong(rows: &[u64]) -> Check
 {
     let mut lists = [0u64; 8256];
     let mut below = [0u8; 4224];
-    let mut order = [0u8; 4160];
+    let mut order = [0u8; 4161];
     own::put_owns(rows, &mut lists[..]);
     below::put_below(rows, &mut below[..]);
     let n = wiring::expander_count(rows);

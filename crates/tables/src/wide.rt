@@ -1,23 +1,34 @@
-// Phys of one wide link: a lower phy of the same link for each phy, so that judging goes through the levels
-// of a link once.
-use crate::levels;
+// Phys at which the levels go on, and those of one wide link: a lower phy of the same link for each phy, so
+// that judging goes through the levels of a link once.
 use frames::ExpanderNumber;
 use frames::PhyId;
 use wiring::Phy;
 ghost use mathlib.Core.Path.{_≡_};
+ghost use mathlib.Core.Bool.{_&&_};
 ghost use Prim.Native.Nat.{_<_};
 ghost use lib.ListN.{length};
+ghost use Rattle.wiring.specs.Domain.{routes, toExpander};
 ghost use Rattle.wiring.specs.Rows.{domainIn};
 ghost use Rattle.tables.specs.Prepared.{oneLink, Told};
+
+// Do the levels go on at this phy: a table phy attached to an expander?
+pub(crate) fn is_down(f: Phy) -> bool
+    ensures { λ r. ⌜ r ≡ (toExpander f && routes 2 f) ⌝ }
+{
+    if wiring::phy_type(f) < 2 {
+        return false;
+    }
+    wiring::phy_attribute(f) == 2
+}
 
 // Do the levels of two phys of one expander go on, at the same expander?
 pub(crate) fn are_one_link(f: Phy, g: Phy) -> bool
     ensures { λ r. ⌜ r ≡ oneLink f g ⌝ }
 {
-    if !levels::is_down(f) {
+    if !is_down(f) {
         return false;
     }
-    if !levels::is_down(g) {
+    if !is_down(g) {
         return false;
     }
     wiring::phy_address(f) == wiring::phy_address(g)
@@ -52,7 +63,7 @@ pub(crate) fn lower_phy(rows: &[u64], slots: &mut [u8], i: ExpanderNumber, p: Ph
     ensures { λ r. ⌜ Told (domainIn (now (rows .entry))) (i .0) (p .0) r ⌝ }
 {
     let f = wiring::phy_at(rows, i, p);
-    if !levels::is_down(f) {
+    if !is_down(f) {
         return 255;
     }
     let k = slot_of(rows, &slots[..], i, f);

@@ -17,7 +17,7 @@ use Rattle.tables.proofs.all_tables.put_all.Tie as tie
 abbrev Inv-loop : tie.InvT-loop
 Inv-loop rows words₀ lists below order₀ n to₀ i₀ words order to i =
     (i ≤ n)
-    × ((length order ≡ 4160)
+    × ((length order ≡ 4161)
     × ((length words ≡ length words₀)
     × ((to + sizes (domainIn rows) (placesFrom i (drop i (domainIn rows))) ≡ needed (domainIn rows))
     × (overlay words to (tablesOf (domainIn rows) (placesFrom i (drop i (domainIn rows))))

@@ -12,7 +12,7 @@ use Rattle.tables.specs.Tables.{sizes}
 use Rattle.tables.specs.Filling.{Grown, placesAt, tablesOf, overlay}
 use Rattle.tables.specs.Prepared.{orderOf}
 use Rattle.tables.proofs.Growing.{grown-kept, grown-again}
-use Rattle.tables.proofs.Orders.{order-none, order-levels}
+use Rattle.tables.proofs.Orders.{order-none}
 use Rattle.tables.proofs.Puts.{phys-next, phys-last, phys-sizes, sizes-none, length-tables, put-go, put-long, put-end}
 use borrow.Author.Needs.{needs}
 use Rattle.tables.proofs.all_tables.put_tables.Statement.{statement}
@@ -22,7 +22,7 @@ abbrev Inv-loop : tie.InvT-loop
 Inv-loop rows lists below order₀ i words₀ at n to₀ g₀ m₀ p₀ order words to g m p =
     (p ≤ n)
     × ((length order ≡ length order₀)
-    × (Grown order order m (orderOf (domainIn rows) (i .0) g)
+    × (Grown order order m (orderOf (domainIn rows) g)
     × ((length words ≡ length words₀)
     × ((to + sizes (domainIn rows) (phyPlaces (i .0) p (n - p)) ≡ at + sizes (domainIn rows) (placesAt (domainIn rows) (i .0)))
     × (overlay words to (tablesOf (domainIn rows) (phyPlaces (i .0) p (n - p)))
@@ -39,7 +39,7 @@ loop-holds c =
     let a = c .before .before .before .before .before .before .args in
     let d : Domain = domainIn (a .rows .now) in
     let e : c .phy-count .result - 0 ≡ length (expanderAt d (a .i .0) .phys) = omega arith in
-    let o = grown-kept 0 (a .order .now) (order-none d (a .i .0) (Vacant 0) refl) (omega arith) in
+    let o = grown-kept 0 (a .order .now) (order-none d (Vacant 0) refl) (omega arith) in
     let s = ap (λ (x : ℕ). a .at + sizes d (phyPlaces (a .i .0) 0 x)) e in
     (omega arith, (refl, (o, (refl, (s, ap (λ (x : ℕ). overlay (a .words .now) (a .at) (tablesOf d (phyPlaces (a .i .0) 0 x))) e)))))
 
@@ -70,7 +70,7 @@ put-table-requires c κs =
     let d : Domain = domainIn (a .rows .now) in
     let n : ℕ = c .before .before .before .before .before .before .before .before .before .phy-count .result in
     let o = c .before .before .before .before .order-for .ensures in
-    let q = o .whole ∙ ap (orderOf d (a .i .0)) (c .before .before .before .before .before .before .phy-at .ensures) ∙ order-levels d (a .i .0) (l .p) in
+    let q = o .whole ∙ ap (orderOf d) (c .before .before .before .before .before .before .phy-at .ensures) in
     (s .pre .0, (q, (s .pre .1 .1 .1 .0, omega (arith, phys-sizes d (a .i .0) n (l .p) (omega arith)))))
 
 add-p : tie.Need-add-p Inv-loop μ-loop

@@ -12,10 +12,10 @@ use Rattle.tables.proofs.below.collect_below.Statement.{statement}
 use Rattle.tables.proofs.below.collect_below.Tie as tie
 
 abbrev Inv-loop : tie.InvT-loop
-Inv-loop rows i part₀ n none held₀ slots₀ m₀ p₀ part held slots m p = (p ≤ n) × ((length slots ≡ 256) × Collected (domainIn rows) (i .0) p m part held)
+Inv-loop rows i part₀ n slots₀ m₀ p₀ part slots m p = (p ≤ n) × ((length slots ≡ 256) × Collected (domainIn rows) (i .0) p m part)
 
 abbrev μ-loop : tie.MeasureT-loop
-μ-loop rows i part₀ n none held₀ slots₀ m₀ p₀ part held slots m p = n - p
+μ-loop rows i part₀ n slots₀ m₀ p₀ part slots m p = n - p
 
 phy-count-requires : tie.Need-phy-count-requires Inv-loop μ-loop
 phy-count-requires c κs = search needs
@@ -24,7 +24,7 @@ loop-holds : tie.Need-loop-holds Inv-loop μ-loop
 loop-holds c =
     let s = c .before .before .before in
     let a = s .args in
-    (omega arith, (refl, collect-start (domainIn (a .rows .now)) (a .i .0) (a .part .now) _ (s .pre) refl))
+    (omega arith, (refl, collect-start (domainIn (a .rows .now)) (a .i .0) (a .part .now) (s .pre)))
 
 slice-aggregate-lower-phy : tie.Need-slice-aggregate-lower-phy Inv-loop μ-loop
 slice-aggregate-lower-phy c = sym (c .before .before .loop .inv .1 .0)
@@ -35,17 +35,8 @@ lower-phy-requires c κs = c .before .before .loop .inv .1 .0
 phy-at-requires : tie.Need-phy-at-requires Inv-loop μ-loop
 phy-at-requires c κs = search needs
 
-array-share-prefix-none : tie.Need-array-share-prefix-none Inv-loop μ-loop
-array-share-prefix-none c = omega arith
-
-slice-aggregate-add-phy : tie.Need-slice-aggregate-add-phy Inv-loop μ-loop
-slice-aggregate-add-phy c = refl
-
-slice-aggregate-add-phy-2 : tie.Need-slice-aggregate-add-phy-2 Inv-loop μ-loop
-slice-aggregate-add-phy-2 c = sym (c .before .before .before .before .before .before .before .before .before .loop .inv .1 .1 .words)
-
 add-phy-requires : tie.Need-add-phy-requires Inv-loop μ-loop
-add-phy-requires c κs = let s = c .before .before .before .before .before .before .before .before .before .loop .inv .1 .1 in (omega (arith, s .fits, s .room), s .holds)
+add-phy-requires c κs = let s = c .before .before .before .before .before .before .before .loop .inv .1 .1 in omega (arith, s .fits, s .room)
 
 add-p : tie.Need-add-p Inv-loop μ-loop
 add-p c = omega arith
@@ -60,11 +51,10 @@ loop-again c =
     let n = c .before .before .before .before .before .before .phy-count .ensures in
     let d : Domain = domainIn (a .rows .now) in
     let r = c .before .before .lower-phy in
-    let got : Collected d (a .i .0) (l .p + 1) (c .if1 .m) (c .if1 .part) (c .if1 .held) =
+    let got : Collected d (a .i .0) (l .p + 1) (c .if1 .m) (c .if1 .part) =
     ⊎-elim
-    (λ w. rw (w .9, w .10, w .11) (collect-go d (a .i .0) (l .p) (l .inv .1 .1) (w .1 .result) (w .1 .ensures) (w .5 .ensures .0) (w .5 .ensures .1)
-    (w .5 .kept .1 .1 .1 .1 .0) (omega arith)))
-    (λ w. rw (w .1, w .2, w .3) (let low : r .result < l .p = omega (arith, w .0) in
+    (λ w. rw (w .6, w .7) (collect-go d (a .i .0) (l .p) (l .inv .1 .1) (w .2 .result) (w .2 .ensures) (w .3 .ensures) (omega arith)))
+    (λ w. rw (w .1, w .2) (let low : r .result < l .p = omega (arith, w .0) in
     collect-skip d (a .i .0) (l .p) (l .inv .1 .1) (r .result) low (r .ensures low) (omega arith)))
     (c .if1 .came) in
     (omega arith, (r .kept .1 .0 ∙ l .inv .1 .0, got))
@@ -90,9 +80,6 @@ collect-below-spec =
     slice-aggregate-lower-phy
     lower-phy-requires
     phy-at-requires
-    array-share-prefix-none
-    slice-aggregate-add-phy
-    slice-aggregate-add-phy-2
     add-phy-requires
     add-p
     loop-less

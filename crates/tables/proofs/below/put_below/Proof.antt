@@ -9,7 +9,7 @@ use Rattle.wiring.specs.Domain.{Domain}
 use Rattle.wiring.specs.Rows.{domainIn}
 use Rattle.tables.specs.Prepared.{Cells, belowOnce}
 use Rattle.tables.proofs.Cells.{cells-put}
-use Rattle.tables.proofs.Orders.{below-few}
+use Rattle.tables.proofs.BelowLists.{below-few}
 use borrow.Author.Needs.{needs}
 use Rattle.tables.proofs.below.put_below.Statement.{statement}
 use Rattle.tables.proofs.below.put_below.Tie as tie

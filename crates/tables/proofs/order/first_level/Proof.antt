@@ -6,7 +6,7 @@ use borrow.Author.Tests.{not-true, not-false}
 use Rattle.wiring.specs.Domain.{Domain, addressOf, numberOf}
 use Rattle.wiring.specs.Rows.{domainIn}
 use Rattle.tables.proofs.Growing.{grown-kept, grown-more}
-use Rattle.tables.proofs.Queues.{below-none, below-one}
+use Rattle.tables.proofs.BelowLists.{below-none, below-one}
 use borrow.Author.Needs.{needs}
 use Rattle.tables.proofs.order.first_level.Statement.{statement}
 use Rattle.tables.proofs.order.first_level.Tie as tie

@@ -14,7 +14,7 @@ returns : tie.Need-returns
 returns c =
     let s = c .before .before .before .before .before in
     let a = s .args in
-    grown-same (s .pre .1 .1) (order-linked (domainIn (a .rows .now)) (a .x .0) (a .g) (a .f) (was-true _ (sym (c .before .are-one-link .ensures) ∙ c .if1 .taken)))
+    grown-same (s .pre .1 .1) (order-linked (domainIn (a .rows .now)) (a .g) (a .f) (was-true _ (sym (c .before .are-one-link .ensures) ∙ c .if1 .taken)))
 
 put-order-requires : tie.Need-put-order-requires
 put-order-requires c κs = let p = c .before .before .before .before .before .before .pre in (p .0, p .1 .0)

@@ -14,7 +14,7 @@ use Rattle.tables.proofs.overlong.first_overlong.Tie as tie
 abbrev Inv-loop : tie.InvT-loop
 Inv-loop rows lists below order₀ n i₀ order i =
     (i ≤ n)
-    × ((length order ≡ 4160)
+    × ((length order ≡ 4161)
     × (firstIn 14 (overOwn (domainIn rows)) (placesFrom i (drop i (domainIn rows))) (domainIn rows) ≡ firstOf 14 (overOwn (domainIn rows)) (domainIn rows)))
 
 abbrev μ-loop : tie.MeasureT-loop

@@ -58,7 +58,7 @@ count-words-requires c κs =
     let s = c .before .before .before .before .before .before .before .before .before .before .before .before .before .before .before in
     let r = c .before .before .before .before .put-order in
     let g = r .ensures in
-    let l : List ℕ = r .last .1 .1 .1 .1 .0 in
+    let l : List ℕ = r .last .1 .1 .1 .0 in
     let f : r .result ≤ length l = omega (arith, g .same, g .fits) in
     (s .pre .0, omega (arith, length-take-le (r .result) l f, g .fits, s .pre .1 .1 .0))
 

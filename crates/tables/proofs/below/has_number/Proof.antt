@@ -4,8 +4,8 @@ use native.Mathlib.Omega.{arith}
 use lib.ListN.{length, drop}
 use Rattle.wiring.specs.Lists.{isIn}
 use Rattle.tables.proofs.Growing.{isIn-stop, isIn-go, isIn-end}
-use Rattle.tables.proofs.levels.has_number.Statement.{statement}
-use Rattle.tables.proofs.levels.has_number.Tie as tie
+use Rattle.tables.proofs.below.has_number.Statement.{statement}
+use Rattle.tables.proofs.below.has_number.Tie as tie
 
 abbrev Inv-loop : tie.InvT-loop
 Inv-loop l j i₀ i = (i ≤ length l) × (isIn (j .0) (drop i l) ≡ isIn (j .0) l)

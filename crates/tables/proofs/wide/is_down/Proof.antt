@@ -4,8 +4,8 @@ use lib.Dec.{eqb}
 use borrow.Author.Tests.{le-leb, lt-leb}
 use Rattle.wiring.specs.Domain.{typeOf}
 use borrow.Author.Needs.{needs}
-use Rattle.tables.proofs.levels.is_down.Statement.{statement}
-use Rattle.tables.proofs.levels.is_down.Tie as tie
+use Rattle.tables.proofs.wide.is_down.Statement.{statement}
+use Rattle.tables.proofs.wide.is_down.Tie as tie
 
 phy-type-requires : tie.Need-phy-type-requires
 phy-type-requires c κs = search needs

@@ -5,15 +5,15 @@ use native.Mathlib.Omega.{arith}
 use lib.ListN.{length, take, drop, length-set}
 use Rattle.tables.proofs.Growing.{copy-go, copy-end}
 use borrow.Author.Needs.{needs}
-use Rattle.tables.proofs.order.append_level.Statement.{statement}
-use Rattle.tables.proofs.order.append_level.Tie as tie
+use Rattle.tables.proofs.order.append_numbers.Statement.{statement}
+use Rattle.tables.proofs.order.append_numbers.Tie as tie
 
 abbrev Inv-loop : tie.InvT-loop
-Inv-loop order₀ m level to₀ k₀ order to k =
-    (k ≤ length level) × ((to ≡ m + k) × ((length order ≡ length order₀) × (take to order ++ drop k level ≡ take m order₀ ++ level)))
+Inv-loop order₀ m more to₀ k₀ order to k =
+    (k ≤ length more) × ((to ≡ m + k) × ((length order ≡ length order₀) × (take to order ++ drop k more ≡ take m order₀ ++ more)))
 
 abbrev μ-loop : tie.MeasureT-loop
-μ-loop order₀ m level to₀ k₀ order to k = length level - k
+μ-loop order₀ m more to₀ k₀ order to k = length more - k
 
 loop-holds : tie.Need-loop-holds Inv-loop μ-loop
 loop-holds c = (omega arith, (omega arith, (refl, refl)))
@@ -36,8 +36,8 @@ loop-less c = omega arith
 loop-again : tie.Need-loop-again Inv-loop μ-loop
 loop-again c =
     let l = c .before .before .loop in
-    let level = c .before .before .before .args .level .now in
-    (omega arith, (omega arith, (length-set (l .order) (l .to) _ ∙ l .inv .1 .1 .0, copy-go (l .to) (l .k) (l .order) level (l .inv .1 .1 .1) (omega arith) (omega arith))))
+    let more = c .before .before .before .args .more .now in
+    (omega arith, (omega arith, (length-set (l .order) (l .to) _ ∙ l .inv .1 .1 .0, copy-go (l .to) (l .k) (l .order) more (l .inv .1 .1 .1) (omega arith) (omega arith))))
 
 same-length : tie.Need-same-length Inv-loop μ-loop
 same-length c = search needs
@@ -48,11 +48,11 @@ returns c =
     record {
       same = l .inv .1 .1 .0;
       fits = omega arith;
-      whole = copy-end (l .to) (l .k) (l .order) (c .before .before .args .level .now) (l .inv .1 .1 .1) (omega arith);
+      whole = copy-end (l .to) (l .k) (l .order) (c .before .before .args .more .now) (l .inv .1 .1 .1) (omega arith);
     }
 
-pub append-level-spec : {M : Type 1} → statement M
-append-level-spec =
+pub append-numbers-spec : {M : Type 1} → statement M
+append-numbers-spec =
     tie.close
     (tie.spec
     Inv-loop

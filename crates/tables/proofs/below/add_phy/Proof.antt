@@ -8,23 +8,22 @@ use Rattle.wiring.specs.Domain.{Domain, addressOf, numberOf}
 use Rattle.wiring.specs.Rows.{domainIn}
 use Rattle.tables.specs.Filling.{addAll}
 use Rattle.tables.proofs.Growing.{addAll-none, grown-kept, grown-same}
-use Rattle.tables.proofs.Queues.{below-none, below-one}
+use Rattle.tables.proofs.BelowLists.{below-none, below-one}
 use borrow.Author.Needs.{needs}
-use Rattle.tables.proofs.levels.add_phy.Statement.{statement}
-use Rattle.tables.proofs.levels.add_phy.Tie as tie
+use Rattle.tables.proofs.below.add_phy.Statement.{statement}
+use Rattle.tables.proofs.below.add_phy.Tie as tie
 
 is-down-requires : tie.Need-is-down-requires
 is-down-requires c κs = search needs
 
 returns : tie.Need-returns
 returns c =
-    let s = c .before .before .before .before .before .before in
-    let a = s .args in
+    let a = c .before .before .before .before .args in
     let d : Domain = domainIn (a .rows .now) in
-    let room : ℕ = length (a .next .now) in
-    let l : List ℕ = take (a .n) (a .next .now) in
+    let room : ℕ = length (a .part .now) in
+    let l : List ℕ = take (a .m) (a .part .now) in
     let e = below-none d (a .f) (sym (c .before .is-down .ensures) ∙ not-true _ (c .if1 .taken)) in
-    (grown-kept (a .n) (a .next .now) (ap (addAll room (a .last .now) l) e ∙ addAll-none room (a .last .now) l) (omega arith), s .pre .1)
+    grown-kept (a .m) (a .part .now) (ap (addAll room l) e ∙ addAll-none room l) (omega arith)
 
 phy-address-requires : tie.Need-phy-address-requires
 phy-address-requires c κs = search needs
@@ -38,22 +37,17 @@ add-number-requires c κs = search needs
 same-length : tie.Need-same-length
 same-length c = search needs
 
-same-length-2 : tie.Need-same-length-2
-same-length-2 c = search needs
-
 returns-2 : tie.Need-returns-2
 returns-2 c =
-    let u = c .before .before .before .before .before .before .before in
-    let t = u .before .before in
-    let a = t .before .before .before .before .before .before .args in
+    let t = c .before .before .before .before .before .before in
+    let a = t .before .before .before .before .args in
     let d : Domain = domainIn (a .rows .now) in
-    let room : ℕ = length (a .next .now) in
-    let l : List ℕ = take (a .n) (a .next .now) in
+    let room : ℕ = length (a .part .now) in
+    let l : List ℕ = take (a .m) (a .part .now) in
     let e = below-one d (a .f) (sym (t .before .is-down .ensures) ∙ not-false _ (t .if1 .left)) in
-    let f = u .number-of in
-    let j : f .result .0 ≡ numberOf d (addressOf (a .f)) = f .ensures ∙ ap (numberOf d) (u .before .phy-address .ensures) in
-    let g = c .before .before .before .before .add-number .ensures in
-    (grown-same (g .0) (ap (λ (v : ℕ). addAll room (a .last .now) l (v ∷ [])) j ∙ sym (ap (addAll room (a .last .now) l) e)), g .1)
+    let f = c .before .before .before .number-of in
+    let j : f .result .0 ≡ numberOf d (addressOf (a .f)) = f .ensures ∙ ap (numberOf d) (c .before .before .before .before .phy-address .ensures) in
+    grown-same (c .before .before .add-number .ensures) (ap (λ (v : ℕ). addAll room l (v ∷ [])) j ∙ sym (ap (addAll room l) e))
 
 pub add-phy-spec : {M : Type 1} → statement M
 add-phy-spec =
@@ -65,5 +59,4 @@ add-phy-spec =
     number-of-requires
     add-number-requires
     same-length
-    same-length-2
     returns-2)

@@ -1,0 +1,150 @@
+-- The expanders below an expander, each once: a list made with room for 65 numbers is whole, as its numbers differ, and each is at most 64.
+use Prim.Native.Nat.{ℕ, suc, _+_, _≤_, _<_}
+use mathlib.Core.Path.{_≡_, refl, sym, _∙_, ap, subst}
+use mathlib.Core.Bool.{Bool, true, false, cond, _||_}
+use mathlib.Core.List.{List, [], _∷_, _++_, map, append-nil, append-assoc, map-append}
+use mathlib.Core.Logic.{inl, inr, ⊎-elim}
+use native.Mathlib.Omega.{arith}
+use lib.ListN.{length, getD, take, length-append, List·getD-eq-default}
+use lib.Seq.{take-all}
+use lib.Dec.{T, eqb, leb, eqb→eq}
+use borrow.Author.Tests.{lt-leb}
+use Rattle.wiring.specs.declared.Phy.{Phy}
+use Rattle.wiring.specs.declared.Phy.the-variants.{Vacant}
+use Rattle.wiring.specs.Lists.{any, keep, isIn, In, Distinct, Below}
+use Rattle.wiring.specs.Domain.{Domain, Expander, noExpander, expanderAt, addressOf, numberOf}
+use Rattle.wiring.proofs.Members.{and-left, and-right, is-true, was-false, isIn-of, in-cast, in-map, map-in, all-cons, keeps, kept, keep-append, at-most}
+use Rattle.tables.specs.Levels.{once, down, belowPhys, below}
+use Rattle.tables.specs.Filling.{add, addAll}
+use Rattle.tables.specs.Prepared.{belowOnce, oneLink}
+use Rattle.tables.proofs.Once.{once-skip, once-take, in-once, once-distinct}
+use Rattle.tables.proofs.Growing.{take-next}
+
+-- in any domain, the number of an address is at most the count of expanders
+number-most : (d : Domain) (s : ℕ) → numberOf d s ≤ length d
+unfolding numberOf
+number-most [] s = omega arith
+number-most (e ∷ d) s = go (eqb (e .address) s) (number-most d s)
+  where
+    go : (b : Bool) → numberOf d s ≤ length d → cond b 0 (suc (numberOf d s)) ≤ suc (length d)
+    go true h = omega arith
+    go false h = omega arith
+
+-- the expanders below some phys
+module _ (d : Domain) where
+  pub below-none : (φ : Phy) → down d φ ≡ false → belowPhys d (φ ∷ []) ≡ []
+  unfolding belowPhys keep
+  below-none φ q = rw q
+
+  pub below-one : (φ : Phy) → down d φ ≡ true → belowPhys d (φ ∷ []) ≡ numberOf d (addressOf φ) ∷ []
+  unfolding belowPhys keep
+  below-one φ q = rw q
+
+  below-append : (l m : List Phy) → belowPhys d (l ++ m) ≡ belowPhys d l ++ belowPhys d m
+  unfolding belowPhys
+  below-append l m = ap (map (λ φ. numberOf d (addressOf φ))) (keep-append (down d) l m) ∙ map-append _ (keep (down d) l) (keep (down d) m)
+
+  -- one phy more, and all
+  pub below-more : (φs : List Phy) (p : ℕ) → p < length φs
+      → belowPhys d (take (p + 1) φs) ≡ belowPhys d (take p φs) ++ belowPhys d (getD φs p (Vacant 0) ∷ [])
+  below-more φs p h = ap (belowPhys d) (take-next (Vacant 0) φs p h) ∙ below-append (take p φs) (getD φs p (Vacant 0) ∷ [])
+
+  pub below-whole : (φs : List Phy) (p : ℕ) → length φs ≤ p → belowPhys d (take p φs) ≡ belowPhys d φs
+  below-whole φs p h = ap (belowPhys d) (take-all p φs h)
+
+  -- the expander below one of them is among these
+  pub below-among : (φs : List Phy) (φ : Phy) → In φ φs → (w : ℕ) → In w (belowPhys d (φ ∷ [])) → In w (belowPhys d φs)
+  unfolding belowPhys
+  below-among φs φ i w h =
+      let m = in-map (λ φ. numberOf d (addressOf φ)) (keep (down d) (φ ∷ [])) w h in
+      let k = kept (down d) (φ ∷ []) (m .0) (m .1) in
+      let e : m .0 ≡ φ = ⊎-elim (λ q. q) (λ o. absurd o) (k .0) in
+      in-cast (belowPhys d φs) (m .2) (map-in (λ φ. numberOf d (addressOf φ)) (keep (down d) φs) (m .0) (keeps (down d) φs (m .0) (in-cast φs e i) (k .1)))
+
+-- level 1 has one expander at most
+pub first-few : (d : Domain) (φ : Phy) → length (belowPhys d (φ ∷ [])) ≤ 1
+unfolding belowPhys keep
+first-few d φ = go (down d φ)
+  where
+    go : (b : Bool) → length (map (λ ψ. numberOf d (addressOf ψ)) (cond b (φ ∷ []) [])) ≤ 1
+    go true = omega arith
+    go false = omega arith
+
+phys-under : (d : Domain) (n : ℕ) → length d < n → (φs : List Phy) → Below n (belowPhys d φs)
+unfolding belowPhys
+phys-under d n h φs w i =
+    let m = in-map (λ φ. numberOf d (addressOf φ)) (keep (down d) φs) w i in
+    let e = m .2 in
+    omega (arith, number-most d (addressOf (m .0)))
+
+isIn-snoc : (w x : ℕ) (l : List ℕ) → isIn w (l ++ (x ∷ [])) ≡ (eqb w x || isIn w l)
+unfolding isIn any
+isIn-snoc w x [] = refl
+isIn-snoc w x (y ∷ l) = ap (λ b. eqb w y || b) (isIn-snoc w x l) ∙ swap (eqb w y) (eqb w x) (isIn w l)
+  where
+    swap : (a b c : Bool) → (a || (b || c)) ≡ (b || (a || c))
+    swap true true c = refl
+    swap true false c = refl
+    swap false b c = refl
+
+-- l is `seen` in another order: all different, below n
+record Kept (n : ℕ) (l seen : List ℕ) : Type 0 where
+  same : (w : ℕ) → isIn w l ≡ isIn w seen
+  long : length l ≡ length seen
+  distinct : Distinct seen
+  under : Below n seen
+
+module _ (n : ℕ) where
+  kept-more : (l seen : List ℕ) (x : ℕ) → Kept n l seen → isIn x l ≡ false → x < n → Kept n (l ++ (x ∷ [])) (x ∷ seen)
+  unfolding isIn any
+  kept-more l seen x k q h = record {
+    same = λ w. isIn-snoc w x l ∙ ap (λ b. eqb w x || b) (k .same w);
+    long = length-append l (x ∷ []) ∙ omega (arith, k .long);
+    distinct = (λ i. was-false (isIn x l) q (subst T (sym (k .same x)) (isIn-of x seen i)), k .distinct);
+    under = all-cons (λ w. w < n) x seen h (k .under);
+  }
+
+  -- nothing is left out for want of room
+  all-added : (js l seen : List ℕ) → Kept n l seen → Below n js → addAll n l js ≡ l ++ once seen js
+  unfolding addAll add once
+  all-added [] l seen k a = sym (append-nil l)
+  all-added (x ∷ js) l seen k a = go (isIn x l) refl (λ m s r. all-added js m s r (λ w i. a w (inr i)))
+    where
+      go : (b : Bool) → isIn x l ≡ b → ((m s : List ℕ) → Kept n m s → addAll n m js ≡ m ++ once s js)
+          → addAll n (cond (b || leb n (length l)) l (l ++ (x ∷ []))) js ≡ l ++ once seen (x ∷ js)
+      go true q r = r l seen k ∙ ap (λ (m : List ℕ). l ++ m) (sym (once-skip seen x js (sym (k .same x) ∙ q)))
+      go false q r =
+          let m = kept-more l seen x k q (a x (inl refl)) in
+          let s : length l < n = omega (arith, k .long, at-most n (x ∷ seen) (m .under) (m .distinct)) in
+          ap (λ (b : Bool). addAll n (cond b l (l ++ (x ∷ []))) js) (lt-leb n (length l) s)
+          ∙ r (l ++ (x ∷ [])) (x ∷ seen) m
+          ∙ append-assoc l (x ∷ []) (once (x ∷ seen) js)
+          ∙ ap (λ (m : List ℕ). l ++ m) (sym (once-take seen x js (sym (k .same x) ∙ q)))
+
+-- the expanders below, each once
+module _ (d : Domain) (few : length d ≤ 64) where
+  under : (i : ℕ) → Below 65 (below d i)
+  unfolding below
+  under i = phys-under d 65 (omega arith) (expanderAt d i .phys)
+
+  pub below-few : (i : ℕ) → length (belowOnce d i) ≤ 65
+  below-few i = at-most 65 (belowOnce d i) (λ w h. under i w (in-once [] (below d i) w h)) (once-distinct [] (below d i) .0)
+
+  pub below-made : (i : ℕ) → addAll 65 [] (below d i) ≡ belowOnce d i
+  below-made i =
+      let k : Kept 65 [] [] = record { same = λ w. refl; long = refl; distinct = tt; under = λ w i. absurd i } in
+      all-added 65 (below d i) [] [] k (under i)
+
+-- past the last expander
+pub below-past : (d : Domain) (i : ℕ) → length d ≤ i → belowOnce d i ≡ []
+unfolding below belowPhys keep once
+below-past d i h = ap (λ (e : Expander). once [] (belowPhys d (e .phys))) (List·getD-eq-default d noExpander h)
+
+-- phys of one link have the same expander below
+pub linked-number : (d : Domain) (φ ψ : Phy) → T (oneLink φ ψ) → belowPhys d (φ ∷ []) ≡ belowPhys d (ψ ∷ [])
+unfolding oneLink
+linked-number d φ ψ one =
+    let more = and-right (down d φ) _ one in
+    let same = eqb→eq (addressOf φ) (addressOf ψ) (and-right (down d ψ) _ more) in
+    below-one d φ (is-true (down d φ) (and-left (down d φ) _ one)) ∙ ap (λ (s : ℕ). numberOf d s ∷ []) same
+    ∙ sym (below-one d ψ (is-true (down d ψ) (and-left (down d ψ) _ more)))
