@@ -1,14 +1,15 @@
 -- All tables: places one after the other, how many words and tables they have, and tables put in words one after the other.
 -- A turn takes `piece` from the places left, `rest ≡ piece ++ rest'`.
-use Prim.Native.Nat.{ℕ, suc, _+_, _-_, _≤_, _<_}
+use Prim.Native.Nat.{ℕ, zero, suc, _+_, _-_, _*_, _≤_, _<_}
 use mathlib.Core.Path.{_≡_, refl, sym, _∙_, ap}
 use mathlib.Core.Bool.{Bool, true, false, cond}
 use mathlib.Core.List.{List, [], _∷_, _++_, flatMap, append-nil, append-assoc}
 use native.Mathlib.Omega.{arith}
-use native.Mathlib.Nat.{add-zero}
+use native.Mathlib.Nat.{add-zero, zero-mul, suc-mul, mul-le-mul, le-of-lt}
 use native.Mathlib.Numerals.{add-one}
 use lib.ListN.{length, take, drop, replicate, length-append, length-drop, take-append-drop, drop-of-length-le}
 use lib.Seq.{take-at, drop-at, drop-cons, drop-drop, length-take-le}
+use mir.Val.{boolByte}
 use Rattle.wiring.specs.Lists.{keep}
 use Rattle.wiring.specs.Domain.{Domain, noExpander, expanderAt, phyAt, routes}
 use Rattle.wiring.specs.Causes.{Place, place, phyPlaces, placesFrom, places}
@@ -17,6 +18,13 @@ use Rattle.tables.specs.Tables.{levelList, table, tablePlaces, tables, s
 use Rattle.tables.specs.Filling.{TableFilled, placesAt, withTables, tablesOf, overlay, Put}
 use Rattle.tables.proofs.Growing.{flat-append}
 use Rattle.tables.proofs.Fills.{length-filled, length-table}
+
+pub byte-le : (b : Bool) → boolByte b ≤ 1
+byte-le true = omega arith
+byte-le false = omega arith
+
+pub words-le : {m : ℕ} (r : ℕ) → m ≤ 128 → r < 65536 → m * r ≤ 8388608
+words-le r h k = mul-le-mul h (le-of-lt k)
 
 -- the places left
 module _ (i n p : ℕ) where
@@ -80,17 +88,36 @@ module _ (d : Domain) where
   unfolding keep
   count-none rest q = ap (λ (v : List Place). length (withTables d v)) q
 
-  pub count-by : (i p : ℕ) {b : Bool} → routes 2 (phyAt d i p) ≡ b → length (withTables d (place i p ∷ [])) ≡ cond b 1 0
+  pub count-by : (i p : ℕ) {b : Bool} → b ≡ routes 2 (phyAt d i p) → boolByte b ≡ length (withTables d (place i p ∷ []))
   unfolding keep
-  count-by i p {b} q = rw q (go b)
+  count-by i p q = rw q (go (routes 2 (phyAt d i p)))
     where
-      go : (c : Bool) → length (cond c (place i p ∷ []) []) ≡ cond c 1 0
+      go : (c : Bool) → boolByte c ≡ length (cond c (place i p ∷ []) [])
       go true = refl
       go false = refl
 
   pub count-all : length (withTables d (places d)) ≡ length (tablePlaces d)
   unfolding tablePlaces
   count-all = refl
+
+  -- the tables of one expander have R words each
+  sizes-count : (i p k : ℕ) → sizes d (phyPlaces i p k) ≡ length (withTables d (phyPlaces i p k)) * expanderAt d i .indexes
+  unfolding sizes size phyPlaces keep
+  sizes-count i p zero = sym (zero-mul (expanderAt d i .indexes))
+  sizes-count i p (suc k) = go (routes 2 (phyAt d i p)) (sizes-count i (p + 1) k)
+    where
+      rest : List Place
+      rest = phyPlaces i (p + 1) k
+
+      go : (b : Bool) → sizes d rest ≡ length (withTables d rest) * expanderAt d i .indexes
+          → cond b (expanderAt d i .indexes) 0 + sizes d rest
+          ≡ length (cond b (place i p ∷ withTables d rest) (withTables d rest)) * expanderAt d i .indexes
+      go true e = omega (arith, suc-mul (length (withTables d rest)) (expanderAt d i .indexes))
+      go false e = omega arith
+
+  pub from-words : (i : ℕ) {m r : ℕ} → m ≡ length (withTables d (placesAt d i)) → r ≡ expanderAt d i .indexes → i < length d
+      → sizes d (placesFrom i (drop i d)) ≡ m * r + sizes d (placesFrom (i + 1) (drop (i + 1) d))
+  from-words i q z h = rw (q, z) (omega (arith, from-sizes i h, sizes-count i 0 (length (expanderAt d i .phys))))
 
   tables-append : (qs rs : List Place) → tablesOf d (qs ++ rs) ≡ tablesOf d qs ++ tablesOf d rs
   unfolding tablesOf

@@ -24,54 +24,6 @@ pub(crate) fn is_table(rows: &[u64], i: ExpanderNumber, p: PhyId) -> bool
     wiring::phy_attribute(wiring::phy_at(rows, i, p)) == 2
 }
 
-// How many words the table of phy p of expander i has: R, or 0 where it is no table phy.
-fn size_at(rows: &[u64], i: ExpanderNumber, p: PhyId) -> usize
-    ensures { λ r. ⌜ (r ≡ size (domainIn (now (rows .entry))) (place (i .0) (p .0))) × (r < 65536) ⌝ }
-{
-    if !is_table(rows, i, p) {
-        return 0;
-    }
-    wiring::index_count(rows, i) as usize
-}
-
-// How many words the tables of expander i have.
-fn sizes_at(rows: &[u64], i: ExpanderNumber) -> usize
-    ensures { λ r. ⌜ (r ≡ sizes (domainIn (now (rows .entry))) (placesAt (domainIn (now (rows .entry))) (i .0))) × (r ≤ 8388608) ⌝ }
-{
-    let n = wiring::phy_count(rows, i);
-    let mut sum: usize = 0;
-    let mut p: u8 = 0;
-    while p < n {
-        sum += size_at(rows, i, PhyId(p));
-        p += 1;
-    }
-    sum
-}
-
-// How many words all tables need: the sum of R over non-vacant table phys.
-pub fn needed_words(rows: &[u64]) -> usize
-    ensures { λ r. ⌜ (r ≡ needed (domainIn (now (rows .entry)))) × (r < 2 ^ 32) ⌝ }
-{
-    let n = wiring::expander_count(rows);
-    let mut sum: usize = 0;
-    let mut i: u8 = 0;
-    while i < n {
-        sum += sizes_at(rows, ExpanderNumber(i));
-        i += 1;
-    }
-    sum
-}
-
-// 1 where phy p of expander i is a table phy, 0 where it is not.
-fn one_at(rows: &[u64], i: ExpanderNumber, p: PhyId) -> usize
-    ensures { λ r. ⌜ (r ≡ length (withTables (domainIn (now (rows .entry))) (place (i .0) (p .0) ∷ []))) × (r ≤ 1) ⌝ }
-{
-    if !is_table(rows, i, p) {
-        return 0;
-    }
-    1
-}
-
 // How many tables expander i has.
 fn count_at(rows: &[u64], i: ExpanderNumber) -> usize
     ensures { λ r. ⌜ (r ≡ length (withTables (domainIn (now (rows .entry))) (placesAt (domainIn (now (rows .entry))) (i .0)))) × (r ≤ 128) ⌝ }
@@ -80,7 +32,7 @@ fn count_at(rows: &[u64], i: ExpanderNumber) -> usize
     let mut sum: usize = 0;
     let mut p: u8 = 0;
     while p < n {
-        sum += one_at(rows, i, PhyId(p));
+        sum += is_table(rows, i, PhyId(p)) as usize;
         p += 1;
     }
     sum
@@ -95,6 +47,21 @@ pub fn table_count(rows: &[u64]) -> usize
     let mut i: u8 = 0;
     while i < n {
         sum += count_at(rows, ExpanderNumber(i));
+        i += 1;
+    }
+    sum
+}
+
+// How many words all tables need: the sum of R over non-vacant table phys.
+pub fn needed_words(rows: &[u64]) -> usize
+    ensures { λ r. ⌜ (r ≡ needed (domainIn (now (rows .entry)))) × (r < 2 ^ 32) ⌝ }
+{
+    let n = wiring::expander_count(rows);
+    let mut sum: usize = 0;
+    let mut i: u8 = 0;
+    while i < n {
+        let x = ExpanderNumber(i);
+        sum += count_at(rows, x) * wiring::index_count(rows, x) as usize;
         i += 1;
     }
     sum

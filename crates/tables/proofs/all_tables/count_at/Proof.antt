@@ -7,7 +7,7 @@ use Rattle.wiring.specs.Domain.{Domain}
 use Rattle.wiring.specs.Causes.{phyPlaces}
 use Rattle.wiring.specs.Rows.{domainIn}
 use Rattle.tables.specs.Filling.{withTables}
-use Rattle.tables.proofs.Puts.{phys-last, phys-count, count-none}
+use Rattle.tables.proofs.Puts.{byte-le, phys-last, phys-count, count-none, count-by}
 use borrow.Author.Needs.{needs}
 use Rattle.tables.proofs.all_tables.count_at.Statement.{statement}
 use Rattle.tables.proofs.all_tables.count_at.Tie as tie
@@ -27,11 +27,14 @@ phy-count-requires c κs = search needs
 loop-holds : tie.Need-loop-holds Inv-loop μ-loop
 loop-holds c = (omega arith, (omega arith, rw (sub-zero (c .phy-count .result)) (zero-add _)))
 
-one-at-requires : tie.Need-one-at-requires Inv-loop μ-loop
-one-at-requires c κs = search needs
+is-table-requires : tie.Need-is-table-requires Inv-loop μ-loop
+is-table-requires c κs = search needs
+
+cast-sum : tie.Need-cast-sum Inv-loop μ-loop
+cast-sum c = tt
 
 add-sum : tie.Need-add-sum Inv-loop μ-loop
-add-sum c = omega arith
+add-sum c = omega (arith, byte-le (c .is-table .result))
 
 add-p : tie.Need-add-p Inv-loop μ-loop
 add-p c = omega arith
@@ -45,7 +48,12 @@ loop-again c =
     let l = c .before .before .loop in
     let d : Domain = domainIn (a .rows .now) in
     let n : ℕ = c .before .before .before .phy-count .result in
-    omega (arith, phys-count d (a .i .0) n (l .p) (omega arith))
+    omega (
+      arith,
+      phys-count d (a .i .0) n (l .p) (omega arith),
+      count-by d (a .i .0) (l .p) (c .is-table .ensures),
+      byte-le (c .is-table .result),
+    )
 
 returns : tie.Need-returns Inv-loop μ-loop
 returns c =
@@ -64,7 +72,8 @@ count-at-spec =
     μ-loop
     phy-count-requires
     loop-holds
-    one-at-requires
+    is-table-requires
+    cast-sum
     add-sum
     add-p
     loop-less
