@@ -46,12 +46,13 @@ module _ (file ws : List ℕ) where
   pub rows-refused : (r : Refusal) → then (domainRead limits file) countOf ≡ refused r → RowsRead file (Refused r) ws ws
   rows-refused r q = promise file (Refused r) ws ws (refused r) (rows-by file (length ws) _ (not-counted (domainRead limits file) r q)) refl refl tt
 
-  pub rows-short : (n : ℕ) → then (domainRead limits file) countOf ≡ good n → length ws < 258 * n → RowsRead file (Refused (refusal 16 0 0)) ws ws
-  rows-short n q h =
+  pub rows-short : (answer : DomainRead) (n : ℕ) → readAnswer answer ≡ refused (refusal 16 0 0) → then (domainRead limits file) countOf ≡ good n
+      → length ws < 258 * n → RowsRead file answer ws ws
+  rows-short answer n a q h =
       let c = counted (domainRead limits file) n q in
       let k = c .count in
       let e : rowsFor (length ws) (c .domain) ≡ refused (refusal 16 0 0) = rw (lt-leb (258 * length (c .domain)) (length ws) (omega arith)) in
-      promise file (Refused (refusal 16 0 0)) ws ws (refused (refusal 16 0 0)) (rows-by file (length ws) _ (c .is) ∙ e) refl refl tt
+      promise file answer ws ws (refused (refusal 16 0 0)) (rows-by file (length ws) _ (c .is) ∙ e) a refl tt
 
   all-pasted : (n : ℕ) (d : Domain) → n ≡ length d → domainGot limits file (length d) 0 2 ≡ d
       → pasted ws 0 (domainGot limits file n 0 2) ≡ rowsOf d ++ drop (258 * length d) ws

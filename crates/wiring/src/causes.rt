@@ -4,10 +4,10 @@ use crate::Check;
 use crate::Phy;
 use crate::claims;
 use crate::clashes;
+use crate::refusals;
 use crate::view;
 use frames::ExpanderNumber;
 use frames::PhyId;
-use frames::Refusal;
 ghost use mathlib.Core.Path.{_≡_};
 ghost use mathlib.Core.Logic.{_≢_};
 ghost use Rattle.wiring.specs.Rows.{domainIn};
@@ -101,11 +101,7 @@ fn first_phy(rows: &[u64], k: u8, i: ExpanderNumber) -> Check
     let mut p: u8 = 0;
     while p < n {
         if cause_holds(rows, k, i, PhyId(p)) {
-            return Check::Refused(Refusal {
-                number: k,
-                expander: i,
-                phy: PhyId(p),
-            });
+            return refusals::check_refused(k, i, PhyId(p));
         }
         p += 1;
     }

@@ -2,11 +2,11 @@
 // expanders: expanders and phys are searched only where the key of an end device's address is in it.
 use crate::Check;
 use crate::Phy;
+use crate::refusals;
 use crate::seen;
 use crate::view;
 use frames::ExpanderNumber;
 use frames::PhyId;
-use frames::Refusal;
 ghost use mathlib.Core.Path.{_≡_};
 ghost use Prim.Native.Nat.{_+_};
 ghost use lib.ListN.{take};
@@ -141,11 +141,7 @@ fn first_claimed_at(rows: &[u64], words: &[u64], i: ExpanderNumber) -> Check
         let f = view::phy_at(rows, i, PhyId(p));
         if may_be_claimed(words, f) {
             if is_claimed(rows, i, PhyId(p)) {
-                return Check::Refused(Refusal {
-                    number: 8,
-                    expander: i,
-                    phy: PhyId(p),
-                });
+                return refusals::check_refused(8, i, PhyId(p));
             }
         }
         p += 1;

@@ -3,11 +3,11 @@
 // where a lower subtractive phy has another address.
 use crate::Check;
 use crate::Phy;
+use crate::refusals;
 use crate::seen;
 use crate::view;
 use frames::ExpanderNumber;
 use frames::PhyId;
-use frames::Refusal;
 ghost use mathlib.Core.Path.{_≡_};
 ghost use mathlib.Core.Bool.{cond, _||_};
 ghost use Rattle.wiring.specs.Domain.{addressOf, attributeOf, attached};
@@ -156,11 +156,7 @@ fn first_clashing_at(rows: &[u64], i: ExpanderNumber) -> Check
         let f = view::phy_at(rows, i, PhyId(p));
         if may_clash(&words[..], way, f) {
             if is_clashing(rows, i, PhyId(p)) {
-                return Check::Refused(Refusal {
-                    number: 9,
-                    expander: i,
-                    phy: PhyId(p),
-                });
+                return refusals::check_refused(9, i, PhyId(p));
             }
         }
         add_phy(&mut words[..], f);

@@ -4,10 +4,10 @@ use crate::ExpanderRead;
 use crate::Limits;
 use crate::PhyRead;
 use crate::PhysCheck;
+use crate::refusals;
 use crate::units;
 use frames::ExpanderNumber;
 use frames::PhyId;
-use frames::Refusal;
 ghost use mathlib.Core.Path.{_≡_};
 ghost use mathlib.Core.List.{[]};
 ghost use Rattle.frames.specs.Refusals.{then};
@@ -84,11 +84,7 @@ fn check_expanders(most: Limits, file: &[u8], n: u8) -> DomainRead
     if at == file.len() {
         return DomainRead::Expanders(n);
     }
-    DomainRead::Refused(Refusal {
-        number: 1,
-        expander: ExpanderNumber(n),
-        phy: PhyId(0),
-    })
+    refusals::domain_refused(1, ExpanderNumber(n))
 }
 
 // Causes 1 to 6 of a file, or how many expanders it has.
@@ -96,26 +92,14 @@ pub(crate) fn check_file(most: Limits, file: &[u8]) -> DomainRead
     ensures { λ r. ⌜ readAnswer r ≡ then (domainRead most (now (file .entry))) countOf ⌝ }
 {
     if file.len() < 2 {
-        return DomainRead::Refused(Refusal {
-            number: 1,
-            expander: ExpanderNumber(0),
-            phy: PhyId(0),
-        });
+        return refusals::domain_refused(1, ExpanderNumber(0));
     }
     if file[0] != 0x10 {
-        return DomainRead::Refused(Refusal {
-            number: 2,
-            expander: ExpanderNumber(0),
-            phy: PhyId(0),
-        });
+        return refusals::domain_refused(2, ExpanderNumber(0));
     }
     let count = file[1];
     if !units::is_within(count, most.expanders) {
-        return DomainRead::Refused(Refusal {
-            number: 3,
-            expander: ExpanderNumber(0),
-            phy: PhyId(0),
-        });
+        return refusals::domain_refused(3, ExpanderNumber(0));
     }
     check_expanders(most, file, count)
 }

@@ -5,6 +5,7 @@ mod clashes;
 mod file;
 mod links;
 mod neighbours;
+mod refusals;
 mod rounds;
 mod rows;
 mod seen;

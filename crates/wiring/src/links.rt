@@ -2,11 +2,11 @@
 use crate::Check;
 use crate::causes;
 use crate::neighbours;
+use crate::refusals;
 use crate::rounds;
 use crate::view;
 use frames::ExpanderNumber;
 use frames::PhyId;
-use frames::Refusal;
 ghost use mathlib.Core.Path.{_≡_};
 ghost use lib.ListN.{length};
 ghost use Rattle.wiring.specs.Lists.{upTo};
@@ -40,11 +40,7 @@ fn check_joined(rows: &[u64], words: &[u64]) -> Check
     let mut i: u8 = 0;
     while i < n {
         if !rounds::has(seen, ExpanderNumber(i)) {
-            return Check::Refused(Refusal {
-                number: 12,
-                expander: ExpanderNumber(i),
-                phy: PhyId(0),
-            });
+            return refusals::check_refused(12, ExpanderNumber(i), PhyId(0));
         }
         i += 1;
     }
@@ -58,11 +54,7 @@ fn check_links(rows: &[u64]) -> Check
     let mut words = [0u64; 64];
     neighbours::put_neighbours(rows, &mut words[..]);
     if !is_loopfree(rows, &words[..]) {
-        return Check::Refused(Refusal {
-            number: 11,
-            expander: ExpanderNumber(0),
-            phy: PhyId(0),
-        });
+        return refusals::check_refused(11, ExpanderNumber(0), PhyId(0));
     }
     let joined = check_joined(rows, &words[..]);
     match joined {

@@ -6,11 +6,11 @@ use crate::Limits;
 use crate::Phy;
 use crate::PhyRead;
 use crate::file;
+use crate::refusals;
 use crate::units;
 use crate::view;
 use frames::ExpanderNumber;
 use frames::PhyId;
-use frames::Refusal;
 ghost use mathlib.Core.Path.{_≡_};
 ghost use Prim.Native.Nat.{_*_, _≤_};
 ghost use lib.ListN.{length, replicate};
@@ -139,11 +139,7 @@ pub fn read_domain(file: &[u8], rows: &mut [u64]) -> DomainRead
         DomainRead::Refused(r) => DomainRead::Refused(r),
         DomainRead::Expanders(n) => {
             if rows.len() < 258 * (n as usize) {
-                return DomainRead::Refused(Refusal {
-                    number: 16,
-                    expander: ExpanderNumber(0),
-                    phy: PhyId(0),
-                });
+                return refusals::domain_refused(16, ExpanderNumber(0));
             }
             fill_rows(rows, most, file, n);
             DomainRead::Expanders(n)

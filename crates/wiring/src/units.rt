@@ -5,21 +5,33 @@ use crate::Limits;
 use crate::Phy;
 use crate::PhyFields;
 use crate::PhyRead;
+use crate::refusals;
 use frames::Discover;
 use frames::DiscoverRead;
 use frames::ExpanderNumber;
 use frames::General;
 use frames::GeneralRead;
 use frames::PhyId;
-use frames::Refusal;
 ghost use mathlib.Core.Path.{_≡_};
 ghost use mathlib.Core.Bool.{not, _||_, _&&_};
+ghost use Prim.Native.Nat.{_+_};
+ghost use lib.ListN.{length};
 ghost use lib.Dec.{eqb, leb};
 ghost use Rattle.frames.specs.Refusals.{then};
 ghost use Rattle.frames.specs.Discovery.{fields};
 ghost use Rattle.wiring.specs.Lists.{isIn};
 ghost use Rattle.wiring.specs.File.{phyOf, phyUnit, expanderUnit};
 ghost use Rattle.wiring.specs.Units.{phyAnswer, expanderAnswer, endsAt, unitOf};
+
+// Whether a file has n bytes from offset `at` on.
+fn has_bytes(file: &[u8], at: usize, n: usize) -> bool
+    ensures { λ r. ⌜ r ≡ leb (at + n) (length (now (file .entry))) ⌝ }
+{
+    if file.len() < at {
+        return false;
+    }
+    file.len() - at >= n
+}
 
 // Whether cause 5 does not hold: the phy identifier is p, and the own address is this expander's.
 fn is_placed(f: Discover, own: u64, p: PhyId) -> bool
@@ -52,18 +64,10 @@ fn phy_of(f: Discover, own: u64, i: ExpanderNumber, p: PhyId, next: usize) -> Ph
     ensures { λ r. ⌜ phyAnswer r ≡ then (phyOf own (i .0) (p .0) (fields f)) (endsAt next) ⌝ }
 {
     if !is_placed(f, own, p) {
-        return PhyRead::Refused(Refusal {
-            number: 5,
-            expander: i,
-            phy: p,
-        });
+        return refusals::phy_refused(5, i, p);
     }
     if !is_ranged(f) {
-        return PhyRead::Refused(Refusal {
-            number: 6,
-            expander: i,
-            phy: p,
-        });
+        return refusals::phy_refused(6, i, p);
     }
     let far = f.far;
     let phy = PhyFields {
@@ -79,28 +83,13 @@ fn phy_of(f: Discover, own: u64, i: ExpanderNumber, p: PhyId, next: usize) -> Ph
 pub(crate) fn phy_unit(file: &[u8], own: u64, i: ExpanderNumber, p: PhyId, at: usize) -> PhyRead
     ensures { λ r. ⌜ phyAnswer r ≡ phyUnit (now (file .entry)) own (i .0) (p .0) at ⌝ }
 {
-    if file.len() < at {
-        return PhyRead::Refused(Refusal {
-            number: 1,
-            expander: i,
-            phy: p,
-        });
-    }
-    if file.len() - at < 52 {
-        return PhyRead::Refused(Refusal {
-            number: 1,
-            expander: i,
-            phy: p,
-        });
+    if !has_bytes(file, at, 52) {
+        return refusals::phy_refused(1, i, p);
     }
     let next = at + 52;
     let frame = frames::read_discover(&file[at..next]);
     match frame {
-        DiscoverRead::Refused(r) => PhyRead::Refused(Refusal {
-            number: r.number,
-            expander: i,
-            phy: p,
-        }),
+        DiscoverRead::Refused(r) => refusals::phy_refused(r.number, i, p),
         DiscoverRead::Vacant(result) => PhyRead::Read(Phy::Vacant(result), next),
         DiscoverRead::Read(f) => phy_of(f, own, i, p, next),
     }
@@ -152,18 +141,10 @@ fn unit_of(
     ensures { λ r. ⌜ expanderAnswer r ≡ unitOf most g own free (i .0) next ⌝ }
 {
     if !is_within(g.phys, most.phys) {
-        return ExpanderRead::Refused(Refusal {
-            number: 3,
-            expander: i,
-            phy: PhyId(0),
-        });
+        return refusals::expander_refused(3, i);
     }
     if !free {
-        return ExpanderRead::Refused(Refusal {
-            number: 4,
-            expander: i,
-            phy: PhyId(0),
-        });
+        return refusals::expander_refused(4, i);
     }
     let unit = ExpanderUnit {
         address: own,
@@ -185,19 +166,8 @@ pub(crate) fn expander_unit(
 ) -> ExpanderRead
     ensures { λ r. ⌜ expanderAnswer r ≡ expanderUnit most (now (file .entry)) (now (seen .entry)) (i .0) at ⌝ }
 {
-    if file.len() < at {
-        return ExpanderRead::Refused(Refusal {
-            number: 1,
-            expander: i,
-            phy: PhyId(0),
-        });
-    }
-    if file.len() - at < 36 {
-        return ExpanderRead::Refused(Refusal {
-            number: 1,
-            expander: i,
-            phy: PhyId(0),
-        });
+    if !has_bytes(file, at, 36) {
+        return refusals::expander_refused(1, i);
     }
     let own = frames::address_at(file, at);
     let free = is_free(seen, own);
@@ -205,11 +175,7 @@ pub(crate) fn expander_unit(
     let next = at + 36;
     let frame = frames::read_general(&file[from..next]);
     match frame {
-        GeneralRead::Refused(r) => ExpanderRead::Refused(Refusal {
-            number: r.number,
-            expander: i,
-            phy: PhyId(0),
-        }),
+        GeneralRead::Refused(r) => refusals::expander_refused(r.number, i),
         GeneralRead::Read(g) => unit_of(most, g, own, free, i, next),
     }
 }

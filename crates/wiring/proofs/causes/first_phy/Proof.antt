@@ -5,7 +5,7 @@ use native.Mathlib.Omega.{arith}
 use borrow.Author.Needs.{needs}
 use Rattle.wiring.proofs.Searches.{phy-stop, phy-go, phy-end}
 use Rattle.wiring.specs.Causes.{phyPlaces, firstIn}
-use Rattle.wiring.specs.Checks.{causeOf}
+use Rattle.wiring.specs.Checks.{checkAnswer, causeOf}
 use Rattle.wiring.specs.Rows.{domainIn}
 use Rattle.wiring.proofs.causes.first_phy.Statement.{statement}
 use Rattle.wiring.proofs.causes.first_phy.Tie as tie
@@ -28,15 +28,20 @@ loop-holds c = (omega arith, simp sub-zero)
 cause-holds-requires : tie.Need-cause-holds-requires Inv-loop μ-loop
 cause-holds-requires c κs = search needs
 
+check-refused-requires : tie.Need-check-refused-requires Inv-loop μ-loop
+check-refused-requires c κs = search needs
+
 returns : tie.Need-returns Inv-loop μ-loop
 returns c =
-    let a = c .before .before .before .before .before .before .args in
-    let phy-count = c .before .before .before .before .phy-count in
-    let loop = c .before .before .before .loop in
-    let cause-holds = c .before .cause-holds in
-    let if1 = c .if1 in
+    let t = c .before in
+    let a = t .before .before .before .before .before .before .args in
+    let phy-count = t .before .before .before .before .phy-count in
+    let loop = t .before .before .before .loop in
+    let cause-holds = t .before .cause-holds in
+    let if1 = t .if1 in
     let d = domainIn (a .rows .now) in
-    phy-stop (a .k) (causeOf (a .k) d) d (a .i .0) (phy-count .result) (loop .p) (loop .inv .1) (sym (cause-holds .ensures) ∙ if1 .taken) (omega arith)
+    ap (checkAnswer d) (c .check-refused .ensures)
+    ∙ phy-stop (a .k) (causeOf (a .k) d) d (a .i .0) (phy-count .result) (loop .p) (loop .inv .1) (sym (cause-holds .ensures) ∙ if1 .taken) (omega arith)
     ∙ ap (λ (n : ℕ). firstIn (a .k) (causeOf (a .k) d) (phyPlaces (a .i .0) 0 n) d) (phy-count .ensures .0)
 
 add-p : tie.Need-add-p Inv-loop μ-loop
@@ -75,6 +80,7 @@ first-phy-spec =
     phy-count-requires
     loop-holds
     cause-holds-requires
+    check-refused-requires
     returns
     add-p
     loop-less

@@ -7,7 +7,7 @@ use borrow.Author.Needs.{needs}
 use Rattle.wiring.proofs.EndDevices.{not-claimed}
 use Rattle.wiring.proofs.Searches.{phy-stop, phy-go, phy-end}
 use Rattle.wiring.specs.Causes.{phyPlaces, firstIn}
-use Rattle.wiring.specs.Checks.{causeOf}
+use Rattle.wiring.specs.Checks.{checkAnswer, causeOf}
 use Rattle.wiring.specs.Rows.{domainIn}
 use Rattle.wiring.proofs.claims.first_claimed_at.Statement.{statement}
 use Rattle.wiring.proofs.claims.first_claimed_at.Tie as tie
@@ -36,14 +36,19 @@ may-be-claimed-requires c κs = search needs
 is-claimed-requires : tie.Need-is-claimed-requires Inv-loop μ-loop
 is-claimed-requires c κs = search needs
 
+check-refused-requires : tie.Need-check-refused-requires Inv-loop μ-loop
+check-refused-requires c κs = search needs
+
 returns : tie.Need-returns Inv-loop μ-loop
 unfolding causeOf
 returns c =
-    let a = c .before .before .before .before .before .before .before .before .before .before .args in
-    let phy-count = c .before .before .before .before .before .before .before .phy-count in
-    let loop = c .before .before .before .before .before .before .loop in
+    let t = c .before in
+    let a = t .before .before .before .before .before .before .before .before .before .before .args in
+    let phy-count = t .before .before .before .before .before .before .before .phy-count in
+    let loop = t .before .before .before .before .before .before .loop in
     let d = domainIn (a .rows .now) in
-    phy-stop 8 (causeOf 8 d) d (a .i .0) (phy-count .result) (loop .p) (loop .inv .1) (sym (c .before .is-claimed .ensures) ∙ c .if2 .taken) (omega arith)
+    ap (checkAnswer d) (c .check-refused .ensures)
+    ∙ phy-stop 8 (causeOf 8 d) d (a .i .0) (phy-count .result) (loop .p) (loop .inv .1) (sym (t .before .is-claimed .ensures) ∙ t .if2 .taken) (omega arith)
     ∙ ap (λ (n : ℕ). firstIn 8 (causeOf 8 d) (phyPlaces (a .i .0) 0 n) d) (phy-count .ensures .0)
 
 add-p : tie.Need-add-p Inv-loop μ-loop
@@ -88,6 +93,7 @@ first-claimed-at-spec =
     phy-at-requires
     may-be-claimed-requires
     is-claimed-requires
+    check-refused-requires
     returns
     add-p
     loop-less

@@ -10,7 +10,7 @@ use Rattle.wiring.proofs.InRows.{attribute-small}
 use Rattle.wiring.proofs.LowerPhys.{not-clashing, below-next}
 use Rattle.wiring.proofs.Searches.{phy-stop, phy-go, phy-end}
 use Rattle.wiring.specs.Causes.{clashing, phyPlaces, firstIn}
-use Rattle.wiring.specs.Checks.{causeOf}
+use Rattle.wiring.specs.Checks.{checkAnswer, causeOf}
 use Rattle.wiring.specs.Clashes.{PhysBelow}
 use Rattle.wiring.specs.Rows.{domainIn}
 use Rattle.wiring.proofs.clashes.first_clashing_at.Statement.{statement}
@@ -43,14 +43,19 @@ may-clash-requires c κs = search needs
 is-clashing-requires : tie.Need-is-clashing-requires Inv-loop μ-loop
 is-clashing-requires c κs = search needs
 
+check-refused-requires : tie.Need-check-refused-requires Inv-loop μ-loop
+check-refused-requires c κs = search needs
+
 returns : tie.Need-returns Inv-loop μ-loop
 unfolding causeOf
 returns c =
-    let a = c .before .before .before .before .before .before .before .before .before .before .args in
-    let phy-count = c .before .before .before .before .before .before .before .before .phy-count in
-    let loop = c .before .before .before .before .before .before .before .loop in
+    let t = c .before in
+    let a = t .before .before .before .before .before .before .before .before .before .before .args in
+    let phy-count = t .before .before .before .before .before .before .before .before .phy-count in
+    let loop = t .before .before .before .before .before .before .before .loop in
     let d = domainIn (a .rows .now) in
-    phy-stop 9 (causeOf 9 d) d (a .i .0) (phy-count .result) (loop .p) (loop .inv .1 .1 .1) (sym (c .before .is-clashing .ensures) ∙ c .if2 .taken) (omega arith)
+    ap (checkAnswer d) (c .check-refused .ensures)
+    ∙ phy-stop 9 (causeOf 9 d) d (a .i .0) (phy-count .result) (loop .p) (loop .inv .1 .1 .1) (sym (t .before .is-clashing .ensures) ∙ t .if2 .taken) (omega arith)
     ∙ ap (λ (n : ℕ). firstIn 9 (causeOf 9 d) (phyPlaces (a .i .0) 0 n) d) (phy-count .ensures .0)
 
 slice-aggregate-add-phy : tie.Need-slice-aggregate-add-phy Inv-loop μ-loop
@@ -117,6 +122,7 @@ first-clashing-at-spec =
     slice-aggregate-may-clash
     may-clash-requires
     is-clashing-requires
+    check-refused-requires
     returns
     slice-aggregate-add-phy
     add-phy-requires

@@ -80,8 +80,14 @@ loop-again c =
 returns-2 : tie.Need-returns-2 Inv-loop μ-loop
 returns-2 c = let l = c .before .before .loop in expanders-end _ _ _ _ _ (take (l .i) (l .seen)) (l .inv .1 .1) (omega arith) (c .if1 .taken)
 
+domain-refused-requires : tie.Need-domain-refused-requires Inv-loop μ-loop
+domain-refused-requires c κs = search needs
+
 returns-3 : tie.Need-returns-3 Inv-loop μ-loop
-returns-3 c = let l = c .before .before .loop in expanders-more _ _ _ _ _ (take (l .i) (l .seen)) (l .inv .1 .1) (omega arith) (c .if1 .left)
+returns-3 c =
+    let f = c .before in
+    let l = f .before .before .loop in
+    c .domain-refused .ensures ∙ expanders-more _ _ _ _ _ (take (l .i) (l .seen)) (l .inv .1 .1) (omega arith) (f .if1 .left)
 
 pub check-expanders-spec : {M : Type 1} → statement M
 check-expanders-spec =
@@ -103,4 +109,5 @@ check-expanders-spec =
     loop-less
     loop-again
     returns-2
+    domain-refused-requires
     returns-3)

@@ -5,16 +5,22 @@ use Rattle.wiring.specs.File.{domainRead}
 use Rattle.wiring.proofs.file.check_file.Statement.{statement}
 use Rattle.wiring.proofs.file.check_file.Tie as tie
 
+domain-refused-requires : tie.Need-domain-refused-requires
+domain-refused-requires c κs = search needs
+
 returns : tie.Need-returns
 unfolding domainRead
-returns c = search (needs, lt-leb)
+returns c = simp (lt-leb _ _ (c .before .if1 .taken)) (c .domain-refused .ensures)
 
 shared-slice-read-if2 : tie.Need-shared-slice-read-if2
 shared-slice-read-if2 c = search needs
 
+domain-refused-requires-2 : tie.Need-domain-refused-requires-2
+domain-refused-requires-2 c κs = search needs
+
 returns-2 : tie.Need-returns-2
 unfolding domainRead
-returns-2 c = search (needs, le-leb, ne-eqb)
+returns-2 c = let t = c .before in simp (le-leb _ _ (t .before .before .if1 .left), ne-eqb _ _ (t .if2 .taken)) (c .domain-refused2 .ensures)
 
 shared-slice-read-count : tie.Need-shared-slice-read-count
 shared-slice-read-count c = search needs
@@ -22,11 +28,16 @@ shared-slice-read-count c = search needs
 is-within-requires : tie.Need-is-within-requires
 is-within-requires c κs = search needs
 
+domain-refused-requires-3 : tie.Need-domain-refused-requires-3
+domain-refused-requires-3 c κs = search needs
+
 returns-3 : tie.Need-returns-3
 unfolding domainRead
 returns-3 c =
-    let f = c .before .before .before in
-    simp (le-leb _ _ (f .before .before .if1 .left), eq-eqb _ _ (f .if2 .left), sym (c .before .is-within .ensures) ∙ not-true _ (c .if3 .taken))
+    let t = c .before in
+    let f = t .before .before .before in
+    simp (le-leb _ _ (f .before .before .if1 .left), eq-eqb _ _ (f .if2 .left), sym (t .before .is-within .ensures) ∙ not-true _ (t .if3 .taken))
+    (c .domain-refused3 .ensures)
 
 check-expanders-requires : tie.Need-check-expanders-requires
 check-expanders-requires c κs = search needs
@@ -43,11 +54,14 @@ pub check-file-spec : {M : Type 1} → statement M
 check-file-spec =
     tie.close
     (tie.spec
+    domain-refused-requires
     returns
     shared-slice-read-if2
+    domain-refused-requires-2
     returns-2
     shared-slice-read-count
     is-within-requires
+    domain-refused-requires-3
     returns-3
     check-expanders-requires
     returns-4)

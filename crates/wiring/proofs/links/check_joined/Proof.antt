@@ -1,11 +1,12 @@
 use Prim.Native.Nat.{_-_, _≤_}
-use mathlib.Core.Path.{_≡_, sym, _∙_}
+use mathlib.Core.Path.{_≡_, sym, _∙_, ap}
 use native.Mathlib.Nat.{sub-zero}
 use native.Mathlib.Omega.{arith}
 use lib.ListN.{length}
 use borrow.Author.Needs.{needs}
 use borrow.Author.Tests.{not-true, not-false}
 use Rattle.wiring.proofs.Bitsets.{first-below, joined-bit, joined-stop, joined-go, joined-end}
+use Rattle.wiring.specs.Checks.{checkAnswer}
 use Rattle.wiring.specs.Links.{joinedIn}
 use Rattle.wiring.specs.Lists.{numbers, upTo}
 use Rattle.wiring.specs.Rounds.{RoundsRun}
@@ -40,12 +41,17 @@ loop-holds c =
 has-requires : tie.Need-has-requires Inv-loop μ-loop
 has-requires c κs = omega arith
 
+check-refused-requires : tie.Need-check-refused-requires Inv-loop μ-loop
+check-refused-requires c κs = search needs
+
 returns-2 : tie.Need-returns-2 Inv-loop μ-loop
 returns-2 c =
-    let l = c .before .before .before .loop in
-    let d = domainIn (c .before .before .before .before .before .before .before .before .before .args .rows .now) in
-    joined-stop d _ (l .i) (l .inv .1 .1 .1 .1)
-    (sym (joined-bit d _ (l .i) (l .inv .1 .1 .1 .0) (omega arith)) ∙ sym (c .before .has .ensures) ∙ not-true _ (c .if2 .taken)) (omega arith)
+    let t = c .before in
+    let l = t .before .before .before .loop in
+    let d = domainIn (t .before .before .before .before .before .before .before .before .before .args .rows .now) in
+    ap (checkAnswer d) (c .check-refused .ensures)
+    ∙ joined-stop d _ (l .i) (l .inv .1 .1 .1 .1)
+    (sym (joined-bit d _ (l .i) (l .inv .1 .1 .1 .0) (omega arith)) ∙ sym (t .before .has .ensures) ∙ not-true _ (t .if2 .taken)) (omega arith)
 
 add-i : tie.Need-add-i Inv-loop μ-loop
 add-i c = omega arith
@@ -87,6 +93,7 @@ check-joined-spec =
     run-rounds-requires
     loop-holds
     has-requires
+    check-refused-requires
     returns-2
     add-i
     loop-less

@@ -19,8 +19,13 @@ slice-aggregate-is-loopfree c = search needs
 is-loopfree-requires : tie.Need-is-loopfree-requires
 is-loopfree-requires c κs = held _ _ _ (c .before .before .put-neighbours .ensures .1)
 
+check-refused-requires : tie.Need-check-refused-requires
+check-refused-requires c κs = search needs
+
 returns : tie.Need-returns
-returns c = sym (links-loop _ (sym (c .before .is-loopfree .ensures) ∙ not-true _ (c .if1 .taken)))
+returns c =
+    let t = c .before in
+    ap (checkAnswer _) (c .check-refused .ensures) ∙ sym (links-loop _ (sym (t .before .is-loopfree .ensures) ∙ not-true _ (t .if1 .taken)))
 
 slice-aggregate-check-joined : tie.Need-slice-aggregate-check-joined
 slice-aggregate-check-joined c = search needs
@@ -59,6 +64,7 @@ check-links-spec =
     put-neighbours-requires
     slice-aggregate-is-loopfree
     is-loopfree-requires
+    check-refused-requires
     returns
     slice-aggregate-check-joined
     check-joined-requires

@@ -21,11 +21,15 @@ cast-if1 c = search needs
 mul-if1 : tie.Need-mul-if1
 mul-if1 c = search needs
 
+domain-refused-requires : tie.Need-domain-refused-requires
+domain-refused-requires c κs = search needs
+
 returns : tie.Need-returns
 returns c =
-    let f = c .before .before .before .before in
+    let u = c .before .before .before in
+    let f = u .before .before in
     let a = f .before .before .before .args in
-    rows-short (a .file .now) (a .rows .now) _ (sym (f .check-file .ensures) ∙ ap readAnswer (c .before .before .answer2 .given .1)) (omega arith)
+    rows-short (a .file .now) (a .rows .now) _ _ (c .domain-refused .ensures) (sym (f .check-file .ensures) ∙ ap readAnswer (u .answer2 .given .1)) (omega arith)
 
 fill-rows-requires : tie.Need-fill-rows-requires
 fill-rows-requires c κs = search needs
@@ -57,6 +61,7 @@ read-domain-spec =
     enum-known-answer-2
     cast-if1
     mul-if1
+    domain-refused-requires
     returns
     fill-rows-requires
     returns-2

@@ -7,16 +7,26 @@ use Rattle.wiring.proofs.units.phy_of.Tie as tie
 is-placed-requires : tie.Need-is-placed-requires
 is-placed-requires c κs = search needs
 
+phy-refused-requires : tie.Need-phy-refused-requires
+phy-refused-requires c κs = search needs
+
 returns : tie.Need-returns
-returns c = simp (sym (c .before .is-placed .ensures) ∙ not-true _ (c .if1 .taken))
+returns c =
+    let t = c .before in
+    simp (sym (t .before .is-placed .ensures) ∙ not-true _ (t .if1 .taken)) (c .phy-refused .ensures)
 
 is-ranged-requires : tie.Need-is-ranged-requires
 is-ranged-requires c κs = search needs
 
+phy-refused-requires-2 : tie.Need-phy-refused-requires-2
+phy-refused-requires-2 c κs = search needs
+
 returns-2 : tie.Need-returns-2
 returns-2 c =
-    let f = c .before .before in
-    simp (sym (f .before .is-placed .ensures) ∙ not-false _ (f .if1 .left), sym (c .before .is-ranged .ensures) ∙ not-true _ (c .if2 .taken))
+    let t = c .before in
+    let f = t .before .before in
+    simp (sym (f .before .is-placed .ensures) ∙ not-false _ (f .if1 .left), sym (t .before .is-ranged .ensures) ∙ not-true _ (t .if2 .taken))
+    (c .phy-refused2 .ensures)
 
 returns-3 : tie.Need-returns-3
 returns-3 c =
@@ -25,4 +35,4 @@ returns-3 c =
 
 pub phy-of-spec : {M : Type 1} → statement M
 phy-of-spec =
-    tie.close (tie.spec is-placed-requires returns is-ranged-requires returns-2 returns-3)
+    tie.close (tie.spec is-placed-requires phy-refused-requires returns is-ranged-requires phy-refused-requires-2 returns-2 returns-3)

@@ -4,25 +4,27 @@ use native.Mathlib.Nat.{add-sub-cancel-left}
 use native.Mathlib.Omega.{arith}
 use lib.ListN.{length}
 use borrow.Author.Needs.{needs}
-use borrow.Author.Tests.{le-leb, lt-leb}
+use borrow.Author.Tests.{leb-true, not-true, not-false}
 use Rattle.frames.specs.Discovery.{discoverAnswer}
 use Rattle.wiring.specs.File.{phyUnit}
 use Rattle.wiring.proofs.units.phy_unit.Statement.{statement}
 use Rattle.wiring.proofs.units.phy_unit.Tie as tie
 
+has-bytes-requires : tie.Need-has-bytes-requires
+has-bytes-requires c κs = search needs
+
+phy-refused-requires : tie.Need-phy-refused-requires
+phy-refused-requires c κs = search needs
+
 returns : tie.Need-returns
 unfolding phyUnit
-returns c = let a = c .before .before .args in simp (lt-leb (a .at + 52) (length (a .file .now)) (omega arith))
-
-sub-if2 : tie.Need-sub-if2
-sub-if2 c = search needs
-
-returns-2 : tie.Need-returns-2
-unfolding phyUnit
-returns-2 c = let a = c .before .before .before .args in simp (lt-leb (a .at + 52) (length (a .file .now)) (omega arith))
+returns c = let t = c .before in simp (sym (t .before .has-bytes .ensures) ∙ not-true _ (t .if1 .taken)) (c .phy-refused .ensures)
 
 add-next : tie.Need-add-next
-add-next c = search needs
+add-next c =
+    let a = c .before .before .before .args in
+    let h = leb-true (a .at + 52) (length (a .file .now)) (sym (c .before .has-bytes .ensures) ∙ not-false _ (c .if1 .left)) in
+    omega arith
 
 sub-read-discover : tie.Need-sub-read-discover
 sub-read-discover c = search needs
@@ -31,13 +33,19 @@ part-read-discover-start : tie.Need-part-read-discover-start
 part-read-discover-start c = search needs
 
 part-read-discover-end : tie.Need-part-read-discover-end
-part-read-discover-end c = search needs
+part-read-discover-end c =
+    let a = c .before .before .before .args in
+    let h = leb-true (a .at + 52) (length (a .file .now)) (sym (c .before .has-bytes .ensures) ∙ not-false _ (c .if1 .left)) in
+    omega arith
 
 read-discover-requires : tie.Need-read-discover-requires
 read-discover-requires c κs = search needs
 
 enum-known-frame : tie.Need-enum-known-frame
 enum-known-frame c = search needs
+
+phy-refused-requires-2 : tie.Need-phy-refused-requires-2
+phy-refused-requires-2 c κs = search needs
 
 enum-known-frame-2 : tie.Need-enum-known-frame-2
 enum-known-frame-2 c = search needs
@@ -48,46 +56,48 @@ enum-known-frame-3 c = search needs
 phy-of-requires : tie.Need-phy-of-requires
 phy-of-requires c κs = search needs
 
+returns-2 : tie.Need-returns-2
+unfolding phyUnit
+returns-2 c =
+    let e = c .before .before in
+    let d = e .before .before in
+    let f = d .before .before in
+    let q = simp add-sub-cancel-left at (sym (d .read-discover .ensures) ∙ ap discoverAnswer (e .frame .given .1)) in
+    simp (sym (f .before .has-bytes .ensures) ∙ not-false _ (f .if1 .left), q) (c .phy-refused2 .ensures)
+
 returns-3 : tie.Need-returns-3
 unfolding phyUnit
 returns-3 c =
     let d = c .before .before .before in
-    let a = d .before .before .before .before .before .args in
-    let q = simp add-sub-cancel-left at (sym (d .read-discover .ensures) ∙ ap discoverAnswer (c .before .frame .given .1)) in
-    simp (le-leb (a .at + 52) (length (a .file .now)) (omega arith), q)
+    let f = d .before .before in
+    let q = simp add-sub-cancel-left at (sym (d .read-discover .ensures) ∙ ap discoverAnswer (c .before .frame2 .given .1)) in
+    simp (sym (f .before .has-bytes .ensures) ∙ not-false _ (f .if1 .left), q)
 
 returns-4 : tie.Need-returns-4
 unfolding phyUnit
 returns-4 c =
-    let d = c .before .before .before in
-    let a = d .before .before .before .before .before .args in
-    let q = simp add-sub-cancel-left at (sym (d .read-discover .ensures) ∙ ap discoverAnswer (c .before .frame2 .given .1)) in
-    simp (le-leb (a .at + 52) (length (a .file .now)) (omega arith), q)
-
-returns-5 : tie.Need-returns-5
-unfolding phyUnit
-returns-5 c =
     let d = c .before .before .before .before in
-    let a = d .before .before .before .before .before .args in
+    let f = d .before .before in
     let q = simp add-sub-cancel-left at (sym (d .read-discover .ensures) ∙ ap discoverAnswer (c .before .before .frame3 .given .1)) in
-    simp (le-leb (a .at + 52) (length (a .file .now)) (omega arith), q) (c .phy-of .ensures)
+    simp (sym (f .before .has-bytes .ensures) ∙ not-false _ (f .if1 .left), q) (c .phy-of .ensures)
 
 pub phy-unit-spec : {M : Type 1} → statement M
 phy-unit-spec =
     tie.close
     (tie.spec
+    has-bytes-requires
+    phy-refused-requires
     returns
-    sub-if2
-    returns-2
     add-next
     sub-read-discover
     part-read-discover-start
     part-read-discover-end
     read-discover-requires
     enum-known-frame
+    phy-refused-requires-2
     enum-known-frame-2
     enum-known-frame-3
     phy-of-requires
+    returns-2
     returns-3
-    returns-4
-    returns-5)
+    returns-4)
