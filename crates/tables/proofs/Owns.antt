@@ -1,27 +1,26 @@
--- Own lists: the search among lower phys, the set of their addresses, and lists that grow phy by phy.
+-- Own lists: the search among lower phys, the last of them for each key, and lists that grow phy by phy.
 use Prim.Native.Nat.{ℕ, zero, suc, _+_, _*_, _≤_, _<_}
 use mathlib.Core.Path.{_≡_, refl, sym, _∙_, ap, subst}
 use mathlib.Core.Logic.{⊎-elim, by-cases}
 use mathlib.Core.Bool.{Bool, true, false, cond, not, _||_, _&&_}
 use mathlib.Core.List.{List, [], _∷_, _++_, append-nil, append-assoc}
-use native.Mathlib.Decide.{decLt}
+use native.Mathlib.Decide.{ℕ-discrete, decLt}
 use native.Mathlib.Omega.{arith}
 use native.Mathlib.Numerals.{add-one}
-use lib.ListN.{length, getD, take, drop, length-take, length-append, drop-of-length-le, List·getD-eq-default}
-use lib.Seq.{drop-cons, length-take-le}
+use lib.ListN.{length, getD, take, drop, set, length-take, length-append, drop-of-length-le, List·getD-eq-default}
+use lib.Seq.{drop-cons, length-take-le, getD-set-same, getD-set-other}
 use lib.Dec.{T, eqb, eqb→eq}
 use Rattle.wiring.specs.declared.Phy.{Phy}
 use Rattle.wiring.specs.declared.Phy.the-variants.{Vacant}
 use Rattle.wiring.specs.Lists.{any}
 use Rattle.wiring.specs.Domain.{Domain, Expander, noExpander, expanderAt, addressOf, attributeOf, typeOf, attached, bears}
 use Rattle.wiring.specs.Rows.{domainIn}
-use Rattle.wiring.specs.Seen.{mayHave, KeyAdded}
-use Rattle.wiring.proofs.Members.{or-cases, or-right, and-right, is-true, is-false, was-true, was-false}
+use Rattle.wiring.proofs.Members.{or-cases, or-right, and-right, is-true, is-false, was-true}
 use Rattle.wiring.proofs.InRows.{head-in, no-head}
 use Rattle.tables.specs.Tables.{word}
 use Rattle.tables.specs.Own.{lower, owns, ownFrom, own}
 use Rattle.tables.specs.Filling.{Grown}
-use Rattle.tables.specs.Prepared.{OwnHeld, keyOf, Noted, PhyNoted}
+use Rattle.tables.specs.Prepared.{OwnHeld, keyOf}
 use Rattle.tables.proofs.Cells.{cell-count, cell-list, cell-fits}
 
 -- the search below phy q, from q - 1 down. `inv` is the loop's invariant
@@ -54,37 +53,34 @@ pub owns-by : (l : List Phy) (φ : Phy) {b₁ b₂ b₃ b₄ : Bool} → eqb (at
 unfolding owns
 owns-by l φ q₁ q₂ q₃ q₄ = rw (q₁, q₂, q₃, q₄)
 
--- no phy bears an address whose key the set lacks
-pub not-noted : (φs : List Phy) (words : List ℕ) (s : ℕ) → Noted φs words → mayHave words (keyOf s) ≡ false → any (bears s) φs ≡ false
-not-noted φs words s n q = is-false (any (bears s) φs) (λ t. was-false (mayHave words (keyOf s)) q (n .noted s t))
+-- `last` has a phy below p for the key of each address that one of them bears
+pub record Last (φs : List Phy) (p : ℕ) (last : List ℕ) : Type 0 where
+  pub below : (s : ℕ) → T (any (bears s) (lower φs p)) → getD last (keyOf s) 0 < p
 
-pub noted-none : (words : List ℕ) → Noted [] words
-unfolding any
-noted-none words = record { noted = λ s t. absurd t }
+pub last-none : (φs : List Phy) (last : List ℕ) → Last φs 0 last
+unfolding any lower
+last-none φs last = record { below = λ s t. absurd t }
 
--- one phy more, with nothing attached or with the key of its address added
-pub noted-vacant : (φ : Phy) (words : List ℕ) → eqb (typeOf φ) 0 ≡ true → PhyNoted φ words words
-unfolding any
-noted-vacant φ words q = record { more = λ φs n. record { noted = λ s t. n .noted s (rw q at t) } }
+-- where q is not below p
+pub not-lower : (φs : List Phy) (p s q : ℕ) → (T (any (bears s) (lower φs p)) → q < p) → p ≤ q → false ≡ any (bears s) (lower φs p)
+not-lower φs p s q n h = sym (is-false (any (bears s) (lower φs p)) (λ t. let k = n t in omega arith))
 
-pub noted-more : (φ : Phy) (before after : List ℕ) → KeyAdded before after (keyOf (addressOf φ)) → PhyNoted φ before after
-unfolding any
-noted-more φ before after a =
+-- phy p has been put under its key
+pub last-next : (φs : List Phy) (p : ℕ) (φ : Phy) (last : List ℕ) {k : ℕ} → Last φs p last → φ ≡ getD φs p (Vacant 0) → k ≡ keyOf (addressOf φ)
+    → k < length last → Last φs (p + 1) (set last k p)
+unfolding any lower
+last-next φs p φ last {k} n q e h =
     record {
-      more = λ φs n.
-          record {
-            noted = λ s t.
-                ⊎-elim
-                (λ u. subst (λ (x : ℕ). T (mayHave after (keyOf x))) (eqb→eq (addressOf φ) s (and-right (attached φ) (eqb (addressOf φ) s) u)) (a .here))
-                (λ u. a .kept (keyOf s) (n .noted s u)) (or-cases (bears s φ) (any (bears s) φs) t);
-          };
+      below = λ s t.
+          let u : T (bears s φ || any (bears s) (lower φs p)) = rw (add-one p, sym q) at t in
+          by-cases (ℕ-discrete (keyOf s) k) (here s)
+          (λ z. ⊎-elim (λ v. absurd (z (sym (e ∙ ap keyOf (eqb→eq (addressOf φ) s (and-right (attached φ) (eqb (addressOf φ) s) v))))))
+          (λ v. let w = n .below s v in omega (arith, getD-set-other last k (keyOf s) p 0 z))
+          (or-cases (bears s φ) (any (bears s) (lower φs p)) u));
     }
-
--- the set after phy p
-pub noted-next : (φs : List Phy) (p : ℕ) (φ : Phy) (before after : List ℕ) → PhyNoted φ before after → φ ≡ getD φs p (Vacant 0)
-    → Noted (lower φs p) before → Noted (lower φs (p + 1)) after
-unfolding lower
-noted-next φs p φ before after m q n = rw (add-one p, sym q) (m .more (lower φs p) n)
+  where
+    here : (s : ℕ) → keyOf s ≡ k → getD (set last k p) (keyOf s) 0 < p + 1
+    here s z = rw (z, getD-set-same last k p 0 h) (omega arith)
 
 -- the words so far and what is left, phy by phy. `inv` is the loop's invariant
 module _ (φs : List Phy) (p : ℕ) (l : List ℕ) {v : List ℕ} (inv : l ++ ownFrom (lower φs p) (drop p φs) ≡ v) where

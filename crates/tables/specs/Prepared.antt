@@ -8,11 +8,9 @@ use lib.ListN.{length, take, drop}
 use lib.Dec.{T, eqb, ltb}
 use Rattle.wiring.specs.Frames.{Result, good, then}
 use Rattle.wiring.specs.declared.Phy.{Phy}
-use Rattle.wiring.specs.Lists.{any}
-use Rattle.wiring.specs.Domain.{Domain, expanderAt, phyAt, addressOf, routes, toExpander, bears}
+use Rattle.wiring.specs.Domain.{Domain, expanderAt, phyAt, addressOf, routes, toExpander}
 use Rattle.wiring.specs.Causes.{firstOf}
 use Rattle.wiring.specs.Links.{checkedDomain}
-use Rattle.wiring.specs.Seen.{mayHave}
 use Rattle.tables.specs.Levels.{once, belowPhys, below}
 use Rattle.tables.specs.Tables.{levelList}
 use Rattle.tables.specs.Own.{own}
@@ -30,17 +28,9 @@ pub record Stored (stride : ℕ) (list : ℕ → List ℕ) (n : ℕ) (words : Li
 abbrev pub OwnHeld : Domain → List ℕ → Type 0
 OwnHeld d words = Stored 129 (own d) (length d) words
 
--- the key of an address in a set of 64 words
+-- the key of an address among 4,096
 abbrev pub keyOf : ℕ → ℕ
 keyOf s = s % 4093
-
--- the set has the key of each address that an attached phy among these bears
-pub record Noted (φs : List Phy) (words : List ℕ) : Type 0 where
-  pub noted : (s : ℕ) → T (any (bears s) φs) → T (mayHave words (keyOf s))
-
--- a set after one phy more
-pub record PhyNoted (φ : Phy) (before after : List ℕ) : Type 0 where
-  pub more : (φs : List Phy) → Noted φs before → Noted (φ ∷ φs) after
 
 -- the expanders below expander i (attached to its table phys), each once
 abbrev pub belowOnce : Domain → ℕ → List ℕ

@@ -8,13 +8,14 @@ ghost use mathlib.Core.Bool.{cond};
 ghost use mathlib.Core.List.{[], _∷_, _++_};
 ghost use Prim.Native.Nat.{_≤_, _<_};
 ghost use lib.ListN.{length, take};
+ghost use lib.Dec.{T};
 ghost use Rattle.wiring.specs.Lists.{any};
 ghost use Rattle.wiring.specs.Domain.{expanderAt, addressOf, bears};
 ghost use Rattle.wiring.specs.Rows.{domainIn};
 ghost use Rattle.tables.specs.Tables.{word};
 ghost use Rattle.tables.specs.Own.{lower, owns, own};
 ghost use Rattle.tables.specs.Filling.{Grown};
-ghost use Rattle.tables.specs.Prepared.{OwnHeld, keyOf, Noted, PhyNoted};
+ghost use Rattle.tables.specs.Prepared.{OwnHeld, keyOf};
 
 // Is it an attached phy that bears the address?
 pub(crate) fn phy_bears(s: u64, f: Phy) -> bool
@@ -50,30 +51,31 @@ fn has_lower(rows: &[u64], i: ExpanderNumber, p: PhyId, s: u64) -> bool
     false
 }
 
-// The same, where phy q is tried first.
+// The same, where phy q is tried first; where q is not below p, no phy below p bears the address.
 fn is_lower(rows: &[u64], i: ExpanderNumber, p: PhyId, q: PhyId, s: u64) -> bool
+    requires { ⌜ (T (any (bears s) (lower (expanderAt (domainIn (now rows)) (i .0) .phys) (p .0))) → q .0 < p .0) ⌝ }
     ensures { λ r. ⌜ r ≡ any (bears s) (lower (expanderAt (domainIn (now (rows .entry))) (i .0) .phys) (p .0)) ⌝ }
 {
-    if q.0 < p.0 {
-        if phy_bears(s, wiring::phy_at(rows, i, q)) {
-            return true;
-        }
+    if q.0 >= p.0 {
+        return false;
+    }
+    if phy_bears(s, wiring::phy_at(rows, i, q)) {
+        return true;
     }
     has_lower(rows, i, p, s)
 }
 
-// The key of the attached address in a set of 4,096.
+// The key of the attached address among 4,096.
 fn key_of(f: Phy) -> usize
     ensures { λ r. ⌜ (r ≡ keyOf (addressOf f)) × (r < 4093) ⌝ }
 {
     (wiring::phy_address(f) % 4093) as usize
 }
 
-// Does f, as phy p of expander i, give its word to the expander's own list? `seen` has the keys of the
-// addresses attached below p; where it lacks the key of f's address no lower phy bears it. q, the last phy
-// that was seen with this key, is tried before all lower phys are.
-fn is_own(rows: &[u64], i: ExpanderNumber, p: PhyId, seen: &[u64], q: PhyId, f: Phy) -> bool
-    requires { ⌜ Noted (lower (expanderAt (domainIn (now rows)) (i .0) .phys) (p .0)) (now seen) ⌝ }
+// Does f, as phy p of expander i, give its word to the expander's own list? q is tried first of the phys
+// below p; where it is not below p, none of them bears f's address.
+fn is_own(rows: &[u64], i: ExpanderNumber, p: PhyId, q: PhyId, f: Phy) -> bool
+    requires { ⌜ (T (any (bears (addressOf f)) (lower (expanderAt (domainIn (now rows)) (i .0) .phys) (p .0))) → q .0 < p .0) ⌝ }
     ensures { λ r. ⌜ r ≡ owns (lower (expanderAt (domainIn (now (rows .entry))) (i .0) .phys) (p .0)) f ⌝ }
 {
     let attribute = wiring::phy_attribute(f);
@@ -87,21 +89,7 @@ fn is_own(rows: &[u64], i: ExpanderNumber, p: PhyId, seen: &[u64], q: PhyId, f: 
     if device == 0 {
         return false;
     }
-    let s = wiring::phy_address(f);
-    if !wiring::may_have(seen, key_of(f)) {
-        return true;
-    }
-    !is_lower(rows, i, p, q, s)
-}
-
-// Adds the key of the attached address to a set of 4,096 keys; nothing where nothing is attached.
-fn note_phy(seen: &mut [u64], f: Phy)
-    ensures { λ _. ⌜ PhyNoted f (now (seen .entry)) (now (seen .exit)) ⌝ }
-{
-    if wiring::phy_type(f) == 0 {
-        return;
-    }
-    wiring::add_key(seen, key_of(f));
+    !is_lower(rows, i, p, q, wiring::phy_address(f))
 }
 
 // Writes a phy's word after the first m of `part`, where it belongs to the own list (`mine`), and yields
@@ -117,23 +105,21 @@ fn put_word(part: &mut [u64], m: usize, mine: bool, f: Phy) -> usize
     m + 1
 }
 
-// Writes the own list of expander i, and yields its length: at most 128.
+// Writes the own list of expander i, and yields its length: at most 128. `last` has for each key the last
+// phy so far whose address has it; 255 where there is none.
 fn collect_own(rows: &[u64], i: ExpanderNumber, part: &mut [u64]) -> usize
     requires { ⌜ 128 ≤ length (now part) ⌝ }
     ensures { λ r. ⌜ Grown (now (part .entry)) (now (part .exit)) r (own (domainIn (now (rows .entry))) (i .0)) ⌝ }
 {
     let n = wiring::phy_count(rows, i);
-    let mut seen = [0u64; 64];
-    let mut last = [0u8; 4096];
+    let mut last = [255u8; 4096];
     let mut m: usize = 0;
     let mut p: u8 = 0;
     while p < n {
         let f = wiring::phy_at(rows, i, PhyId(p));
         let k = key_of(f);
-        let q = last[k];
-        let mine = is_own(rows, i, PhyId(p), &seen[..], PhyId(q), f);
+        let mine = is_own(rows, i, PhyId(p), PhyId(last[k]), f);
         m = put_word(part, m, mine, f);
-        note_phy(&mut seen[..], f);
         last[k] = p;
         p += 1;
     }

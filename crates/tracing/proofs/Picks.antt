@@ -6,10 +6,11 @@ use mathlib.Core.List.{List}
 use native.Mathlib.Omega.{arith}
 use lib.ListN.{take, drop}
 use lib.Dec.{eqb}
+use borrow.Author.Tests.{eq-eqb, ne-eqb}
 use Rattle.tables.specs.Wiring.{numbers}
 use Rattle.tables.specs.Wiring.{Phy}
-use Rattle.tables.specs.Wiring.{Domain, expanderAt, phyAt, addressOf, toEnd, places, isIn}
-use Rattle.tracing.specs.Steps.{Step, here, endDevice, bad, lost, Pick, at, nowhere, pick, offset, stretch}
+use Rattle.tables.specs.Wiring.{Domain, expanderAt, phyAt, addressOf, farOf, numberOf, toEnd, places, isIn}
+use Rattle.tracing.specs.Steps.{Step, here, endDevice, bad, lost, onward, Pick, at, nowhere, pick, offset, stretch}
 use Rattle.tracing.specs.Steps.{cameFrom, subtractively, byTable, directly, step}
 use Rattle.tracing.specs.Answers.{moveOver, directStep}
 
@@ -33,6 +34,14 @@ pub in-stretch : (d : Domain) (words : List ℕ) (i p s : ℕ) {n from : ℕ} �
     → isIn s (take n (drop from words)) ≡ isIn s (stretch d words i p)
 unfolding stretch
 in-stretch d words i p s e f = rw (e, f)
+
+-- on over φ, or `back` where its address s is the one that the request came from
+module _ (d : Domain) (φ : Phy) (came : ℕ) (back : Step) {s : ℕ} (q : s ≡ addressOf φ) where
+  pub move-back : s ≡ came → back ≡ cond (eqb (addressOf φ) came) back (moveOver d φ)
+  move-back e = rw (eq-eqb (addressOf φ) came (sym q ∙ e))
+
+  pub move-on : {j f : ℕ} → (s ≡ came → ⊥) → j ≡ numberOf d s → f ≡ farOf φ → onward j f ≡ cond (eqb (addressOf φ) came) back (moveOver d φ)
+  move-on n e g = rw (ne-eqb (addressOf φ) came (λ h. n (q ∙ h)), e, q, g)
 
 -- what each step does with the pick; φ is the phy picked
 module _ (d : Domain) (i came : ℕ) {v : Pick} where

@@ -17,8 +17,6 @@ use frames::PhyId;
 use frames::Refusal;
 pub use links::check_domain;
 pub use rows::read_domain;
-pub use seen::add_key;
-pub use seen::may_have;
 pub use view::configurable_bit;
 pub use view::expander_address;
 pub use view::expander_count;

@@ -4,7 +4,7 @@ ghost use mathlib.Core.Path.{_≡_};
 ghost use Rattle.wiring.specs.Seen.{mayHave, KeyAdded};
 
 // Whether k may have been added: false only where it was not.
-pub fn may_have(words: &[u64], k: usize) -> bool
+pub(crate) fn may_have(words: &[u64], k: usize) -> bool
     ensures { λ r. ⌜ r ≡ mayHave (now (words .entry)) k ⌝ }
 {
     let at = k / 64;
@@ -15,7 +15,7 @@ pub fn may_have(words: &[u64], k: usize) -> bool
 }
 
 // Adds k. Where k is past the last bit nothing is written.
-pub fn add_key(words: &mut [u64], k: usize)
+pub(crate) fn add_key(words: &mut [u64], k: usize)
     ensures { λ _. ⌜ KeyAdded (now (words .entry)) (now (words .exit)) k ⌝ }
 {
     let at = k / 64;

@@ -1,10 +1,9 @@
 use Prim.Native.Nat.{ℕ}
-use mathlib.Core.Path.{sym}
-use native.Mathlib.Omega.{arith}
+use mathlib.Core.Path.{sym, _∙_}
 use lib.ListN.{length-replicate}
 use lib.Seq.{length-take-le}
 use borrow.Author.Needs.{needs}
-use Rattle.tables.proofs.Judging.{call-refused, call-done}
+use Rattle.tables.proofs.Judging.{rows-fit, call-refused, call-done}
 use Rattle.tables.proofs.Lawful.{lawful}
 use Rattle.wiring.proofs.Opening.{opened-as}
 use Rattle.tables.proofs.calls.give_tables.Statement.{statement}
@@ -32,17 +31,15 @@ array-share-prefix-rows : tie.Need-array-share-prefix-rows
 array-share-prefix-rows c =
     let r = c .before .before .before .before .read-domain in
     let z = length-replicate {A = ℕ} 16512 0 in
-    let l = r .kept .1 .0 in
     let o = opened-as _ _ _ _ _ z (r .ensures) (c .before .read2 .given .1) in
-    omega arith
+    rows-fit (o .1 .0) (r .kept .1 .0 ∙ z)
 
 slice-aggregate-give-rows : tie.Need-slice-aggregate-give-rows
 slice-aggregate-give-rows c =
     let r = c .before .before .before .before .before .read-domain in
     let z = length-replicate {A = ℕ} 16512 0 in
-    let l = r .kept .1 .0 in
     let o = opened-as _ _ _ _ _ z (r .ensures) (c .before .before .read2 .given .1) in
-    sym (length-take-le _ (r .last .1 .0) (omega arith))
+    sym (length-take-le _ (r .last .1 .0) (rows-fit (o .1 .0) (r .kept .1 .0 ∙ z)))
 
 give-rows-requires : tie.Need-give-rows-requires
 give-rows-requires c κs =

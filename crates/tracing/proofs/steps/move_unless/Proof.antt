@@ -1,6 +1,6 @@
-use mathlib.Core.Path.{sym, _∙_}
-use borrow.Author.Tests.{eq-eqb, ne-eqb}
-use Rattle.tables.specs.Wiring.{addressOf}
+use Rattle.tables.specs.Wiring.{domainIn}
+use Rattle.tracing.specs.Answers.{stepAnswer}
+use Rattle.tracing.proofs.Picks.{move-back, move-on}
 use borrow.Author.Needs.{needs}
 use Rattle.tracing.proofs.steps.move_unless.Statement.{statement}
 use Rattle.tracing.proofs.steps.move_unless.Tie as tie
@@ -11,7 +11,7 @@ phy-address-requires c κs = search needs
 returns : tie.Need-returns
 returns c =
     let a = c .before .before .before .args in
-    rw (eq-eqb (addressOf (a .f)) (a .came) (sym (c .before .phy-address .ensures) ∙ c .if1 .taken))
+    move-back (domainIn (a .rows .now)) (a .f) (a .came) (stepAnswer (a .back)) (c .before .phy-address .ensures) (c .if1 .taken)
 
 number-of-requires : tie.Need-number-of-requires
 number-of-requires c κs = search needs
@@ -22,7 +22,8 @@ phy-far-requires c κs = search needs
 returns-2 : tie.Need-returns-2
 returns-2 c =
     let a = c .before .before .before .before .before .args in
-    rw (ne-eqb (addressOf (a .f)) (a .came) (λ e. c .before .before .if1 .left (c .before .before .before .phy-address .ensures ∙ e))) (cc)
+    move-on (domainIn (a .rows .now)) (a .f) (a .came) (stepAnswer (a .back)) (c .before .before .before .phy-address .ensures)
+    (c .before .before .if1 .left) (c .before .number-of .ensures) (c .phy-far .ensures)
 
 pub move-unless-spec : {M : Type 1} → statement M
 move-unless-spec =
