@@ -28,10 +28,7 @@ fn request_rows(
     let verdict = tables::judge_rows(rows);
     match verdict {
         Check::Refused(r) => TraceAnswer::Refused(r),
-        Check::Passed => {
-            let needed = tables::needed_words(rows);
-            requests::trace_rows(rows, words, needed, start, arrival, s, passed)
-        }
+        Check::Passed => requests::trace_rows(rows, words, start, arrival, s, passed),
     }
 }
 

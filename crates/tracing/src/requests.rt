@@ -11,7 +11,6 @@ ghost use Rattle.tables.specs.Wiring.{domainIn};
 ghost use Rattle.tables.specs.Wiring.{Refused};
 ghost use Rattle.tables.specs.Wiring.{checkAnswer};
 ghost use Rattle.tables.specs.Wiring.{refusal};
-ghost use Rattle.tables.specs.Tables.{needed as allWords};
 ghost use Rattle.tracing.specs.Trace.{allowed, requested};
 ghost use Rattle.tracing.specs.Answers.{tracedRequest, Answered};
 
@@ -40,23 +39,21 @@ fn refuse(number: u8) -> Check
     })
 }
 
-// Causes 15 to 17, with so many table words and bytes lent, and so many words needed.
+// Causes 15 to 17, with so many table words and bytes lent.
 fn check_request(
     rows: &[u64],
     words: usize,
     bytes: usize,
-    needed: usize,
     start: ExpanderNumber,
     arrival: PhyId,
     s: u64,
 ) -> Check
-    requires { ⌜ needed ≡ allWords (domainIn (now rows)) ⌝ }
     ensures { λ r. ⌜ checkAnswer (domainIn (now (rows .entry))) r ≡ requested words bytes (start .0) (arrival .0) s (domainIn (now (rows .entry))) ⌝ }
 {
     if !is_allowed(rows, start, arrival) {
         return refuse(15);
     }
-    if words < needed {
+    if words < tables::needed_words(rows) {
         return refuse(16);
     }
     if bytes < tables::expander_count(rows) as usize {
@@ -72,18 +69,16 @@ fn check_request(
 pub(crate) fn trace_rows(
     rows: &[u64],
     words: &[u64],
-    needed: usize,
     start: ExpanderNumber,
     arrival: PhyId,
     s: u64,
     passed: &mut [u8],
 ) -> TraceAnswer
-    requires { ⌜ needed ≡ allWords (domainIn (now rows)) ⌝ }
     ensures { λ r. ⌜ Answered
         (tracedRequest (domainIn (now (rows .entry))) (now (words .entry)) (length (now (passed .entry))) (start .0) (arrival .0) s)
         r (now (passed .entry)) (now (passed .exit)) ⌝ }
 {
-    match check_request(rows, words.len(), passed.len(), needed, start, arrival, s) {
+    match check_request(rows, words.len(), passed.len(), start, arrival, s) {
         Check::Refused(r) => TraceAnswer::Refused(r),
         Check::Passed => TraceAnswer::Ended(walk(rows, words, start, arrival, s, passed)),
     }

@@ -44,16 +44,16 @@ pub(crate) fn walk(
     let mut k: u8 = 0;
     while k < n {
         passed[k as usize] = i.0;
+        k += 1;
         let t = take_step(rows, words, i, q, s);
         match t {
-            Step::Here => return ended(Outcome::Arrived, i, PhyId(255), k + 1),
-            Step::EndDevice(p) => return ended(Outcome::Arrived, i, p, k + 1),
-            Step::Bad => return ended(Outcome::BadDestination, i, PhyId(255), k + 1),
-            Step::Lost => return ended(Outcome::NoDestination, i, PhyId(255), k + 1),
+            Step::Here => return ended(Outcome::Arrived, i, PhyId(255), k),
+            Step::EndDevice(p) => return ended(Outcome::Arrived, i, p, k),
+            Step::Bad => return ended(Outcome::BadDestination, i, PhyId(255), k),
+            Step::Lost => return ended(Outcome::NoDestination, i, PhyId(255), k),
             Step::Onward(j, f) => {
                 i = j;
                 q = f;
-                k += 1;
             }
         }
     }

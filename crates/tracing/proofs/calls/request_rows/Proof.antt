@@ -15,9 +15,6 @@ enum-known-verdict c = search needs
 enum-told : tie.Need-enum-told
 enum-told c = search needs
 
-needed-words-requires : tie.Need-needed-words-requires
-needed-words-requires c κs = search needs
-
 trace-rows-requires : tie.Need-trace-rows-requires
 trace-rows-requires c κs = search needs
 
@@ -29,8 +26,8 @@ same-length c = search needs
 
 returns-2 : tie.Need-returns-2
 returns-2 c =
-    let f = c .before .before .before .before .before in
-    rows-done _ _ _ _ _ _ _ _ (sym (judged-own _ (c .before .before .before .before .before .before .before .before .before .before .before .pre)) ∙ sym (f .before .before .judge-rows .ensures) ∙ ap (checkAnswer _) (f .enum-told .given .1)) (c .before .before .trace-rows .ensures)
+    let f = c .before .before .before .before in
+    rows-done _ _ _ _ _ _ _ _ (sym (judged-own _ (c .before .before .before .before .before .before .before .before .before .before .pre)) ∙ sym (f .before .before .judge-rows .ensures) ∙ ap (checkAnswer _) (f .enum-told .given .1)) (c .before .before .trace-rows .ensures)
 
 pub request-rows-spec : {M : Type 1} → statement M
 request-rows-spec =
@@ -39,7 +36,6 @@ request-rows-spec =
     judge-rows-requires
     enum-known-verdict
     enum-told
-    needed-words-requires
     trace-rows-requires
     returns
     same-length

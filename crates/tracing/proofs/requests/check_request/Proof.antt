@@ -25,14 +25,17 @@ returns c =
     ap (checkAnswer d) (c .refuse .ensures)
     ∙ sym (requested-by (a .words) (a .bytes) (a .start .0) (a .arrival .0) (a .s) d e refl refl refl)
 
+needed-words-requires : tie.Need-needed-words-requires
+needed-words-requires c κs = search needs
+
 refuse-requires-2 : tie.Need-refuse-requires-2
 refuse-requires-2 c κs = search needs
 
 returns-2 : tie.Need-returns-2
 returns-2 c =
-    let a = c .before .before .before .before .before .args in
+    let a = c .before .before .before .before .before .before .args in
     let d : Domain = domainIn (a .rows .now) in
-    let e = sym (c .before .before .before .is-allowed .ensures) ∙ not-false _ (c .before .before .if1 .left) in
+    let e = sym (c .before .before .before .before .is-allowed .ensures) ∙ not-false _ (c .before .before .before .if1 .left) in
     ap (checkAnswer d) (c .refuse2 .ensures)
     ∙ sym (requested-by (a .words) (a .bytes) (a .start .0) (a .arrival .0) (a .s) d e (lt-leb (needed d) (a .words) (omega arith)) refl refl)
 
@@ -47,10 +50,10 @@ refuse-requires-3 c κs = search needs
 
 returns-3 : tie.Need-returns-3
 returns-3 c =
-    let a = c .before .before .before .before .before .before .before .args in
+    let a = c .before .before .before .before .before .before .before .before .args in
     let d : Domain = domainIn (a .rows .now) in
-    let e = sym (c .before .before .before .before .before .is-allowed .ensures)
-    ∙ not-false _ (c .before .before .before .before .if1 .left) in
+    let e = sym (c .before .before .before .before .before .before .is-allowed .ensures)
+    ∙ not-false _ (c .before .before .before .before .before .if1 .left) in
     ap (checkAnswer d) (c .refuse3 .ensures)
     ∙ sym (requested-by (a .words) (a .bytes) (a .start .0) (a .arrival .0) (a .s) d e
     (le-leb (needed d) (a .words) (omega arith)) (lt-leb (length d) (a .bytes) (omega arith)) refl)
@@ -60,20 +63,20 @@ refuse-requires-4 c κs = search needs
 
 returns-4 : tie.Need-returns-4
 returns-4 c =
-    let a = c .before .before .before .before .before .before .before .before .args in
+    let a = c .before .before .before .before .before .before .before .before .before .args in
     let d : Domain = domainIn (a .rows .now) in
-    let e = sym (c .before .before .before .before .before .before .is-allowed .ensures)
-    ∙ not-false _ (c .before .before .before .before .before .if1 .left) in
+    let e = sym (c .before .before .before .before .before .before .before .is-allowed .ensures)
+    ∙ not-false _ (c .before .before .before .before .before .before .if1 .left) in
     ap (checkAnswer d) (c .refuse4 .ensures)
     ∙ sym (requested-by (a .words) (a .bytes) (a .start .0) (a .arrival .0) (a .s) d e
     (le-leb (needed d) (a .words) (omega arith)) (le-leb (length d) (a .bytes) (omega arith)) (eq-eqb (a .s) 0 (omega arith)))
 
 returns-5 : tie.Need-returns-5
 returns-5 c =
-    let a = c .before .before .before .before .before .before .before .args in
+    let a = c .before .before .before .before .before .before .before .before .args in
     let d : Domain = domainIn (a .rows .now) in
-    let e = sym (c .before .before .before .before .before .is-allowed .ensures)
-    ∙ not-false _ (c .before .before .before .before .if1 .left) in
+    let e = sym (c .before .before .before .before .before .before .is-allowed .ensures)
+    ∙ not-false _ (c .before .before .before .before .before .if1 .left) in
     sym (requested-by (a .words) (a .bytes) (a .start .0) (a .arrival .0) (a .s) d e
     (le-leb (needed d) (a .words) (omega arith)) (le-leb (length d) (a .bytes) (omega arith)) (ne-eqb (a .s) 0 (λ e. omega arith)))
 
@@ -84,6 +87,7 @@ check-request-spec =
     is-allowed-requires
     refuse-requires
     returns
+    needed-words-requires
     refuse-requires-2
     returns-2
     expander-count-requires

@@ -44,14 +44,14 @@ cast-passed c = omega arith
 slice-write-passed : tie.Need-slice-write-passed Inv-loop μ-loop
 slice-write-passed c = omega arith
 
+add-k : tie.Need-add-k Inv-loop μ-loop
+add-k c = omega arith
+
 take-step-requires : tie.Need-take-step-requires Inv-loop μ-loop
 take-step-requires c κs = search needs
 
 enum-told : tie.Need-enum-told Inv-loop μ-loop
 enum-told c = search needs
-
-add-ended : tie.Need-add-ended Inv-loop μ-loop
-add-ended c = omega arith
 
 ended-requires : tie.Need-ended-requires Inv-loop μ-loop
 ended-requires c κs = search needs
@@ -73,9 +73,6 @@ returns c =
 enum-known-t : tie.Need-enum-known-t Inv-loop μ-loop
 enum-known-t c = search needs
 
-add-ended-2 : tie.Need-add-ended-2 Inv-loop μ-loop
-add-ended-2 c = omega arith
-
 ended-requires-2 : tie.Need-ended-requires-2 Inv-loop μ-loop
 ended-requires-2 c κs = search needs
 
@@ -95,9 +92,6 @@ returns-2 c =
 
 enum-told-2 : tie.Need-enum-told-2 Inv-loop μ-loop
 enum-told-2 c = search needs
-
-add-ended-3 : tie.Need-add-ended-3 Inv-loop μ-loop
-add-ended-3 c = omega arith
 
 ended-requires-3 : tie.Need-ended-requires-3 Inv-loop μ-loop
 ended-requires-3 c κs = search needs
@@ -119,9 +113,6 @@ returns-3 c =
 enum-told-3 : tie.Need-enum-told-3 Inv-loop μ-loop
 enum-told-3 c = search needs
 
-add-ended-4 : tie.Need-add-ended-4 Inv-loop μ-loop
-add-ended-4 c = omega arith
-
 ended-requires-4 : tie.Need-ended-requires-4 Inv-loop μ-loop
 ended-requires-4 c κs = search needs
 
@@ -141,9 +132,6 @@ returns-4 c =
 
 enum-known-t-2 : tie.Need-enum-known-t-2 Inv-loop μ-loop
 enum-known-t-2 c = search needs
-
-add-k : tie.Need-add-k Inv-loop μ-loop
-add-k c = omega arith
 
 loop-less : tie.Need-loop-less Inv-loop μ-loop
 loop-less c = omega arith
@@ -187,29 +175,25 @@ walk-spec =
     loop-holds
     cast-passed
     slice-write-passed
+    add-k
     take-step-requires
     enum-told
-    add-ended
     ended-requires
     same-length
     returns
     enum-known-t
-    add-ended-2
     ended-requires-2
     same-length-2
     returns-2
     enum-told-2
-    add-ended-3
     ended-requires-3
     same-length-3
     returns-3
     enum-told-3
-    add-ended-4
     ended-requires-4
     same-length-4
     returns-4
     enum-known-t-2
-    add-k
     loop-less
     loop-again
     ended-requires-5
