@@ -1,12 +1,11 @@
 // CONFIGURE ROUTE INFORMATION requests.
-use crate::ExpanderNumber;
 use crate::PhyId;
-use crate::Refusal;
 use crate::Route;
 use crate::RouteIndex;
 use crate::RouteRead;
 use crate::RouteWrite;
 use crate::bytes;
+use crate::refusals;
 ghost use mathlib.Core.Path.{_≡_};
 ghost use mathlib.Core.List.{_++_};
 ghost use Prim.Native.Nat.{_≤_};
@@ -46,18 +45,10 @@ pub fn route_refusal(buf: &[u8], request: Route) -> RouteWrite
     ensures { λ r. ⌜ writeAnswer request r ≡ routeWritten (length (now (buf .entry))) request ⌝ }
 {
     if request.phy.0 > 127 {
-        return RouteWrite::Refused(Refusal {
-            number: 15,
-            expander: ExpanderNumber(0),
-            phy: PhyId(0),
-        });
+        return RouteWrite::Refused(refusals::refused(15));
     }
     if buf.len() < 40 {
-        return RouteWrite::Refused(Refusal {
-            number: 16,
-            expander: ExpanderNumber(0),
-            phy: PhyId(0),
-        });
+        return RouteWrite::Refused(refusals::refused(16));
     }
     RouteWrite::Written
 }
@@ -105,39 +96,21 @@ pub fn read_route(frame: &[u8]) -> RouteRead
     ensures { λ r. ⌜ routeAnswer r ≡ routeRead (now (frame .entry)) ⌝ }
 {
     if frame.len() != 40 {
-        return RouteRead::Refused(Refusal {
-            number: 1,
-            expander: ExpanderNumber(0),
-            phy: PhyId(0),
-        });
+        return RouteRead::Refused(refusals::refused(1));
     }
     if frame[0] != 0x40 {
-        return RouteRead::Refused(Refusal {
-            number: 2,
-            expander: ExpanderNumber(0),
-            phy: PhyId(0),
-        });
+        return RouteRead::Refused(refusals::refused(2));
     }
     if frame[1] != 0x90 {
-        return RouteRead::Refused(Refusal {
-            number: 2,
-            expander: ExpanderNumber(0),
-            phy: PhyId(0),
-        });
+        return RouteRead::Refused(refusals::refused(2));
     }
     let phy = frame[9];
     if phy > 127 {
-        return RouteRead::Refused(Refusal {
-            number: 15,
-            expander: ExpanderNumber(0),
-            phy: PhyId(0),
-        });
+        return RouteRead::Refused(refusals::refused(15));
     }
-    let index = bytes::number_at(frame, 6, 2) as u16;
-    let entry = entry_in(frame);
     RouteRead::Read(Route {
         phy: PhyId(phy),
-        index: RouteIndex(index),
-        entry: entry,
+        index: RouteIndex(bytes::number_at(frame, 6, 2) as u16),
+        entry: entry_in(frame),
     })
 }

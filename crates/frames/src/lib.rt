@@ -3,6 +3,7 @@
 mod bytes;
 mod configure_route;
 mod discovery;
+mod refusals;
 mod report_general;
 
 pub use bytes::address_at;

@@ -230,3 +230,9 @@ module _ (d : Domain) (n i : ℕ) {v : Result Domain} (inv : joinedIn (numbers i
 -- the set of all expanders, as a word
 pub all-below : (n : ℕ) → SetBelow n (setOf (upTo n))
 all-below n = rw (keep-all (upTo n)) at (set-below (λ v. true) n)
+
+-- whether v belongs to the next set, by what its tests answer
+pub next-by : (k word set v : ℕ) {a b c : Bool} → eqb k 11 ≡ a → hasBit set v ≡ b → hasBit word v ≡ c
+    → nextTest k word set v ≡ cond a (b && (c || leb 2 (ones (bitAnd set word)))) (b || leb 1 (ones (bitAnd set word)))
+unfolding nextTest
+next-by k word set v p q r = rw (p, q, r)

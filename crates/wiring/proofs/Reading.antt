@@ -1,25 +1,29 @@
 -- Reading a file unit by unit: one turn of each loop, and its end.
 use Prim.Native.Nat.{ℕ, suc, _+_, _-_, _≤_, _<_}
 use mathlib.Core.Path.{_≡_, refl, sym, _∙_, ap}
-use mathlib.Core.Bool.{Bool, true, false, _||_}
+use mathlib.Core.Bool.{Bool, true, false, not, _||_, _&&_}
 use mathlib.Core.List.{List, [], _∷_, _++_}
 use native.Mathlib.Omega.{arith}
 use native.Mathlib.Numerals.{add-one}
 use native.Mathlib.Nat.{zero-add}
 use lib.ListN.{length, getD, take, drop, set, drop-of-length-le}
 use lib.Seq.{drop-cons, take-suc-set}
-use lib.Dec.{eqb}
+use lib.Dec.{eqb, leb}
 use borrow.Author.Tests.{eq-eqb, ne-eqb}
-use Rattle.frames.specs.Refusals.{Result, refused, good, then, refusal}
+use Rattle.frames.specs.Refusals.{Result, refused, good, unless, then, refusal}
+use Rattle.frames.specs.Bytes.{byte, numberAt}
+use Rattle.frames.specs.Discovery.{Discovered, discoverRead}
+use Rattle.frames.specs.ReportGeneral.{generalRead}
+use Rattle.frames.specs.declared.General.{General}
 use Rattle.frames.specs.declared.Refusal.{Refusal}
 use Rattle.wiring.specs.declared.Limits.{Limits}
 use Rattle.wiring.specs.declared.ExpanderUnit.{ExpanderUnit}
 use Rattle.wiring.specs.declared.Phy.{Phy}
 use Rattle.wiring.specs.Lists.{any, isIn}
 use Rattle.wiring.specs.Domain.{Expander, Domain}
-use Rattle.wiring.specs.File.{Parsed, parsed, phyUnit, phyUnits, expanderUnit, expanderOf, expanders}
+use Rattle.wiring.specs.File.{Parsed, parsed, placed, phyOf, phyUnit, phyUnits, expanderUnit, expanderOf, expanders, domainRead}
 use Rattle.wiring.specs.Rows.{countOf}
-use Rattle.wiring.specs.Units.{physNext, expanderChecked}
+use Rattle.wiring.specs.Units.{physNext, endsAt, unitOf, expanderChecked}
 use Rattle.wiring.proofs.Results.{never}
 
 -- a number among those that are left
@@ -147,3 +151,25 @@ module _ (most : Limits) (file : List ℕ) (n i at : ℕ) (seen : List ℕ) wher
 
 pub take-next : (s : List ℕ) (i a : ℕ) → i < length s → take (i + 1) (set s i a) ≡ take i s ++ (a ∷ [])
 take-next s i a h = rw (add-one, take-suc-set s i a h)
+
+-- a file, by what the tests of its first two bytes answer
+pub file-by : (most : Limits) (file : List ℕ) {a b c : Bool} → leb 2 (length file) ≡ a → eqb (byte file 0) 0x10 ≡ b
+    → (leb 1 (byte file 1) && leb (byte file 1) (most .expanders)) ≡ c
+    → then (domainRead most file) countOf
+    ≡ then (unless a (refusal 1 0 0) (unless b (refusal 2 0 0) (unless c (refusal 3 0 0) (expanders most file (byte file 1) 0 2 [])))) countOf
+unfolding domainRead
+file-by most file p q r = rw (p, q, r)
+
+-- a phy's unit, by what the test of its length and the reader of its frame answer
+pub phy-unit-by : (file : List ℕ) (own i p at : ℕ) (x : Result Discovered) {b : Bool} → leb (at + 52) (length file) ≡ b
+    → discoverRead (take 52 (drop at file)) ≡ x
+    → phyUnit file own i p at ≡ unless b (refusal 1 i p) (then (placed i p x) (λ f. then (phyOf own i p f) (endsAt (at + 52))))
+unfolding phyUnit
+phy-unit-by file own i p at x q r = rw (q, r)
+
+-- an expander's unit, likewise
+pub expander-unit-by : (most : Limits) (file seen : List ℕ) (i at own : ℕ) (x : Result General) {b free : Bool} → leb (at + 36) (length file) ≡ b
+    → generalRead (take 28 (drop (at + 8) file)) ≡ x → numberAt file at 8 ≡ own → (not (eqb own 0) && not (isIn own seen)) ≡ free
+    → expanderUnit most file seen i at ≡ unless b (refusal 1 i 0) (then (placed i 0 x) (λ g. unitOf most g own free i (at + 36)))
+unfolding expanderUnit
+expander-unit-by most file seen i at own x q r e f = rw (q, r, e, f)

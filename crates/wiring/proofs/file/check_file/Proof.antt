@@ -1,7 +1,7 @@
-use mathlib.Core.Path.{sym, _∙_}
+use mathlib.Core.Path.{refl, sym, _∙_}
 use borrow.Author.Needs.{needs}
 use borrow.Author.Tests.{eq-eqb, ne-eqb, le-leb, lt-leb, not-true, not-false}
-use Rattle.wiring.specs.File.{domainRead}
+use Rattle.wiring.proofs.Reading.{file-by}
 use Rattle.wiring.proofs.file.check_file.Statement.{statement}
 use Rattle.wiring.proofs.file.check_file.Tie as tie
 
@@ -9,8 +9,7 @@ domain-refused-requires : tie.Need-domain-refused-requires
 domain-refused-requires c κs = search needs
 
 returns : tie.Need-returns
-unfolding domainRead
-returns c = simp (lt-leb _ _ (c .before .if1 .taken)) (c .domain-refused .ensures)
+returns c = c .domain-refused .ensures ∙ sym (file-by _ _ (lt-leb _ _ (c .before .if1 .taken)) refl refl)
 
 shared-slice-read-if2 : tie.Need-shared-slice-read-if2
 shared-slice-read-if2 c = search needs
@@ -19,8 +18,9 @@ domain-refused-requires-2 : tie.Need-domain-refused-requires-2
 domain-refused-requires-2 c κs = search needs
 
 returns-2 : tie.Need-returns-2
-unfolding domainRead
-returns-2 c = let t = c .before in simp (le-leb _ _ (t .before .before .if1 .left), ne-eqb _ _ (t .if2 .taken)) (c .domain-refused2 .ensures)
+returns-2 c =
+    let t = c .before in
+    c .domain-refused2 .ensures ∙ sym (file-by _ _ (le-leb _ _ (t .before .before .if1 .left)) (ne-eqb _ _ (t .if2 .taken)) refl)
 
 shared-slice-read-count : tie.Need-shared-slice-read-count
 shared-slice-read-count c = search needs
@@ -32,23 +32,21 @@ domain-refused-requires-3 : tie.Need-domain-refused-requires-3
 domain-refused-requires-3 c κs = search needs
 
 returns-3 : tie.Need-returns-3
-unfolding domainRead
 returns-3 c =
     let t = c .before in
     let f = t .before .before .before in
-    simp (le-leb _ _ (f .before .before .if1 .left), eq-eqb _ _ (f .if2 .left), sym (t .before .is-within .ensures) ∙ not-true _ (t .if3 .taken))
-    (c .domain-refused3 .ensures)
+    let w = sym (t .before .is-within .ensures) ∙ not-true _ (t .if3 .taken) in
+    c .domain-refused3 .ensures ∙ sym (file-by _ _ (le-leb _ _ (f .before .before .if1 .left)) (eq-eqb _ _ (f .if2 .left)) w)
 
 check-expanders-requires : tie.Need-check-expanders-requires
 check-expanders-requires c κs = search needs
 
 returns-4 : tie.Need-returns-4
-unfolding domainRead
 returns-4 c =
-    let w = c .before .before in
-    let f = w .before .before in
-    let t = sym (w .is-within .ensures) ∙ not-false _ (c .before .if3 .left) in
-    simp (le-leb _ _ (f .before .before .if1 .left), eq-eqb _ _ (f .if2 .left), t) (c .check-expanders .ensures)
+    let t = c .before .before in
+    let f = t .before .before in
+    let w = sym (t .is-within .ensures) ∙ not-false _ (c .before .if3 .left) in
+    c .check-expanders .ensures ∙ sym (file-by _ _ (le-leb _ _ (f .before .before .if1 .left)) (eq-eqb _ _ (f .if2 .left)) w)
 
 pub check-file-spec : {M : Type 1} → statement M
 check-file-spec =

@@ -1,7 +1,7 @@
-use mathlib.Core.Path.{sym, _∙_}
+use mathlib.Core.Path.{refl, sym, _∙_}
 use borrow.Author.Needs.{needs}
 use borrow.Author.Tests.{eq-eqb, ne-eqb, not-true, not-false}
-use Rattle.wiring.specs.Rounds.{nextTest}
+use Rattle.wiring.proofs.Bitsets.{next-by}
 use Rattle.wiring.proofs.rounds.is_next.Statement.{statement}
 use Rattle.wiring.proofs.rounds.is_next.Tie as tie
 
@@ -9,34 +9,29 @@ has-requires : tie.Need-has-requires
 has-requires c κs = search needs
 
 returns : tie.Need-returns
-unfolding nextTest
-returns c = simp (eq-eqb _ _ (c .before .before .if1 .taken), sym (c .before .has .ensures) ∙ not-true _ (c .if2 .taken))
+returns c = sym (next-by _ _ _ _ (eq-eqb _ _ (c .before .before .if1 .taken)) (sym (c .before .has .ensures) ∙ not-true _ (c .if2 .taken)) refl)
 
 has-requires-2 : tie.Need-has-requires-2
 has-requires-2 c κs = search needs
 
 returns-2 : tie.Need-returns-2
-unfolding nextTest
 returns-2 c =
     let f = c .before .before in
-    simp (eq-eqb _ _ (f .before .before .if1 .taken), sym (f .before .has .ensures) ∙ not-false _ (f .if2 .left), sym (c .before .has2 .ensures) ∙ c .if3 .taken)
+    sym (next-by _ _ _ _ (eq-eqb _ _ (f .before .before .if1 .taken)) (sym (f .before .has .ensures) ∙ not-false _ (f .if2 .left)) (sym (c .before .has2 .ensures) ∙ c .if3 .taken))
 
 returns-3 : tie.Need-returns-3
-unfolding nextTest
 returns-3 c =
     let f = c .before .before in
-    simp (eq-eqb _ _ (f .before .before .if1 .taken), sym (f .before .has .ensures) ∙ not-false _ (f .if2 .left), sym (c .before .has2 .ensures) ∙ c .if3 .left)
+    sym (next-by _ _ _ _ (eq-eqb _ _ (f .before .before .if1 .taken)) (sym (f .before .has .ensures) ∙ not-false _ (f .if2 .left)) (sym (c .before .has2 .ensures) ∙ c .if3 .left))
 
 has-requires-3 : tie.Need-has-requires-3
 has-requires-3 c κs = search needs
 
 returns-4 : tie.Need-returns-4
-unfolding nextTest
-returns-4 c = simp (ne-eqb _ _ (c .before .before .if1 .left), sym (c .before .has3 .ensures) ∙ c .if4 .taken)
+returns-4 c = sym (next-by _ _ _ _ (ne-eqb _ _ (c .before .before .if1 .left)) (sym (c .before .has3 .ensures) ∙ c .if4 .taken) refl)
 
 returns-5 : tie.Need-returns-5
-unfolding nextTest
-returns-5 c = simp (ne-eqb _ _ (c .before .before .if1 .left), sym (c .before .has3 .ensures) ∙ c .if4 .left)
+returns-5 c = sym (next-by _ _ _ _ (ne-eqb _ _ (c .before .before .if1 .left)) (sym (c .before .has3 .ensures) ∙ c .if4 .left) refl)
 
 pub is-next-spec : {M : Type 1} → statement M
 is-next-spec =

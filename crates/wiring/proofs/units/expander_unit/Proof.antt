@@ -1,11 +1,11 @@
 use Prim.Native.Nat.{_+_, _-_}
-use mathlib.Core.Path.{_≡_, sym, _∙_, ap}
+use mathlib.Core.Path.{_≡_, refl, sym, _∙_, ap}
 use native.Mathlib.Omega.{arith}
 use lib.ListN.{length}
 use borrow.Author.Needs.{needs}
 use borrow.Author.Tests.{leb-true, not-true, not-false}
 use Rattle.frames.specs.ReportGeneral.{generalAnswer}
-use Rattle.wiring.specs.File.{expanderUnit}
+use Rattle.wiring.proofs.Reading.{expander-unit-by}
 use Rattle.wiring.proofs.units.expander_unit.Statement.{statement}
 use Rattle.wiring.proofs.units.expander_unit.Tie as tie
 
@@ -16,8 +16,9 @@ expander-refused-requires : tie.Need-expander-refused-requires
 expander-refused-requires c κs = search needs
 
 returns : tie.Need-returns
-unfolding expanderUnit
-returns c = let t = c .before in simp (sym (t .before .has-bytes .ensures) ∙ not-true _ (t .if1 .taken)) (c .expander-refused .ensures)
+returns c =
+    let t = c .before in
+    c .expander-refused .ensures ∙ sym (expander-unit-by _ _ _ _ _ _ _ (sym (t .before .has-bytes .ensures) ∙ not-true _ (t .if1 .taken)) refl refl refl)
 
 address-at-requires : tie.Need-address-at-requires
 address-at-requires c κs = search needs
@@ -68,7 +69,6 @@ unit-of-requires : tie.Need-unit-of-requires
 unit-of-requires c κs = search needs
 
 returns-2 : tie.Need-returns-2
-unfolding expanderUnit
 returns-2 c =
     let e = c .before .before in
     let g = e .before .before in
@@ -76,10 +76,10 @@ returns-2 c =
     let a = f .before .before .before .before .args in
     let k : (a .at + 36) - (a .at + 8) ≡ 28 = omega arith in
     let q = simp k at (sym (g .read-general .ensures) ∙ ap generalAnswer (e .frame .given .1)) in
-    simp (sym (f .before .has-bytes .ensures) ∙ not-false _ (f .if1 .left), q) (c .expander-refused2 .ensures)
+    c .expander-refused2 .ensures
+    ∙ sym (expander-unit-by _ _ _ _ _ _ _ (sym (f .before .has-bytes .ensures) ∙ not-false _ (f .if1 .left)) q refl refl)
 
 returns-3 : tie.Need-returns-3
-unfolding expanderUnit
 returns-3 c =
     let g = c .before .before .before .before in
     let n = g .before .before .before in
@@ -88,7 +88,7 @@ returns-3 c =
     let k : (a .at + 36) - (a .at + 8) ≡ 28 = omega arith in
     let q = simp k at (sym (g .read-general .ensures) ∙ ap generalAnswer (c .before .before .frame2 .given .1)) in
     let t = sym (f .before .has-bytes .ensures) ∙ not-false _ (f .if1 .left) in
-    simp (t, q, sym (n .address-at .ensures), sym (g .before .before .is-free .ensures)) (c .unit-of .ensures)
+    c .unit-of .ensures ∙ sym (expander-unit-by _ _ _ _ _ _ _ t q (sym (n .address-at .ensures)) (sym (g .before .before .is-free .ensures)))
 
 pub expander-unit-spec : {M : Type 1} → statement M
 expander-unit-spec =

@@ -1,12 +1,12 @@
 use Prim.Native.Nat.{_+_}
-use mathlib.Core.Path.{sym, _∙_, ap}
+use mathlib.Core.Path.{refl, sym, _∙_, ap}
 use native.Mathlib.Nat.{add-sub-cancel-left}
 use native.Mathlib.Omega.{arith}
 use lib.ListN.{length}
 use borrow.Author.Needs.{needs}
 use borrow.Author.Tests.{leb-true, not-true, not-false}
 use Rattle.frames.specs.Discovery.{discoverAnswer}
-use Rattle.wiring.specs.File.{phyUnit}
+use Rattle.wiring.proofs.Reading.{phy-unit-by}
 use Rattle.wiring.proofs.units.phy_unit.Statement.{statement}
 use Rattle.wiring.proofs.units.phy_unit.Tie as tie
 
@@ -17,8 +17,9 @@ phy-refused-requires : tie.Need-phy-refused-requires
 phy-refused-requires c κs = search needs
 
 returns : tie.Need-returns
-unfolding phyUnit
-returns c = let t = c .before in simp (sym (t .before .has-bytes .ensures) ∙ not-true _ (t .if1 .taken)) (c .phy-refused .ensures)
+returns c =
+    let t = c .before in
+    c .phy-refused .ensures ∙ sym (phy-unit-by _ _ _ _ _ _ (sym (t .before .has-bytes .ensures) ∙ not-true _ (t .if1 .taken)) refl)
 
 add-next : tie.Need-add-next
 add-next c =
@@ -57,29 +58,26 @@ phy-of-requires : tie.Need-phy-of-requires
 phy-of-requires c κs = search needs
 
 returns-2 : tie.Need-returns-2
-unfolding phyUnit
 returns-2 c =
     let e = c .before .before in
     let d = e .before .before in
     let f = d .before .before in
     let q = simp add-sub-cancel-left at (sym (d .read-discover .ensures) ∙ ap discoverAnswer (e .frame .given .1)) in
-    simp (sym (f .before .has-bytes .ensures) ∙ not-false _ (f .if1 .left), q) (c .phy-refused2 .ensures)
+    c .phy-refused2 .ensures ∙ sym (phy-unit-by _ _ _ _ _ _ (sym (f .before .has-bytes .ensures) ∙ not-false _ (f .if1 .left)) q)
 
 returns-3 : tie.Need-returns-3
-unfolding phyUnit
 returns-3 c =
     let d = c .before .before .before in
     let f = d .before .before in
     let q = simp add-sub-cancel-left at (sym (d .read-discover .ensures) ∙ ap discoverAnswer (c .before .frame2 .given .1)) in
-    simp (sym (f .before .has-bytes .ensures) ∙ not-false _ (f .if1 .left), q)
+    sym (phy-unit-by _ _ _ _ _ _ (sym (f .before .has-bytes .ensures) ∙ not-false _ (f .if1 .left)) q)
 
 returns-4 : tie.Need-returns-4
-unfolding phyUnit
 returns-4 c =
     let d = c .before .before .before .before in
     let f = d .before .before in
     let q = simp add-sub-cancel-left at (sym (d .read-discover .ensures) ∙ ap discoverAnswer (c .before .before .frame3 .given .1)) in
-    simp (sym (f .before .has-bytes .ensures) ∙ not-false _ (f .if1 .left), q) (c .phy-of .ensures)
+    c .phy-of .ensures ∙ sym (phy-unit-by _ _ _ _ _ _ (sym (f .before .has-bytes .ensures) ∙ not-false _ (f .if1 .left)) q)
 
 pub phy-unit-spec : {M : Type 1} → statement M
 phy-unit-spec =
