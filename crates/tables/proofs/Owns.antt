@@ -65,6 +65,9 @@ last-none φs last = record { below = λ s t. absurd t }
 pub not-lower : (φs : List Phy) (p s q : ℕ) → (T (any (bears s) (lower φs p)) → q < p) → p ≤ q → false ≡ any (bears s) (lower φs p)
 not-lower φs p s q n h = sym (is-false (any (bears s) (lower φs p)) (λ t. let k = n t in omega arith))
 
+pub key-in : {k n : ℕ} → k < 4093 → n ≡ 4096 → k < n
+key-in h e = omega arith
+
 -- phy p has been put under its key
 pub last-next : (φs : List Phy) (p : ℕ) (φ : Phy) (last : List ℕ) {k : ℕ} → Last φs p last → φ ≡ getD φs p (Vacant 0) → k ≡ keyOf (addressOf φ)
     → k < length last → Last φs (p + 1) (set last k p)

@@ -5,13 +5,13 @@ use mathlib.Core.Path.{_≡_, refl, sym, _∙_, ap}
 use mathlib.Core.Bool.{Bool, true, false, cond}
 use mathlib.Core.List.{List, [], _∷_, _++_, flatMap, append-nil, append-assoc}
 use native.Mathlib.Omega.{arith}
-use native.Mathlib.Nat.{add-zero, zero-mul, suc-mul, mul-le-mul, le-of-lt}
+use native.Mathlib.Nat.{add-zero, zero-add, zero-mul, suc-mul, mul-le-mul, le-of-lt}
 use native.Mathlib.Numerals.{add-one}
-use lib.ListN.{length, take, drop, replicate, length-append, length-drop, take-append-drop, drop-of-length-le}
-use lib.Seq.{take-at, drop-at, drop-cons, drop-drop, length-take-le}
+use lib.ListN.{length, getD, take, drop, replicate, length-append, length-drop, take-append-drop, drop-of-length-le}
+use lib.Seq.{take-all, take-at, drop-at, drop-cons, drop-drop, length-take-le}
 use mir.Val.{boolByte}
 use Rattle.wiring.specs.Lists.{keep}
-use Rattle.wiring.specs.Domain.{Domain, noExpander, expanderAt, phyAt, routes}
+use Rattle.wiring.specs.Domain.{Domain, Expander, noExpander, expanderAt, phyAt, routes}
 use Rattle.wiring.specs.Causes.{Place, place, phyPlaces, placesFrom, places}
 use Rattle.wiring.proofs.Members.{keep-append}
 use Rattle.tables.specs.Tables.{levelList, table, tablePlaces, tables, size, sizes, needed}
@@ -115,9 +115,34 @@ module _ (d : Domain) where
       go true e = omega (arith, suc-mul (length (withTables d rest)) (expanderAt d i .indexes))
       go false e = omega arith
 
-  pub from-words : (i : ℕ) {m r : ℕ} → m ≡ length (withTables d (placesAt d i)) → r ≡ expanderAt d i .indexes → i < length d
-      → sizes d (placesFrom i (drop i d)) ≡ m * r + sizes d (placesFrom (i + 1) (drop (i + 1) d))
-  from-words i q z h = rw (q, z) (omega (arith, from-sizes i h, sizes-count i 0 (length (expanderAt d i .phys))))
+  -- the words of the expanders before an expander, one more at a time; past the end there are none more
+  before-last : (k : ℕ) (l : List Expander) (j : ℕ)
+      → sizes d (placesFrom k (take (suc j) l)) ≡ sizes d (placesFrom k (take j l)) + sizes d (phyPlaces (k + j) 0 (length (getD l j noExpander .phys)))
+  unfolding sizes placesFrom phyPlaces
+  before-last k [] zero = refl
+  before-last k [] (suc j) = refl
+  before-last k (e ∷ l) zero = rw (append-nil, add-zero k) (omega arith)
+  before-last k (e ∷ l) (suc j) =
+      let m : List Place = phyPlaces k 0 (length (e .phys)) in
+      let z : k + 1 + j ≡ k + suc j = omega arith in
+      let h = rw z at (before-last (k + 1) l j) in
+      let a = sizes-append m (placesFrom (k + 1) (take (suc j) l)) in
+      let b = sizes-append m (placesFrom (k + 1) (take j l)) in
+      omega arith
+
+  pub before-next : (j : ℕ) {m r : ℕ} → m ≡ length (withTables d (placesAt d j)) → r ≡ expanderAt d j .indexes
+      → sizes d (placesFrom 0 (take (j + 1) d)) ≡ sizes d (placesFrom 0 (take j d)) + m * r
+  before-next j q z =
+      let e : sizes d (phyPlaces (0 + j) 0 (length (expanderAt d j .phys))) ≡ sizes d (placesAt d j) =
+      ap (λ (x : ℕ). sizes d (phyPlaces x 0 (length (expanderAt d j .phys)))) (zero-add j) in
+      rw (add-one j, q, z) (omega (arith, before-last 0 d j, sizes-count j 0 (length (expanderAt d j .phys))))
+
+  pub before-none : sizes d (placesFrom 0 (take 0 d)) ≡ 0
+  unfolding sizes placesFrom
+  before-none = refl
+
+  pub before-all : {n : ℕ} → n ≡ length d → sizes d (placesFrom 0 (take n d)) ≡ needed d
+  before-all {n} e = ap (λ (l : List Expander). sizes d (placesFrom 0 l)) (take-all n d (omega arith))
 
   tables-append : (qs rs : List Place) → tablesOf d (qs ++ rs) ≡ tablesOf d qs ++ tablesOf d rs
   unfolding tablesOf

@@ -8,10 +8,10 @@ use frames::PhyId;
 use wiring::Phy;
 ghost use mathlib.Core.Path.{_≡_};
 ghost use mathlib.Core.List.{[], _∷_, _++_};
-ghost use Prim.Native.Nat.{_+_, _^_, _≤_, _<_};
-ghost use lib.ListN.{length, drop};
+ghost use Prim.Native.Nat.{_+_, _*_, _^_, _≤_, _<_};
+ghost use lib.ListN.{length, take, drop};
 ghost use Rattle.wiring.specs.Domain.{phyAt, routes};
-ghost use Rattle.wiring.specs.Causes.{place};
+ghost use Rattle.wiring.specs.Causes.{place, placesFrom};
 ghost use Rattle.wiring.specs.Rows.{domainIn};
 ghost use Rattle.tables.specs.Tables.{tablePlaces, tables, size, sizes, needed};
 ghost use Rattle.tables.specs.Filling.{placesAt, withTables, tablesOf, Put};
@@ -52,19 +52,25 @@ pub fn table_count(rows: &[u64]) -> usize
     sum
 }
 
+// How many words the tables of the expanders before i have.
+pub fn words_before(rows: &[u64], i: ExpanderNumber) -> usize
+    ensures { λ r. ⌜ (r ≡ sizes (domainIn (now (rows .entry))) (placesFrom 0 (take (i .0) (domainIn (now (rows .entry)))))) × (r ≤ 8388608 * i .0) ⌝ }
+{
+    let mut sum: usize = 0;
+    let mut j: u8 = 0;
+    while j < i.0 {
+        let x = ExpanderNumber(j);
+        sum += count_at(rows, x) * wiring::index_count(rows, x) as usize;
+        j += 1;
+    }
+    sum
+}
+
 // How many words all tables need: the sum of R over non-vacant table phys.
 pub fn needed_words(rows: &[u64]) -> usize
     ensures { λ r. ⌜ (r ≡ needed (domainIn (now (rows .entry)))) × (r < 2 ^ 32) ⌝ }
 {
-    let n = wiring::expander_count(rows);
-    let mut sum: usize = 0;
-    let mut i: u8 = 0;
-    while i < n {
-        let x = ExpanderNumber(i);
-        sum += count_at(rows, x) * wiring::index_count(rows, x) as usize;
-        i += 1;
-    }
-    sum
+    words_before(rows, ExpanderNumber(wiring::expander_count(rows)))
 }
 
 // Writes the table of phy p of expander i from `at` on, and yields the place after it. `lists` has the

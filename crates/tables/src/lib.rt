@@ -10,6 +10,7 @@ mod wide;
 
 pub use all_tables::needed_words;
 pub use all_tables::table_count;
+pub use all_tables::words_before;
 pub use calls::give_tables;
 pub use calls::judge;
 pub use calls::judge_rows;

@@ -2,7 +2,7 @@
 use Prim.Native.Nat.{ℕ, zero, suc, _+_, _-_, _≤_, _<_}
 use mathlib.Core.Path.{_≡_, refl, sym, _∙_, ap}
 use mathlib.Core.Bool.{Bool, true, false, cond, _||_, _&&_}
-use mathlib.Core.List.{List, [], _∷_, _++_, append-nil}
+use mathlib.Core.List.{List, [], _∷_, _++_}
 use mathlib.Core.Logic.{by-cases}
 use native.Mathlib.Decide.{ℕ-discrete}
 use native.Mathlib.Omega.{arith}
@@ -17,7 +17,7 @@ use Rattle.tables.specs.Wiring.{any, isIn}
 use Rattle.tables.specs.Wiring.{Place, place, places, phyPlaces, placesFrom}
 use Rattle.tables.specs.Tables.{size, sizes}
 use Rattle.tracing.specs.Steps.{offset}
-use Rattle.tracing.specs.Answers.{ownWords, wordsBefore}
+use Rattle.tracing.specs.Answers.{wordsBefore}
 
 pub size-by : (d : Domain) (i p : ℕ) {b : Bool} → eqb (attributeOf (phyAt d i p)) 2 ≡ b
     → size d (place i p) ≡ cond b (expanderAt d i .indexes) 0
@@ -40,30 +40,6 @@ phys-last d i q (suc p) =
 
 pub phys-next : (d : Domain) (i p : ℕ) → sizes d (phyPlaces i 0 (p + 1)) ≡ sizes d (phyPlaces i 0 p) + size d (place i p)
 phys-next d i p = rw add-one (phys-last d i 0 p ∙ ap (λ (x : ℕ). sizes d (phyPlaces i 0 p) + size d (place i x)) (zero-add p))
-
--- the words of the expanders before an expander, one more at a time; past the end there are none more
-before-last : (d : Domain) (k : ℕ) (l : List Expander) (j : ℕ)
-    → sizes d (placesFrom k (take (suc j) l)) ≡ sizes d (placesFrom k (take j l)) + sizes d (phyPlaces (k + j) 0 (length (getD l j noExpander .phys)))
-unfolding sizes placesFrom phyPlaces
-before-last d k [] zero = refl
-before-last d k [] (suc j) = refl
-before-last d k (e ∷ l) zero = rw (append-nil, add-zero k) (omega arith)
-before-last d k (e ∷ l) (suc j) =
-    let m : List Place = phyPlaces k 0 (length (e .phys)) in
-    let z : k + 1 + j ≡ k + suc j = omega arith in
-    let h = rw z at (before-last d (k + 1) l j) in
-    let a = sizes-append d m (placesFrom (k + 1) (take (suc j) l)) in
-    let b = sizes-append d m (placesFrom (k + 1) (take j l)) in
-    omega arith
-
-pub before-next : (d : Domain) (j : ℕ) → wordsBefore d (j + 1) ≡ wordsBefore d j + ownWords d j
-before-next d j =
-    rw add-one
-    (before-last d 0 d j ∙ ap (λ (x : ℕ). wordsBefore d j + sizes d (phyPlaces x 0 (length (expanderAt d j .phys)))) (zero-add j))
-
-pub before-none : (d : Domain) → wordsBefore d 0 ≡ 0
-unfolding sizes placesFrom
-before-none d = refl
 
 pub phys-none : (d : Domain) (i : ℕ) → sizes d (phyPlaces i 0 0) ≡ 0
 unfolding sizes phyPlaces

@@ -2,10 +2,10 @@
 use crate::Step;
 use crate::stretches::lists;
 use crate::stretches::size_at;
-use crate::stretches::words_before;
 use frames::ExpanderNumber;
 use frames::PhyId;
 use tables::Phy;
+use tables::words_before;
 ghost use mathlib.Core.Path.{_≡_};
 ghost use mathlib.Core.Bool.{cond, _&&_};
 ghost use lib.Dec.{eqb};

@@ -8,7 +8,7 @@ use Rattle.wiring.specs.Domain.{expanderAt}
 use Rattle.wiring.specs.Rows.{domainIn}
 use Rattle.tables.specs.Tables.{word}
 use Rattle.tables.specs.Own.{lower, ownFrom, own}
-use Rattle.tables.proofs.Owns.{Last, last-none, last-next, own-start, own-go, own-end, put-most}
+use Rattle.tables.proofs.Owns.{key-in, Last, last-none, last-next, own-start, own-go, own-end, put-most}
 use borrow.Author.Needs.{needs}
 use Rattle.tables.proofs.own.collect_own.Statement.{statement}
 use Rattle.tables.proofs.own.collect_own.Tie as tie
@@ -41,7 +41,7 @@ key-of-requires : tie.Need-key-of-requires Inv-loop μ-loop
 key-of-requires c κs = search needs
 
 array-read-t15 : tie.Need-array-read-t15 Inv-loop μ-loop
-array-read-t15 c = omega arith
+array-read-t15 c = key-in (c .key-of .ensures .1) refl
 
 is-own-requires : tie.Need-is-own-requires Inv-loop μ-loop
 is-own-requires c κs =
@@ -52,7 +52,7 @@ put-word-requires : tie.Need-put-word-requires Inv-loop μ-loop
 put-word-requires c κs = omega arith
 
 array-write-last : tie.Need-array-write-last Inv-loop μ-loop
-array-write-last c = omega arith
+array-write-last c = key-in (c .before .before .before .before .before .key-of .ensures .1) refl
 
 add-p : tie.Need-add-p Inv-loop μ-loop
 add-p c = omega arith
@@ -70,7 +70,7 @@ loop-again c =
     let o = c .before .before .before .before .is-own in
     let g = c .before .before .put-word .ensures in
     let most = put-most (l .m) (o .result) (word (f .result)) g in
-    let t = last-next φs (l .p) (f .result) (l .last) (l .inv .1 .1 .1 .1 .0) (f .ensures) (k .0) (omega arith) in
+    let t = last-next φs (l .p) (f .result) (l .last) (l .inv .1 .1 .1 .1 .0) (f .ensures) (k .0) (key-in (k .1) (l .inv .1 .1 .0)) in
     let v = own-go φs (l .p) (take (l .m) (l .part)) (l .inv .1 .1 .1 .1 .1) (f .result) (f .ensures) (o .ensures) (g .whole) (omega arith) in
     (omega arith, (g .same ∙ l .inv .1 .0, (simp length-set (l .inv .1 .1 .0), (omega arith, (t, v)))))
 

@@ -1,0 +1,73 @@
+use Prim.Native.Nat.{_-_, _*_, _≤_}
+use mathlib.Core.Path.{_≡_, _∙_, ap}
+use native.Mathlib.Omega.{arith}
+use lib.ListN.{take}
+use Rattle.wiring.specs.Domain.{Domain}
+use Rattle.wiring.specs.Causes.{placesFrom}
+use Rattle.wiring.specs.Rows.{domainIn}
+use Rattle.tables.specs.Tables.{sizes}
+use Rattle.tables.proofs.Puts.{words-le, before-none, before-next}
+use borrow.Author.Needs.{needs}
+use Rattle.tables.proofs.all_tables.words_before.Statement.{statement}
+use Rattle.tables.proofs.all_tables.words_before.Tie as tie
+
+abbrev Inv-loop : tie.InvT-loop
+Inv-loop rows i sum₀ j₀ sum j = (j ≤ i .0) × (sum ≤ 8388608 * j) × (sum ≡ sizes (domainIn rows) (placesFrom 0 (take j (domainIn rows))))
+
+abbrev μ-loop : tie.MeasureT-loop
+μ-loop rows i sum₀ j₀ sum j = i .0 - j
+
+loop-holds : tie.Need-loop-holds Inv-loop μ-loop
+loop-holds c = omega (arith, before-none (domainIn (c .before .args .rows .now)))
+
+count-at-requires : tie.Need-count-at-requires Inv-loop μ-loop
+count-at-requires c κs = search needs
+
+index-count-requires : tie.Need-index-count-requires Inv-loop μ-loop
+index-count-requires c κs = search needs
+
+cast-sum : tie.Need-cast-sum Inv-loop μ-loop
+cast-sum c = search needs
+
+mul-sum : tie.Need-mul-sum Inv-loop μ-loop
+mul-sum c = omega (arith, words-le (c .index-count .result) (c .before .count-at .ensures .1) (omega arith))
+
+add-sum : tie.Need-add-sum Inv-loop μ-loop
+add-sum c = omega (arith, words-le (c .index-count .result) (c .before .count-at .ensures .1) (omega arith))
+
+add-j : tie.Need-add-j Inv-loop μ-loop
+add-j c = omega arith
+
+loop-less : tie.Need-loop-less Inv-loop μ-loop
+loop-less c = omega arith
+
+loop-again : tie.Need-loop-again Inv-loop μ-loop
+loop-again c =
+    let l = c .before .before .before .before .loop in
+    let d : Domain = domainIn (c .before .before .before .before .before .before .args .rows .now) in
+    let t = c .before .count-at in
+    omega (arith, words-le (c .index-count .result) (t .ensures .1) (omega arith), before-next d (l .j) (t .ensures .0) (c .index-count .ensures))
+
+returns : tie.Need-returns Inv-loop μ-loop
+returns c =
+    let d : Domain = domainIn (c .before .before .before .before .args .rows .now) in
+    let l = c .before .before .loop in
+    let e : l .j ≡ c .before .before .before .before .args .i .0 = omega arith in
+    (l .inv .2 ∙ ap (λ n. sizes d (placesFrom 0 (take n d))) e, omega arith)
+
+pub words-before-spec : {M : Type 1} → statement M
+words-before-spec =
+    tie.close
+    (tie.spec
+    Inv-loop
+    μ-loop
+    loop-holds
+    count-at-requires
+    index-count-requires
+    cast-sum
+    mul-sum
+    add-sum
+    add-j
+    loop-less
+    loop-again
+    returns)
