@@ -4,8 +4,8 @@ use mathlib.Core.Path.{_≡_}
 use mathlib.Core.List.{List, _++_}
 use lib.ListN.{length, take, drop}
 use Rattle.tables.specs.Wiring.{Phy}
-use Rattle.tables.specs.Wiring.{phyPlaces, placesFrom}
-use Rattle.tables.specs.Wiring.{Result, good, then, Domain, expanderAt, addressOf, farOf, numberOf}
+use Rattle.tables.specs.Wiring.{placesFrom}
+use Rattle.tables.specs.Wiring.{Result, good, then, Domain, addressOf, farOf, numberOf}
 use Rattle.tables.specs.Tables.{sizes}
 use Rattle.tables.specs.Judge.{judgedDomain}
 use Rattle.tracing.specs.Steps.{Step as Stepped, here, endDevice, bad, lost, onward, Pick as Picked, at, nowhere, pick, phyNumbers}
@@ -56,10 +56,7 @@ tableStep d words i came s = byTable d i came (listingPick d words i s) (subtrac
 abbrev pub directStep : Domain → List ℕ → ℕ → ℕ → ℕ → Stepped
 directStep d words i came s = directly d i came (bearingPick d i s) (tableStep d words i came s)
 
--- the words of the tables of expander i, and of the expanders before it
-abbrev pub ownWords : Domain → ℕ → ℕ
-ownWords d i = sizes d (phyPlaces i 0 (length (expanderAt d i .phys)))
-
+-- the words of the tables of the expanders before i
 abbrev pub wordsBefore : Domain → ℕ → ℕ
 wordsBefore d i = sizes d (placesFrom 0 (take i d))
 

@@ -59,3 +59,8 @@ module _ (file before after : List ℕ) (e : length before ≡ 16512) where
 pub opened-as : (file before after : List ℕ) (answer known : DomainRead) → length before ≡ 16512 → RowsRead file answer before after → answer ≡ known
     → Opened file known after
 opened-as file before after answer known e r q = subst (λ a. Opened file a after) q (opened file before after e answer r)
+
+-- 258 words for each of its expanders fit
+pub opened-fits : (file before after : List ℕ) (answer : DomainRead) (n : ℕ) → length before ≡ 16512 → RowsRead file answer before after
+    → answer ≡ Expanders n → length after ≡ length before → 258 * n ≤ length after
+opened-fits file before after answer n e r q l = let o = opened-as file before after answer (Expanders n) e r q in omega arith

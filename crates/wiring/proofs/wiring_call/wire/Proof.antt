@@ -1,11 +1,10 @@
 use Prim.Native.Nat.{ℕ}
 use mathlib.Core.Path.{sym}
-use native.Mathlib.Omega.{arith}
 use lib.ListN.{length-replicate}
 use lib.Seq.{length-take-le}
 use borrow.Author.Needs.{needs}
 use Rattle.wiring.proofs.Calls.{wire-refused, wire-done}
-use Rattle.wiring.proofs.Opening.{opened-as}
+use Rattle.wiring.proofs.Opening.{opened-as, opened-fits}
 use Rattle.wiring.proofs.wiring_call.wire.Statement.{statement}
 use Rattle.wiring.proofs.wiring_call.wire.Tie as tie
 
@@ -30,18 +29,13 @@ mul-e c = search needs
 array-share-prefix-rows : tie.Need-array-share-prefix-rows
 array-share-prefix-rows c =
     let r = c .before .before .before .before .read-domain in
-    let z = length-replicate {A = ℕ} 16512 0 in
-    let l = r .kept .1 .0 in
-    let o = opened-as _ _ _ _ _ z (r .ensures) (c .before .read2 .given .1) in
-    omega arith
+    opened-fits _ _ _ _ _ (length-replicate {A = ℕ} 16512 0) (r .ensures) (c .before .read2 .given .1) (r .kept .1 .0)
 
 slice-aggregate-wire-rows : tie.Need-slice-aggregate-wire-rows
 slice-aggregate-wire-rows c =
     let r = c .before .before .before .before .before .read-domain in
-    let z = length-replicate {A = ℕ} 16512 0 in
-    let l = r .kept .1 .0 in
-    let o = opened-as _ _ _ _ _ z (r .ensures) (c .before .before .read2 .given .1) in
-    sym (length-take-le _ (r .last .1 .0) (omega arith))
+    let h = opened-fits _ _ _ _ _ (length-replicate {A = ℕ} 16512 0) (r .ensures) (c .before .before .read2 .given .1) (r .kept .1 .0) in
+    sym (length-take-le _ (r .last .1 .0) h)
 
 wire-rows-requires : tie.Need-wire-rows-requires
 wire-rows-requires c κs = search needs
