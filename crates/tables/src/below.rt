@@ -67,7 +67,7 @@ fn collect_below(rows: &[u64], i: ExpanderNumber, part: &mut [u8]) -> usize
     let mut p: u8 = 0;
     while p < n {
         let q = wide::lower_phy(rows, &mut slots[..], i, PhyId(p));
-        if q >= p {
+        if q.0 >= p {
             m = add_phy(rows, part, m, wiring::phy_at(rows, i, PhyId(p)));
         }
         p += 1;

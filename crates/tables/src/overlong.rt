@@ -43,14 +43,14 @@ fn is_overlong(
     below: &[u8],
     i: ExpanderNumber,
     p: PhyId,
-    q: u8,
+    q: PhyId,
     order: &mut [u8],
 ) -> bool
     requires { ⌜ OwnHeld (domainIn (now rows)) (now lists) × (BelowHeld (domainIn (now rows)) (now below) × ((length (now order) ≡ 4161)
-        × (Told (domainIn (now rows)) (i .0) (p .0) q × ((k : ℕ) → k < p .0 → overOwn (domainIn (now rows)) (i .0) k ≡ false)))) ⌝ }
+        × (Told (domainIn (now rows)) (i .0) (p .0) (q .0) × ((k : ℕ) → k < p .0 → overOwn (domainIn (now rows)) (i .0) k ≡ false)))) ⌝ }
     ensures { λ r. ⌜ r ≡ overOwn (domainIn (now (rows .entry))) (i .0) (p .0) ⌝ }
 {
-    if q < p.0 {
+    if q.0 < p.0 {
         return false;
     }
     let f = wiring::phy_at(rows, i, p);

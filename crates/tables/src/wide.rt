@@ -58,19 +58,19 @@ fn slot_of(rows: &[u64], slots: &[u8], i: ExpanderNumber, f: Phy) -> usize
 
 // A lower phy on the link of phy p of expander i, or 255 where there is none. `slots` has the lowest phy of
 // each link of the phys below p, and then that of p's link, too.
-pub(crate) fn lower_phy(rows: &[u64], slots: &mut [u8], i: ExpanderNumber, p: PhyId) -> u8
+pub(crate) fn lower_phy(rows: &[u64], slots: &mut [u8], i: ExpanderNumber, p: PhyId) -> PhyId
     requires { ⌜ length (now slots) ≡ 256 ⌝ }
-    ensures { λ r. ⌜ Told (domainIn (now (rows .entry))) (i .0) (p .0) r ⌝ }
+    ensures { λ r. ⌜ Told (domainIn (now (rows .entry))) (i .0) (p .0) (r .0) ⌝ }
 {
     let f = wiring::phy_at(rows, i, p);
     if !is_down(f) {
-        return 255;
+        return PhyId(255);
     }
     let k = slot_of(rows, &slots[..], i, f);
-    let q = slots[k];
-    if are_one_link(wiring::phy_at(rows, i, PhyId(q)), f) {
+    let q = PhyId(slots[k]);
+    if are_one_link(wiring::phy_at(rows, i, q), f) {
         return q;
     }
     slots[k] = p.0;
-    255
+    PhyId(255)
 }

@@ -36,7 +36,7 @@ phy-at-requires : tie.Need-phy-at-requires Inv-loop μ-loop
 phy-at-requires c κs = search needs
 
 add-phy-requires : tie.Need-add-phy-requires Inv-loop μ-loop
-add-phy-requires c κs = let s = c .before .before .before .before .before .before .before .loop .inv .1 .1 in omega (arith, s .fits, s .room)
+add-phy-requires c κs = let s = c .before .before .before .before .before .before .before .before .loop .inv .1 .1 in omega (arith, s .fits, s .room)
 
 add-p : tie.Need-add-p Inv-loop μ-loop
 add-p c = omega arith
@@ -46,16 +46,16 @@ loop-less c = omega arith
 
 loop-again : tie.Need-loop-again Inv-loop μ-loop
 loop-again c =
-    let a = c .before .before .before .before .before .before .before .before .before .args in
-    let l = c .before .before .before .before .before .loop in
-    let n = c .before .before .before .before .before .before .phy-count .ensures in
+    let a = c .before .before .before .before .before .before .before .before .before .before .args in
+    let l = c .before .before .before .before .before .before .loop in
+    let n = c .before .before .before .before .before .before .before .phy-count .ensures in
     let d : Domain = domainIn (a .rows .now) in
-    let r = c .before .before .lower-phy in
+    let r = c .before .before .before .lower-phy in
     let got : Collected d (a .i .0) (l .p + 1) (c .if1 .m) (c .if1 .part) =
     ⊎-elim
     (λ w. rw (w .6, w .7) (collect-go d (a .i .0) (l .p) (l .inv .1 .1) (w .2 .result) (w .2 .ensures) (w .3 .ensures) (omega arith)))
-    (λ w. rw (w .1, w .2) (let low : r .result < l .p = omega (arith, w .0) in
-    collect-skip d (a .i .0) (l .p) (l .inv .1 .1) (r .result) low (r .ensures low) (omega arith)))
+    (λ w. rw (w .1, w .2) (let low : r .result .0 < l .p = omega (arith, w .0) in
+    collect-skip d (a .i .0) (l .p) (l .inv .1 .1) (r .result .0) low (r .ensures low) (omega arith)))
     (c .if1 .came) in
     (omega arith, (r .kept .1 .0 ∙ l .inv .1 .0, got))
 

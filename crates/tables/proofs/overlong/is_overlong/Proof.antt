@@ -14,11 +14,11 @@ use Rattle.tables.proofs.overlong.is_overlong.Tie as tie
 
 returns : tie.Need-returns
 returns c =
-    let s = c .before .before .before .before .before .before in
+    let s = c .before .before .before .before .before .before .before in
     let a = s .args in
     let h = c .if1 .taken in
     let m = s .pre .1 .1 .1 in
-    sym (sym (over-linked (domainIn (a .rows .now)) (a .i .0) (a .q) (a .p .0) (m .0 h)) ∙ m .1 (a .q) h)
+    sym (sym (over-linked (domainIn (a .rows .now)) (a .i .0) (a .q .0) (a .p .0) (m .0 h)) ∙ m .1 (a .q .0) h)
 
 phy-at-requires : tie.Need-phy-at-requires
 phy-at-requires c κs = search needs
@@ -28,13 +28,13 @@ is-down-requires c κs = search needs
 
 returns-2 : tie.Need-returns-2
 returns-2 c =
-    let a = c .before .before .before .before .before .before .before .before .before .args in
+    let a = c .before .before .before .before .before .before .before .before .before .before .args in
     let q = sym (c .before .is-down .ensures) ∙ not-true _ (c .if2 .taken) in
     sym (over-none (domainIn (a .rows .now)) (a .i .0) (a .p .0) _ (c .before .before .phy-at .ensures) q)
 
 put-order-requires : tie.Need-put-order-requires
 put-order-requires c κs =
-    let s = c .before .before .before .before .before .before .before .before .before .before in
+    let s = c .before .before .before .before .before .before .before .before .before .before .before in
     (s .pre .1 .0, omega (arith, s .pre .1 .1 .0))
 
 index-count-requires : tie.Need-index-count-requires
@@ -55,7 +55,7 @@ slice-aggregate-count-words c =
 
 count-words-requires : tie.Need-count-words-requires
 count-words-requires c κs =
-    let s = c .before .before .before .before .before .before .before .before .before .before .before .before .before .before .before in
+    let s = c .before .before .before .before .before .before .before .before .before .before .before .before .before .before .before .before in
     let r = c .before .before .before .before .put-order in
     let g = r .ensures in
     let l : List ℕ = r .last .1 .1 .1 .0 in
@@ -67,7 +67,7 @@ same-length c = search needs
 
 returns-3 : tie.Need-returns-3
 returns-3 c =
-    let a = c .before .before .before .before .before .before .before .before .before .before .before .before .before .before .before .before .args in
+    let a = c .before .before .before .before .before .before .before .before .before .before .before .before .before .before .before .before .before .args in
     let d : Domain = domainIn (a .rows .now) in
     let g = c .before .before .before .before .before .put-order .ensures in
     let q = sym (c .before .before .before .before .before .before .before .before .is-down .ensures) ∙ not-false _ (c .before .before .before .before .before .before .before .if2 .left) in

@@ -16,8 +16,8 @@ returns c = λ h. absurd (omega (arith, h))
 slot-of-requires : tie.Need-slot-of-requires
 slot-of-requires c κs = search needs
 
-slice-read-q : tie.Need-slice-read-q
-slice-read-q c = search needs
+slice-read-t13 : tie.Need-slice-read-t13
+slice-read-t13 c = search needs
 
 phy-at-requires-2 : tie.Need-phy-at-requires-2
 phy-at-requires-2 c κs = search needs
@@ -50,7 +50,7 @@ lower-phy-spec =
     is-down-requires
     returns
     slot-of-requires
-    slice-read-q
+    slice-read-t13
     phy-at-requires-2
     are-one-link-requires
     same-length
