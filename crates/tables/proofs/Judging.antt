@@ -1,8 +1,7 @@
 -- The outcomes of the judging call and of the table call.
-use Prim.Native.Nat.{ℕ, _*_, _≤_, _<_}
+use Prim.Native.Nat.{ℕ, _≤_, _<_}
 use mathlib.Core.Path.{_≡_, refl, _∙_, ap}
 use mathlib.Core.List.{List, _++_}
-use native.Mathlib.Omega.{arith}
 use lib.ListN.{length, drop}
 use borrow.Author.Tests.{le-leb, lt-leb}
 use Rattle.frames.specs.declared.Refusal.{Refusal}
@@ -15,10 +14,6 @@ use Rattle.tables.specs.Tables.{tablePlaces, tables, needed}
 use Rattle.tables.specs.Judge.{overlong, judgedDomain, judged, expandersIn, tablesFor, tableCall, TablesDone}
 use Rattle.tables.specs.declared.TablesGiven.{TablesGiven}
 use Rattle.tables.specs.declared.TablesGiven.the-variants.{Refused, Counts}
-
--- the rows of at most 64 expanders, among the rows that were lent
-pub rows-fit : {n m : ℕ} → n ≤ 64 → m ≡ 16512 → 258 * n ≤ m
-rows-fit h e = omega arith
 
 then-then : {A B C : Type 0} (x : Result A) (y : Result B) (z : Result C) → then x (λ _. then y (λ _. z)) ≡ then (then x (λ _. y)) (λ _. z)
 then-then (refused r) y z = refl

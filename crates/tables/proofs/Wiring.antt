@@ -6,4 +6,4 @@ pub use Rattle.wiring.proofs.Wires.{LoopIn, ChainIn, Way, Wired, Home, end-atta
 pub use Rattle.wiring.proofs.Wires.{routes-range, in-places, differ, far-below, far-is, to-adj, adj-symmetric}
 pub use Rattle.wiring.proofs.Results.{good-one, unless-good, then-good}
 pub use Rattle.wiring.proofs.Accepted.{wired-wires}
-pub use Rattle.wiring.proofs.Opening.{opened-as}
+pub use Rattle.wiring.proofs.Opening.{opened-as, opened-fits}

@@ -1,11 +1,11 @@
 use Prim.Native.Nat.{ℕ}
-use mathlib.Core.Path.{sym, _∙_}
+use mathlib.Core.Path.{sym}
 use lib.ListN.{length-replicate}
 use lib.Seq.{length-take-le}
 use borrow.Author.Needs.{needs}
-use Rattle.tables.proofs.Judging.{rows-fit, call-refused, call-done}
+use Rattle.tables.proofs.Judging.{call-refused, call-done}
 use Rattle.tables.proofs.Lawful.{lawful}
-use Rattle.wiring.proofs.Opening.{opened-as}
+use Rattle.wiring.proofs.Opening.{opened-as, opened-fits}
 use Rattle.tables.proofs.calls.give_tables.Statement.{statement}
 use Rattle.tables.proofs.calls.give_tables.Tie as tie
 
@@ -30,16 +30,13 @@ mul-e c = search needs
 array-share-prefix-rows : tie.Need-array-share-prefix-rows
 array-share-prefix-rows c =
     let r = c .before .before .before .before .read-domain in
-    let z = length-replicate {A = ℕ} 16512 0 in
-    let o = opened-as _ _ _ _ _ z (r .ensures) (c .before .read2 .given .1) in
-    rows-fit (o .1 .0) (r .kept .1 .0 ∙ z)
+    opened-fits _ _ _ _ _ (length-replicate {A = ℕ} 16512 0) (r .ensures) (c .before .read2 .given .1) (r .kept .1 .0)
 
 slice-aggregate-give-rows : tie.Need-slice-aggregate-give-rows
 slice-aggregate-give-rows c =
     let r = c .before .before .before .before .before .read-domain in
-    let z = length-replicate {A = ℕ} 16512 0 in
-    let o = opened-as _ _ _ _ _ z (r .ensures) (c .before .before .read2 .given .1) in
-    sym (length-take-le _ (r .last .1 .0) (rows-fit (o .1 .0) (r .kept .1 .0 ∙ z)))
+    let h = opened-fits _ _ _ _ _ (length-replicate {A = ℕ} 16512 0) (r .ensures) (c .before .before .read2 .given .1) (r .kept .1 .0) in
+    sym (length-take-le _ (r .last .1 .0) h)
 
 give-rows-requires : tie.Need-give-rows-requires
 give-rows-requires c κs =

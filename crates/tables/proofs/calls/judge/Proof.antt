@@ -3,9 +3,9 @@ use mathlib.Core.Path.{sym, _∙_, ap}
 use lib.ListN.{length-replicate}
 use lib.Seq.{length-take-le}
 use borrow.Author.Needs.{needs}
-use Rattle.tables.proofs.Judging.{rows-fit, judge-refused, judge-by}
+use Rattle.tables.proofs.Judging.{judge-refused, judge-by}
 use Rattle.tables.proofs.Lawful.{lawful, judged-own}
-use Rattle.wiring.proofs.Opening.{opened-as}
+use Rattle.wiring.proofs.Opening.{opened-as, opened-fits}
 use Rattle.wiring.specs.Checks.{checkAnswer}
 use Rattle.wiring.specs.Frames.{good}
 use Rattle.tables.proofs.calls.judge.Statement.{statement}
@@ -32,16 +32,13 @@ mul-e c = search needs
 array-share-prefix-rows : tie.Need-array-share-prefix-rows
 array-share-prefix-rows c =
     let r = c .before .before .before .before .read-domain in
-    let z = length-replicate {A = ℕ} 16512 0 in
-    let o = opened-as _ _ _ _ _ z (r .ensures) (c .before .read2 .given .1) in
-    rows-fit (o .1 .0) (r .kept .1 .0 ∙ z)
+    opened-fits _ _ _ _ _ (length-replicate {A = ℕ} 16512 0) (r .ensures) (c .before .read2 .given .1) (r .kept .1 .0)
 
 slice-aggregate-judge-rows : tie.Need-slice-aggregate-judge-rows
 slice-aggregate-judge-rows c =
     let r = c .before .before .before .before .before .read-domain in
-    let z = length-replicate {A = ℕ} 16512 0 in
-    let o = opened-as _ _ _ _ _ z (r .ensures) (c .before .before .read2 .given .1) in
-    sym (length-take-le _ (r .last .1 .0) (rows-fit (o .1 .0) (r .kept .1 .0 ∙ z)))
+    let h = opened-fits _ _ _ _ _ (length-replicate {A = ℕ} 16512 0) (r .ensures) (c .before .before .read2 .given .1) (r .kept .1 .0) in
+    sym (length-take-le _ (r .last .1 .0) h)
 
 judge-rows-requires : tie.Need-judge-rows-requires
 judge-rows-requires c κs = search needs
