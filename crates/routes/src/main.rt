@@ -1,6 +1,46 @@
-// Reads a domain file on standard input and lists the entries of its routing tables.
+// Reads a domain file on standard input and lists the entries of its routing tables. Where reading or
+// writing fails, one line on standard error says so.
 use tables::TablesGiven;
 use wiring::DomainRead;
+ghost use Rattle.io.specs.Counts.{Counts};
+
+// What reading standard input gives: how many bytes were read, and whether a read failed then.
+struct Input {
+    length: usize,
+    failed: bool,
+}
+
+// One read into the start of the buffer. It reads no byte where the input ends or the read fails.
+fn read_some(buf: &mut [u8]) -> Input
+    ensures { λ r. ⌜ Counts (r .length) (now (buf .exit)) ⌝ }
+{
+    let got = libc::read(0, buf);
+    Input {
+        length: io::count(got, buf),
+        failed: got < 0,
+    }
+}
+
+// Reads until the buffer is full, the input ends or a read fails.
+fn read_input(buf: &mut [u8]) -> Input
+    ensures { λ r. ⌜ Counts (r .length) (now (buf .exit)) ⌝ }
+{
+    let mut n: usize = 0;
+    while n < buf.len() {
+        let more = read_some(&mut buf[n..]);
+        if more.length == 0 {
+            return Input {
+                length: n,
+                failed: more.failed,
+            };
+        }
+        n += more.length;
+    }
+    Input {
+        length: n,
+        failed: false,
+    }
+}
 
 // Writes the lines of the table words of a domain in rows, chunk by chunk until one has no line, and
 // answers whether all were written.
@@ -20,40 +60,51 @@ fn print_lines(rows: &[u64], words: &[u64]) -> bool {
     true
 }
 
-// Writes the lines of all entries, and the totals.
-fn print_tables(file: &[u8], words: &[u64], tables: u64, entries: u64) {
+// Writes the lines of all entries, and the totals, and answers whether all were written.
+fn print_tables(file: &[u8], words: &[u64], tables: u64, entries: u64) -> bool {
     let mut rows = [0u64; 16512];
     let read = wiring::read_domain(file, &mut rows[..]);
     match read {
-        DomainRead::Refused(_) => {}
+        DomainRead::Refused(_) => true,
         DomainRead::Expanders(n) => {
             let e = 258 * (n as usize);
-            if print_lines(&rows[..e], words) {
-                let mut line = [0u8; 80];
-                let end = listing::totals(&mut line, tables, entries);
-                io::write_all(1, &line[..end]);
+            if !print_lines(&rows[..e], words) {
+                return false;
             }
+            let mut line = [0u8; 80];
+            let end = listing::totals(&mut line, tables, entries);
+            io::write_all(1, &line[..end])
         }
+    }
+}
+
+// Writes the listing of a file, or why there is none, and answers whether all was written.
+fn print_listing(file: &[u8]) -> bool {
+    let mut line = [0u8; 80];
+    if file.len() > 65536 {
+        let end = listing::too_long(&mut line);
+        return io::write_all(1, &line[..end]);
+    }
+    let mut words = [0u64; 8192];
+    let given = tables::give_tables(file, &mut words[..]);
+    match given {
+        TablesGiven::Refused(r) => {
+            let end = listing::refused(&mut line, r);
+            io::write_all(1, &line[..end])
+        }
+        TablesGiven::Counts(t, w) => print_tables(file, &words[..], t as u64, w as u64),
     }
 }
 
 // At most 65,536 bytes of input and 8,192 table words.
 fn main() {
     let mut file = [0u8; 65537];
-    let mut line = [0u8; 80];
-    let n = io::read_full(0, &mut file[..]);
-    if n > 65536 {
-        let end = listing::too_long(&mut line);
-        io::write_all(1, &line[..end]);
+    let input = read_input(&mut file[..]);
+    if input.failed {
+        io::write_all(2, b"routes: standard input cannot be read\n");
         return;
     }
-    let mut words = [0u64; 8192];
-    let given = tables::give_tables(&file[..n], &mut words[..]);
-    match given {
-        TablesGiven::Refused(r) => {
-            let end = listing::refused(&mut line, r);
-            io::write_all(1, &line[..end]);
-        }
-        TablesGiven::Counts(t, w) => print_tables(&file[..n], &words[..], t as u64, w as u64),
+    if !print_listing(&file[..input.length]) {
+        io::write_all(2, b"routes: standard output cannot be written\n");
     }
 }

@@ -1,3 +1,4 @@
+-- Meets: nothing but safety. The rows that are listed are those that reading the file wrote.
 use Prim.Native.Nat.{ℕ}
 use mathlib.Core.Path.{sym}
 use native.Mathlib.Omega.{arith}
@@ -45,6 +46,9 @@ slice-aggregate-print-lines c =
 print-lines-requires : tie.Need-print-lines-requires
 print-lines-requires c κs = search needs
 
+returns : tie.Need-returns
+returns c = search needs
+
 totals-requires : tie.Need-totals-requires
 totals-requires c κs = search needs
 
@@ -56,9 +60,6 @@ slice-aggregate-write-all c = search needs
 
 write-all-requires : tie.Need-write-all-requires
 write-all-requires c κs = search needs
-
-returns : tie.Need-returns
-returns c = search needs
 
 returns-2 : tie.Need-returns-2
 returns-2 c = search needs
@@ -79,10 +80,10 @@ print-tables-spec =
     array-share-prefix-rows
     slice-aggregate-print-lines
     print-lines-requires
+    returns
     totals-requires
     array-share-prefix-line
     slice-aggregate-write-all
     write-all-requires
-    returns
     returns-2
     returns-3)
