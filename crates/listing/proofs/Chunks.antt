@@ -1,6 +1,6 @@
 -- How many of some lines a chunk takes, and that the chunks one after the other are all lines.
-use Prim.Native.Nat.{ℕ, zero, suc, _+_, _≤_, _<_, min}
-use mathlib.Core.Path.{_≡_, refl, sym, _∙_, ap}
+use Prim.Native.Nat.{ℕ, zero, suc, _+_, _≤_, _<_}
+use mathlib.Core.Path.{_≡_, refl, sym, _∙_, ap, ap₂}
 use mathlib.Core.Bool.{Bool, true, false, cond}
 use mathlib.Core.List.{List, [], _∷_, _++_, append-assoc}
 use native.Mathlib.Omega.{arith}
@@ -9,69 +9,30 @@ use lib.ListN.{length, getD, drop, drop-of-length-le}
 use lib.Seq.{drop-drop, drop-cons}
 use lib.Dec.{leb}
 use borrow.Author.Tests.{le-leb, lt-leb}
-use Rattle.listing.specs.Lines.{joined, fitting, chunkOf}
-use Rattle.listing.specs.Marks.{lineAt, markedLines}
-
-length-marked : (ms ws : List ℕ) → length (markedLines ms ws) ≡ min (length ms) (length ws)
-unfolding markedLines
-length-marked [] ws = omega arith
-length-marked (m ∷ ms) [] = omega arith
-length-marked (m ∷ ms) (w ∷ ws) = omega (arith, length-marked ms ws)
-
-marked-at : (n : ℕ) (ms ws : List ℕ) → n < length ms → n < length ws
-    → drop n (markedLines ms ws) ≡ lineAt (getD ms n 0) (getD ws n 0) ∷ drop (suc n) (markedLines ms ws)
-unfolding markedLines
-marked-at n [] ws h g = absurd (omega arith)
-marked-at n (m ∷ ms) [] h g = absurd (omega arith)
-marked-at zero (m ∷ ms) (w ∷ ws) h g = refl
-marked-at (suc n) (m ∷ ms) (w ∷ ws) h g = marked-at n ms ws (omega arith) (omega arith)
+use Rattle.wiring.specs.Domain.{Domain}
+use Rattle.tables.specs.Filling.{Put}
+use Rattle.listing.specs.declared.Cursor.{Cursor}
+use Rattle.listing.specs.Text.{lineOf}
+use Rattle.listing.specs.Lines.{Entry, wordLines, joined, fitting, entriesFrom, linesFrom, cursorAt, cursorAfter, chunkFrom, ChunkPut}
+use Rattle.listing.proofs.Cursors.{entries-after}
+use Rattle.listing.proofs.Puts.{Going, go-start, go-turn, go-end, put-within}
+use Rattle.listing.proofs.Numbers.{line-short}
 
 module _ (end : ℕ) where
   fit-go : (l : List ℕ) (ls : List (List ℕ)) → end + 80 ≤ 65536 → fitting end (l ∷ ls) ≡ l ∷ fitting (end + length l) ls
   unfolding fitting
   fit-go l ls h = rw (le-leb (end + 80) 65536 h)
 
-  fit-full : (ls : List (List ℕ)) → 65536 < end + 80 → fitting end ls ≡ []
+  pub fit-full : (ls : List (List ℕ)) → 65456 < end → fitting end ls ≡ []
   unfolding fitting
   fit-full [] h = refl
-  fit-full (l ∷ ls) h = rw (lt-leb (end + 80) 65536 h)
+  fit-full (l ∷ ls) h = rw (lt-leb (end + 80) 65536 (omega arith))
 
-module _ (ms ws : List ℕ) (n end : ℕ) where
-  -- one line more
-  pub chunk-next : n < length ms → n < length ws → end ≤ 65456
-      → fitting end (drop n (markedLines ms ws))
-      ≡ lineAt (getD ms n 0) (getD ws n 0) ∷ fitting (end + length (lineAt (getD ms n 0) (getD ws n 0))) (drop (n + 1) (markedLines ms ws))
-  chunk-next h g e =
-      let q : drop n (markedLines ms ws) ≡ lineAt (getD ms n 0) (getD ws n 0) ∷ drop (n + 1) (markedLines ms ws) = rw add-one (marked-at n ms ws h g) in
-      ap (fitting end) q ∙ fit-go end (lineAt (getD ms n 0) (getD ws n 0)) (drop (n + 1) (markedLines ms ws)) (omega arith)
-
-  -- no word is left
-  pub chunk-last : min (length ms) (length ws) ≤ n → fitting end (drop n (markedLines ms ws)) ≡ []
-  unfolding fitting
-  chunk-last h =
-      let g : length (markedLines ms ws) ≤ n = omega (arith, length-marked ms ws) in
-      ap (fitting end) (drop-of-length-le (markedLines ms ws) g)
-
-  -- no room is left
-  pub chunk-full : 65456 < end → fitting end (drop n (markedLines ms ws)) ≡ []
-  chunk-full h = fit-full end (drop n (markedLines ms ws)) (omega arith)
-
--- the text and the number of lines left
-pub joined-next : (ls : List (List ℕ)) (l : List ℕ) (rest : List (List ℕ)) → ls ≡ l ∷ rest → joined ls ≡ l ++ joined rest
-unfolding joined
-joined-next ls l rest e = ap joined e
-
-pub joined-none : (ls : List (List ℕ)) → ls ≡ [] → joined ls ≡ []
-unfolding joined
-joined-none ls e = ap joined e
-
-pub chunk-count : (n v : ℕ) (ls : List (List ℕ)) (l : List ℕ) (rest : List (List ℕ)) → ls ≡ l ∷ rest → n + length ls ≡ v → n + 1 + length rest ≡ v
-chunk-count n v ls l rest e q = omega (arith, ap length e)
-
-joined-append : (ls ms : List (List ℕ)) → joined (ls ++ ms) ≡ joined ls ++ joined ms
-unfolding joined
-joined-append [] ms = refl
-joined-append (l ∷ ls) ms = ap (λ (x : List ℕ). l ++ x) (joined-append ls ms) ∙ sym (append-assoc l (joined ls) (joined ms))
+fit-line : (end : ℕ) (e : Entry) (es : List Entry) (w : ℕ) (ws : List ℕ) → end ≤ 65456
+    → fitting end (wordLines (e ∷ es) (w ∷ ws))
+    ≡ lineOf (e .expander) (e .phy) (e .index) w ∷ fitting (end + length (lineOf (e .expander) (e .phy) (e .index) w)) (wordLines es ws)
+unfolding wordLines
+fit-line end e es w ws h = fit-go end (lineOf (e .expander) (e .phy) (e .index) w) (wordLines es ws) (omega arith)
 
 fit-rest : (end : ℕ) (ls : List (List ℕ)) → fitting end ls ++ drop (length (fitting end ls)) ls ≡ ls
 unfolding fitting
@@ -83,17 +44,124 @@ fit-rest end (l ∷ ls) = go (leb (end + 80) 65536) (fit-rest (end + length l) l
     go true q = ap (λ (x : List (List ℕ)). l ∷ x) q
     go false q = refl
 
-module _ (ls : List (List ℕ)) (from : ℕ) where
-  -- the text of a chunk, and then that of the lines after it, is the text of all lines from `from` on
-  pub chunk-rest : joined (chunkOf ls from) ++ joined (drop (from + length (chunkOf ls from)) ls) ≡ joined (drop from ls)
+joined-append : (ls ms : List (List ℕ)) → joined (ls ++ ms) ≡ joined ls ++ joined ms
+unfolding joined
+joined-append [] ms = refl
+joined-append (l ∷ ls) ms = ap (λ (x : List ℕ). l ++ x) (joined-append ls ms) ∙ sym (append-assoc l (joined ls) (joined ms))
+
+joined-next : (ls : List (List ℕ)) (l : List ℕ) (rest : List (List ℕ)) → ls ≡ l ∷ rest → joined ls ≡ l ++ joined rest
+unfolding joined
+joined-next ls l rest e = ap joined e
+
+joined-none : (ls : List (List ℕ)) → ls ≡ [] → joined ls ≡ []
+unfolding joined
+joined-none ls e = ap joined e
+
+text-some : (ls : List (List ℕ)) → 0 < length (joined ls) → 0 < length ls
+unfolding joined
+text-some [] h = absurd (omega arith)
+text-some (l ∷ ls) h = omega arith
+
+lines-none : (es : List Entry) → wordLines es [] ≡ []
+unfolding wordLines
+lines-none [] = refl
+lines-none (e ∷ es) = refl
+
+-- where no word is left there is no line, as where no entry is
+pub lines-end : (end : ℕ) (es : List Entry) (ws : List ℕ) (w : ℕ) → length ws ≤ w → fitting end (wordLines es (drop w ws)) ≡ []
+unfolding fitting
+lines-end end es ws w h = ap (λ (x : List ℕ). fitting end (wordLines es x)) (drop-of-length-le ws h) ∙ ap (fitting end) (lines-none es)
+
+pub entries-end : (end : ℕ) (es : List Entry) (ws : List ℕ) → es ≡ [] → fitting end (wordLines es ws) ≡ []
+unfolding fitting wordLines
+entries-end end es ws q = ap (λ (x : List Entry). fitting end (wordLines x ws)) q
+
+-- with as many entries and words left out, as many lines are
+lines-drop : (n : ℕ) (es : List Entry) (ws : List ℕ) → wordLines (drop n es) (drop n ws) ≡ drop n (wordLines es ws)
+unfolding wordLines
+lines-drop zero es ws = refl
+lines-drop (suc n) [] ws = refl
+lines-drop (suc n) (e ∷ es) [] = lines-none (drop n es)
+lines-drop (suc n) (e ∷ es) (w ∷ ws) = lines-drop n es ws
+
+at-word : (d : Domain) (es : List Entry) (w : ℕ) → cursorAt d es w .word ≡ w
+at-word d [] w = refl
+at-word d (e ∷ es) w = refl
+
+module _ (ws : List ℕ) where
+  -- the lines that still fit, of the entries es with the words from word w on, after `end` bytes
+  abbrev toPut : List Entry → ℕ → ℕ → List (List ℕ)
+  toPut es w end = fitting end (wordLines es (drop w ws))
+
+  -- on the way: what is left to put of the lines of es₀, and where that ends
+  pub record Putting (es₀ : List Entry) (w₀ : ℕ) (out₀ : List ℕ) (es : List Entry) (w : ℕ) (out : List ℕ) (end : ℕ) : Type 0 where
+    pub entries : drop (length (toPut es w end)) es ≡ drop (length (toPut es₀ w₀ 0)) es₀
+    pub word : w + length (toPut es w end) ≡ w₀ + length (toPut es₀ w₀ 0)
+    pub text : Going out₀ 0 (joined (toPut es₀ w₀ 0)) out end (joined (toPut es w end))
+
+  pub putting-start : {es : List Entry} {w : ℕ} {out : List ℕ} → Putting es w out es w out 0
+  putting-start = record { entries = refl; word = refl; text = go-start }
+
+  pub putting-same : {es₀ : List Entry} {w₀ : ℕ} {out₀ : List ℕ} {es es' : List Entry} {w w' : ℕ} {out : List ℕ} {end : ℕ}
+      → es ≡ es' → w ≡ w' → Putting es₀ w₀ out₀ es w out end → Putting es₀ w₀ out₀ es' w' out end
+  putting-same e f g = rw (e, f) at g
+
+  module _ {es₀ : List Entry} {w₀ : ℕ} {out₀ : List ℕ} {es : List Entry} {w : ℕ} {out : List ℕ} {end : ℕ} (g : Putting es₀ w₀ out₀ es w out end) where
+    -- one line more
+    pub putting-line : {out' : List ℕ} {end' : ℕ} (e : Entry) (es' : List Entry) → es ≡ e ∷ es' → w < length ws → end ≤ 65456
+        → end + 80 ≤ length out → Put out out' end end' (lineOf (e .expander) (e .phy) (e .index) (getD ws w 0))
+        → Putting es₀ w₀ out₀ es' (w + 1) out' end'
+    putting-line {out'} {end'} e es' q h f room u =
+        let l : List ℕ = lineOf (e .expander) (e .phy) (e .index) (getD ws w 0) in
+        let c : drop w ws ≡ getD ws w 0 ∷ drop (w + 1) ws = rw add-one (drop-cons ws w 0 h) in
+        let t : toPut es w end ≡ l ∷ toPut es' (w + 1) end' =
+        ap₂ (λ (x : List Entry) (y : List ℕ). fitting end (wordLines x y)) q c ∙ fit-line end e es' (getD ws w 0) (drop (w + 1) ws) f
+        ∙ ap (λ (n : ℕ). l ∷ fitting n (wordLines es' (drop (w + 1) ws))) (sym (u .next)) in
+        record {
+          entries = sym (ap₂ (λ (x : List (List ℕ)) (y : List Entry). drop (length x) y) t q) ∙ g .entries;
+          word = omega (arith, ap length t, g .word);
+          text = go-turn (g .text) _ u (joined-next _ _ _ t) (omega (arith, line-short (e .expander) (e .phy) (e .index) (getD ws w 0)));
+        }
+
+module _ {d : Domain} {ws : List ℕ} {from : Cursor} {out₀ : List ℕ} {es : List Entry} {w : ℕ} {out : List ℕ} {end : ℕ}
+    (g : Putting ws (entriesFrom d from) (from .word) out₀ es w out end) where
+  -- no line more: the chunk is put, and the cursor that remains stands at the entries left
+  pub putting-end : (next : Cursor) → next ≡ cursorAt d es w → toPut ws es w end ≡ [] → end ≤ length out₀ → ChunkPut d ws from out₀ out next end
+  putting-end next c q h =
+      let n : ℕ = length (chunkFrom d ws from) in
+      let a : es ≡ drop n (entriesFrom d from) = sym (ap (λ (x : List (List ℕ)). drop (length x) es) q) ∙ g .entries in
+      let b : w ≡ from .word + n = omega (arith, ap length q, g .word) in
+      let t = go-end (g .text) (joined-none _ q) in
+      record { text = t; counts = put-within t h; place = c ∙ ap₂ (cursorAt d) a b }
+
+-- a chunk that has text moves the cursor on to a later word
+pub chunk-moves : {d : Domain} {ws : List ℕ} {from next : Cursor} {before after : List ℕ} {end : ℕ}
+    → ChunkPut d ws from before after next end → 0 < end → from .word < next .word
+chunk-moves {d} {ws} {from} u h =
+    let n : ℕ = length (chunkFrom d ws from) in
+    let w = ap (λ (x : Cursor). x .word) (u .place) ∙ at-word d (drop n (entriesFrom d from)) (from .word + n) in
+    omega (arith, text-some (chunkFrom d ws from) (omega (arith, u .text .next)))
+
+module _ (d : Domain) (ws : List ℕ) (from : Cursor) where
+  -- the lines from the cursor so many lines on are those that were not put
+  pub lines-after : (n : ℕ) → linesFrom d ws (cursorAfter d from n) ≡ drop n (linesFrom d ws from)
+  lines-after n =
+      let es : List Entry = entriesFrom d from in
+      ap₂ (λ (x : List Entry) (w : ℕ). wordLines x (drop w ws)) (entries-after d from n) (at-word d (drop n es) (from .word + n))
+      ∙ ap (wordLines (drop n es)) (sym (drop-drop n (from .word) ws)) ∙ lines-drop n es (drop (from .word) ws)
+
+  -- the text of a chunk, and then that of the lines from the cursor after it, is the text of all lines
+  pub chunk-rest : joined (chunkFrom d ws from) ++ joined (linesFrom d ws (cursorAfter d from (length (chunkFrom d ws from))))
+      ≡ joined (linesFrom d ws from)
   chunk-rest =
-      let n : ℕ = length (chunkOf ls from) in
-      ap (λ (x : List (List ℕ)). joined (chunkOf ls from) ++ joined x) (sym (drop-drop n from ls))
-      ∙ sym (joined-append (chunkOf ls from) (drop n (drop from ls))) ∙ ap joined (fit-rest 0 (drop from ls))
+      let ls : List (List ℕ) = chunkFrom d ws from in
+      ap (λ (x : List (List ℕ)). joined ls ++ joined x) (lines-after (length ls))
+      ∙ sym (joined-append ls (drop (length ls) (linesFrom d ws from))) ∙ ap joined (fit-rest 0 (linesFrom d ws from))
 
   -- a chunk has a line where one is left
-  pub chunk-some : from < length ls → 0 < length (chunkOf ls from)
-  chunk-some h =
-      let e = drop-cons ls from [] h in
-      let f = ap (fitting 0) e ∙ fit-go 0 (getD ls from []) (drop (suc from) ls) (omega arith) in
-      omega (arith, ap length f)
+  pub chunk-some : 0 < length (linesFrom d ws from) → 0 < length (chunkFrom d ws from)
+  chunk-some h = some (linesFrom d ws from) h
+    where
+      some : (ls : List (List ℕ)) → 0 < length ls → 0 < length (fitting 0 ls)
+      some [] h = absurd (omega arith)
+      some (l ∷ ls) h = omega (arith, ap length (fit-go 0 l ls (omega arith)))

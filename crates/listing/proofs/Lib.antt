@@ -1,6 +1,5 @@
 pub mod Puts
 pub mod Numbers
-pub mod Marking
-pub mod Unpacking
+pub mod Cursors
 pub mod Chunks
 pub mod Listing

@@ -1,6 +1,7 @@
 -- What is listed: for each word of each table its expander, phy, index and entry, in the order of the tables, then the totals.
 use Prim.Native.Nat.{ℕ, zero, suc, _+_, _*_, _≤_, _<_}
 use mathlib.Core.Path.{_≡_, refl, sym, _∙_, ap, ap₂}
+use mathlib.Core.Bool.{Bool, true, false, cond}
 use mathlib.Core.List.{List, [], _∷_, _++_, flatMap, append-assoc}
 use native.Mathlib.Omega.{arith}
 use lib.ListN.{length, getD, take, drop, length-append}
@@ -8,19 +9,22 @@ use lib.Seq.{take-at, drop-at}
 use borrow.Author.Tests.{le-leb}
 use Rattle.wiring.specs.Frames.{Result, good}
 use Rattle.wiring.specs.declared.DomainRead.the-variants.{Expanders}
-use Rattle.wiring.specs.Domain.{Domain, expanderAt}
-use Rattle.wiring.specs.Causes.{Place}
+use Rattle.wiring.specs.Lists.{keep}
+use Rattle.wiring.specs.Domain.{Domain, expanderAt, phyAt, routes}
+use Rattle.wiring.specs.Causes.{Place, places}
 use Rattle.wiring.specs.Rows.{domainIn, RowsRead}
 use Rattle.wiring.proofs.Results.{good-one, then-good}
 use Rattle.wiring.proofs.Accepted.{wired-read}
 use Rattle.wiring.proofs.Opening.{opened}
-use Rattle.tables.specs.Tables.{table, tablePlaces, tables, needed}
+use Rattle.tables.specs.Tables.{table, tablePlaces, tables, size, needed}
+use Rattle.tables.specs.Filling.{withTables}
 use Rattle.tables.specs.Judge.{judged, tableCall, Counted, countsIn, wordsAfter, TablesDone}
 use Rattle.tables.specs.declared.TablesGiven.the-variants.{Counts}
 use Rattle.tables.proofs.Tables.{table-length, tables-length}
 use Rattle.tables.proofs.Given.{judged-wired, tableCall-iff}
 use Rattle.listing.specs.Text.{lineOf, totalsOf}
-use Rattle.listing.specs.Lines.{tableLines, placeLines, linesOf, joined, entryLines, listingOf}
+use Rattle.listing.specs.Lines.{Entry, tableEntries, placeEntries, wordLines, linesFrom, cursor, tableLines, joined, entryLines, listingOf}
+use Rattle.listing.proofs.Cursors.{expander-on}
 
 -- line k of a table's words says index k and word k
 pub entry-line : (i p from : ℕ) (ws : List ℕ) (k : ℕ) → k < length ws → getD (tableLines i p from ws) k [] ≡ lineOf i p (from + k) (getD ws k 0)
@@ -35,6 +39,13 @@ length-lines : (i p from : ℕ) (ws : List ℕ) → length (tableLines i p from 
 unfolding tableLines
 length-lines i p from [] = refl
 length-lines i p from (w ∷ ws) = ap suc (length-lines i p (from + 1) ws)
+
+-- the lines of a table's words
+table-words : (i p k : ℕ) (t : List ℕ) (es : List Entry) (ws : List ℕ)
+    → wordLines (tableEntries i p k (length t) ++ es) (t ++ ws) ≡ tableLines i p k t ++ wordLines es ws
+unfolding wordLines tableEntries tableLines
+table-words i p k [] es ws = refl
+table-words i p k (w ∷ t) es ws = ap (λ (ls : List (List ℕ)). lineOf i p k w ∷ ls) (table-words i p (k + 1) t es ws)
 
 module _ (d : Domain) where
   length-places : (qs : List Place)
@@ -52,31 +63,38 @@ module _ (d : Domain) where
   lines-needed = length-places (tablePlaces d) ∙ tables-length d
 
   place-lines : (qs : List Place) (rest : List ℕ)
-      → placeLines d qs (flatMap (λ q. table d (q .expander) (q .phy)) qs ++ rest)
-      ≡ flatMap (λ q. tableLines (q .expander) (q .phy) 0 (table d (q .expander) (q .phy))) qs
-  unfolding placeLines flatMap
+      → wordLines (placeEntries d qs) (flatMap (λ q. table d (q .expander) (q .phy)) (withTables d qs) ++ rest)
+      ≡ flatMap (λ q. tableLines (q .expander) (q .phy) 0 (table d (q .expander) (q .phy))) (withTables d qs)
+  unfolding wordLines placeEntries tableEntries size keep flatMap
   place-lines [] rest = refl
-  place-lines (q ∷ qs) rest =
-      let i : ℕ = q .expander in
-      let p : ℕ = q .phy in
-      let ts : List ℕ = flatMap (λ q. table d (q .expander) (q .phy)) qs in
-      let n = table-length d i p in
-      let a = append-assoc (table d i p) ts rest in
-      let t = ap (take (expanderAt d i .indexes)) a ∙ take-at (table d i p) (ts ++ rest) _ n in
-      let u = ap (drop (expanderAt d i .indexes)) a ∙ drop-at (table d i p) (ts ++ rest) _ n in
-      ap₂ (λ (x y : List (List ℕ)). x ++ y) (ap (tableLines i p 0) t) (ap (placeLines d qs) u ∙ place-lines qs rest)
+  place-lines (q ∷ qs) rest = go (routes 2 (phyAt d (q .expander) (q .phy))) (place-lines qs rest)
+    where
+      go : (b : Bool)
+          → wordLines (placeEntries d qs) (flatMap (λ q. table d (q .expander) (q .phy)) (withTables d qs) ++ rest)
+          ≡ flatMap (λ q. tableLines (q .expander) (q .phy) 0 (table d (q .expander) (q .phy))) (withTables d qs)
+          → wordLines (tableEntries (q .expander) (q .phy) 0 (cond b (expanderAt d (q .expander) .indexes) 0) ++ placeEntries d qs)
+          (flatMap (λ q. table d (q .expander) (q .phy)) (cond b (q ∷ withTables d qs) (withTables d qs)) ++ rest)
+          ≡ flatMap (λ q. tableLines (q .expander) (q .phy) 0 (table d (q .expander) (q .phy))) (cond b (q ∷ withTables d qs) (withTables d qs))
+      go true h =
+          let i : ℕ = q .expander in
+          let p : ℕ = q .phy in
+          let t : List ℕ = table d i p in
+          let ts : List ℕ = flatMap (λ q. table d (q .expander) (q .phy)) (withTables d qs) in
+          ap₂ (λ (n : ℕ) (ws : List ℕ). wordLines (tableEntries i p 0 n ++ placeEntries d qs) ws) (sym (table-length d i p)) (append-assoc t ts rest)
+          ∙ table-words i p 0 t (placeEntries d qs) (ts ++ rest) ∙ ap (λ (ls : List (List ℕ)). tableLines i p 0 t ++ ls) h
+      go false h = h
 
   -- words that begin with the domain's tables
-  pub tables-lines : (rest : List ℕ) → needed d ≤ 8192 → linesOf d (tables d ++ rest) ≡ entryLines d
-  unfolding linesOf tables entryLines
-  tables-lines rest h = rw (le-leb (needed d) 8192 h) (place-lines (tablePlaces d) rest)
+  pub tables-lines : (rest : List ℕ) → linesFrom d (tables d ++ rest) (cursor 0 0 0 0) ≡ entryLines d
+  unfolding tables entryLines tablePlaces
+  tables-lines rest = ap (λ (es : List Entry). wordLines es (tables d ++ rest)) (sym (expander-on d 0)) ∙ place-lines (places d) rest
 
 -- what `routes` lists of an accepted file: its lines, and the lines and totals as one text
 pub record Listed (file : List ℕ) (t w : ℕ) (rows words : List ℕ) : Type 0 where
   pub domain : Domain
   pub accepted : judged file ≡ good domain
-  pub lines : linesOf (domainIn rows) words ≡ entryLines domain
-  pub text : joined (linesOf (domainIn rows) words) ++ totalsOf t w ≡ listingOf domain
+  pub lines : linesFrom (domainIn rows) words (cursor 0 0 0 0) ≡ entryLines domain
+  pub text : joined (linesFrom (domainIn rows) words (cursor 0 0 0 0)) ++ totalsOf t w ≡ listingOf domain
 
 -- from what `read_domain` and `give_tables` promise
 pub listed : (file before after lent words : List ℕ) (n t w : ℕ) → length before ≡ 16512 → length lent ≡ 8192
@@ -91,8 +109,8 @@ listed file before after lent words n t w eb el r g =
     let e : domainIn (take (258 * n) after) ≡ d = good-one _ _ (sym (o .0) ∙ wired-read file d (judged-wired file d (c .0))) in
     let f = good-one _ _ (a .2) in
     let q : words ≡ tables d ++ drop (needed d) lent = g .words ∙ ap (λ (x : Result Domain). wordsAfter x lent) (a .1) in
-    let l : linesOf (domainIn (take (258 * n) after)) words ≡ entryLines d =
-    ap₂ linesOf e q ∙ tables-lines d (drop (needed d) lent) (omega (arith, c .1)) in
+    let l : linesFrom (domainIn (take (258 * n) after)) words (cursor 0 0 0 0) ≡ entryLines d =
+    ap₂ (λ (x : Domain) (y : List ℕ). linesFrom x y (cursor 0 0 0 0)) e q ∙ tables-lines d (drop (needed d) lent) in
     record {
       domain = d;
       accepted = c .0;

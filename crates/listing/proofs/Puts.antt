@@ -4,16 +4,13 @@ use mathlib.Core.Path.{_≡_, refl, sym, _∙_, ap}
 use mathlib.Core.List.{List, [], _∷_, _++_}
 use native.Mathlib.Omega.{arith}
 use native.Mathlib.Numerals.{add-one}
-use lib.ListN.{length, getD, take, drop, set, length-append, length-set}
-use lib.Seq.{take-at, drop-cons, length-take-le, set-split}
+use lib.ListN.{length, getD, drop, set, length-append, length-set}
+use lib.Seq.{drop-cons, length-take-le, set-split}
 use Rattle.io.specs.Counts.{Counts}
 use Rattle.tables.specs.Filling.{overlay, Put}
 use Rattle.tables.proofs.Puts.{overlay-none, overlay-next}
 
--- nothing, one element, and the same by an equation
-pub put-none : (ws : List ℕ) (at : ℕ) → Put ws ws at at []
-put-none ws at = record { same = refl; next = omega arith; words = sym (overlay-none ws at) }
-
+-- one element, and the same by an equation
 pub put-one : (ws : List ℕ) (at v : ℕ) → at < length ws → Put ws (set ws at v) at (at + 1) (v ∷ [])
 unfolding overlay
 put-one ws at v h =
@@ -44,11 +41,6 @@ put-within {before} {after} {x} {at} {r} u h =
     let l : r ≤ length after = omega arith in
     (l, sym (length-take-le r after l))
 
--- what was put at the front
-pub put-front : {before after x : List ℕ} {r : ℕ} → Put before after 0 r x → take r after ≡ x
-unfolding overlay
-put-front {before} {after} {x} {r} u = ap (take r) (u .words) ∙ take-at x (drop (0 + length x) before) r (omega (arith, u .next))
-
 -- on the way: `all` goes from `at` on, and `rest` of it is left to put, from `to` on
 pub record Going (before : List ℕ) (at : ℕ) (all now : List ℕ) (to : ℕ) (rest : List ℕ) : Type 0 where
   pub same : length now ≡ length before
@@ -57,10 +49,6 @@ pub record Going (before : List ℕ) (at : ℕ) (all now : List ℕ) (to : ℕ) 
 
 pub go-start : {before all : List ℕ} {at : ℕ} → Going before at all before at all
 go-start = record { same = refl; left = refl; words = refl }
-
-pub go-from : {before all all' : List ℕ} {at : ℕ} → all ≡ all' → Going before at all before at all'
-go-from {before} {all} {all'} {at} e =
-    record { same = refl; left = ap (λ (l : List ℕ). at + length l) (sym e); words = ap (overlay before at) (sym e) }
 
 module _ {before all now rest : List ℕ} {at to : ℕ} (g : Going before at all now to rest) where
   -- the next piece has room where all has

@@ -1,16 +1,28 @@
 // The text of routing tables: a line for each table word, the line of totals, the refusal line, and the
 // line for an input that is too long.
+mod entries;
 mod lines;
-mod marks;
 mod text;
 
+use frames::ExpanderNumber;
+use frames::PhyId;
+use frames::RouteIndex;
 pub use lines::put_chunk;
+pub use lines::start;
 pub use text::refused;
 pub use text::too_long;
 pub use text::totals;
 
-// What putting a chunk of lines answers: the number of the next line, and the place after the text.
+// Where a listing goes on: an entry of a routing table, and the number of its word.
+pub struct Cursor {
+    pub expander: ExpanderNumber,
+    pub phy: PhyId,
+    pub index: RouteIndex,
+    pub word: usize,
+}
+
+// What putting a chunk of lines answers: where the listing goes on, and the place after the text.
 pub struct Chunk {
-    pub next: usize,
+    pub next: Cursor,
     pub end: usize,
 }

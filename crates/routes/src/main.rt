@@ -46,16 +46,16 @@ fn read_input(buf: &mut [u8]) -> Input
 // answers whether all were written.
 fn print_lines(rows: &[u64], words: &[u64]) -> bool {
     let mut out = io::large_buffer();
-    let mut next: usize = 0;
-    while next < words.len() {
-        let chunk = listing::put_chunk(rows, words, next, &mut out);
-        if chunk.next == next {
+    let mut at = listing::start();
+    while at.word < words.len() {
+        let chunk = listing::put_chunk(rows, words, at, &mut out);
+        if chunk.end == 0 {
             return true;
         }
         if !io::write_all(1, &out[..chunk.end]) {
             return false;
         }
-        next = chunk.next;
+        at = chunk.next;
     }
     true
 }

@@ -1,19 +1,24 @@
+-- Meets: nothing but safety, and that it ends: a chunk that has text moves the cursor on to a later word.
 use Prim.Native.Nat.{_-_}
 use mathlib.Core.Path.{_≡_}
 use borrow.Author.Needs.{needs}
 use native.Mathlib.Omega.{arith}
 use lib.ListN.{length}
+use Rattle.listing.proofs.Chunks.{chunk-moves}
 use Rattle.routes.proofs.print_lines.Statement.{statement}
 use Rattle.routes.proofs.print_lines.Tie as tie
 
 abbrev Inv-loop : tie.InvT-loop
-Inv-loop rows words out₀ next₀ out next = 65536 ≡ length out
+Inv-loop rows words out₀ at₀ out at = 65536 ≡ length out
 
 abbrev μ-loop : tie.MeasureT-loop
-μ-loop rows words out₀ next₀ out next = length words - next
+μ-loop rows words out₀ at₀ out at = length words - at .word
 
 large-buffer-requires : tie.Need-large-buffer-requires Inv-loop μ-loop
 large-buffer-requires c κs = search needs
+
+start-requires : tie.Need-start-requires Inv-loop μ-loop
+start-requires c κs = search needs
 
 loop-holds : tie.Need-loop-holds Inv-loop μ-loop
 loop-holds c = search needs
@@ -41,31 +46,16 @@ returns-2 c = search needs
 
 loop-less : tie.Need-loop-less Inv-loop μ-loop
 loop-less c =
-    let f = c .before .before .before .before .before .put-chunk .ensures in
-    omega (arith, f .line)
+    let m = chunk-moves (c .before .before .before .before .before .before .put-chunk .ensures) (omega arith) in
+    omega arith
 
 loop-again : tie.Need-loop-again Inv-loop μ-loop
 loop-again c =
-    let s = c .before .before .before .before .before .put-chunk .ensures .text .same in
+    let s = c .before .before .before .before .before .before .put-chunk .ensures .text .same in
     omega arith
 
 returns-3 : tie.Need-returns-3 Inv-loop μ-loop
 returns-3 c = search needs
 
 pub print-lines-spec : {M : Type 1} → statement M
-print-lines-spec =
-    tie.close
-    (tie.spec
-    Inv-loop
-    μ-loop
-    large-buffer-requires
-    loop-holds
-    put-chunk-requires
-    returns
-    array-share-prefix-out
-    slice-aggregate-write-all
-    write-all-requires
-    returns-2
-    loop-less
-    loop-again
-    returns-3)
+print-lines-spec = tie.close (tie.spec Inv-loop μ-loop large-buffer-requires start-requires loop-holds put-chunk-requires returns array-share-prefix-out slice-aggregate-write-all write-all-requires returns-2 loop-less loop-again returns-3)

@@ -1,0 +1,60 @@
+// The entries of routing tables, by expander, then phy, then index.
+use crate::Cursor;
+use frames::ExpanderNumber;
+use frames::PhyId;
+use frames::RouteIndex;
+ghost use mathlib.Core.Path.{_≡_};
+ghost use Prim.Native.Nat.{_+_, _<_, _^_};
+ghost use lib.ListN.{length};
+ghost use Rattle.wiring.specs.Causes.{place};
+ghost use Rattle.wiring.specs.Rows.{domainIn};
+ghost use Rattle.tables.specs.Tables.{size};
+ghost use Rattle.listing.specs.Lines.{cursor, nextPlace};
+
+// How many entries the phy of a cursor has: none where it is no table phy.
+pub(crate) fn entry_count(rows: &[u64], at: Cursor) -> u16
+    ensures { λ r. ⌜ r ≡ size (domainIn (now (rows .entry))) (place (at .expander .0) (at .phy .0)) ⌝ }
+{
+    let i = ExpanderNumber(at.expander.0);
+    let p = PhyId(at.phy.0);
+    if wiring::phy_attribute(wiring::phy_at(rows, i, p)) == 2 {
+        return wiring::index_count(rows, i);
+    }
+    0
+}
+
+// The next index of the same phy, with the next word.
+pub(crate) fn next_index(at: Cursor) -> Cursor
+    requires { ⌜ at .index .0 + 1 < 2 ^ 16 ⌝ }
+    requires { ⌜ at .word + 1 < 2 ^ 64 ⌝ }
+    ensures { λ r. ⌜ r ≡ cursor (at .expander .0) (at .phy .0) (at .index .0 + 1) (at .word + 1) ⌝ }
+{
+    Cursor {
+        expander: ExpanderNumber(at.expander.0),
+        phy: PhyId(at.phy.0),
+        index: RouteIndex(at.index.0 + 1),
+        word: at.word + 1,
+    }
+}
+
+// Index 0 of the next phy, or of the next expander where this one has no more phys.
+pub(crate) fn next_place(rows: &[u64], at: Cursor) -> Cursor
+    requires { ⌜ at .expander .0 < length (domainIn (now rows)) ⌝ }
+    ensures { λ r. ⌜ r ≡ nextPlace (domainIn (now (rows .entry))) at ⌝ }
+{
+    let i = ExpanderNumber(at.expander.0);
+    if at.phy.0 < wiring::phy_count(rows, i) {
+        return Cursor {
+            expander: i,
+            phy: PhyId(at.phy.0 + 1),
+            index: RouteIndex(0),
+            word: at.word,
+        };
+    }
+    Cursor {
+        expander: ExpanderNumber(at.expander.0 + 1),
+        phy: PhyId(0),
+        index: RouteIndex(0),
+        word: at.word,
+    }
+}
