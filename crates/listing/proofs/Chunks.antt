@@ -3,9 +3,11 @@ use Prim.Native.Nat.{ℕ, zero, suc, _+_, _≤_, _<_}
 use mathlib.Core.Path.{_≡_, refl, sym, _∙_, ap, ap₂}
 use mathlib.Core.Bool.{Bool, true, false, cond}
 use mathlib.Core.List.{List, [], _∷_, _++_, append-assoc}
+use mathlib.Core.Logic.{by-cases}
+use native.Mathlib.Decide.{decLt}
 use native.Mathlib.Omega.{arith}
 use native.Mathlib.Numerals.{add-one}
-use lib.ListN.{length, getD, drop, drop-of-length-le}
+use lib.ListN.{length, getD, drop, length-drop, drop-of-length-le}
 use lib.Seq.{drop-drop, drop-cons}
 use lib.Dec.{leb}
 use borrow.Author.Tests.{le-leb, lt-leb}
@@ -13,7 +15,7 @@ use Rattle.wiring.specs.Domain.{Domain}
 use Rattle.tables.specs.Filling.{Put}
 use Rattle.listing.specs.declared.Cursor.{Cursor}
 use Rattle.listing.specs.Text.{lineOf}
-use Rattle.listing.specs.Lines.{Entry, wordLines, joined, fitting, entriesFrom, linesFrom, cursorAt, cursorAfter, chunkFrom, ChunkPut}
+use Rattle.listing.specs.Lines.{Entry, wordLines, joined, fitting, entriesFrom, linesFrom, cursorAt, cursorAfter, chunkFrom, chunksFrom, ChunkPut}
 use Rattle.listing.proofs.Cursors.{entries-after}
 use Rattle.listing.proofs.Puts.{Going, go-start, go-turn, go-end, put-within}
 use Rattle.listing.proofs.Numbers.{line-short}
@@ -56,6 +58,10 @@ joined-next ls l rest e = ap joined e
 joined-none : (ls : List (List ℕ)) → ls ≡ [] → joined ls ≡ []
 unfolding joined
 joined-none ls e = ap joined e
+
+no-element : (ls : List (List ℕ)) → length ls ≡ 0 → ls ≡ []
+no-element [] h = refl
+no-element (l ∷ ls) h = absurd (omega arith)
 
 text-some : (ls : List (List ℕ)) → 0 < length (joined ls) → 0 < length ls
 unfolding joined
@@ -165,3 +171,15 @@ module _ (d : Domain) (ws : List ℕ) (from : Cursor) where
       some : (ls : List (List ℕ)) → 0 < length ls → 0 < length (fitting 0 ls)
       some [] h = absurd (omega arith)
       some (l ∷ ls) h = omega (arith, ap length (fit-go 0 l ls (omega arith)))
+
+-- as many chunks as there are lines, or more, are the text of all lines
+pub all-chunks : (n : ℕ) (d : Domain) (ws : List ℕ) (c : Cursor) → length (linesFrom d ws c) ≤ n → chunksFrom d ws c n ≡ joined (linesFrom d ws c)
+unfolding chunksFrom
+all-chunks zero d ws c h = sym (joined-none (linesFrom d ws c) (no-element (linesFrom d ws c) (omega arith)))
+all-chunks (suc n) d ws c h =
+    let k : ℕ = length (chunkFrom d ws c) in
+    let l = ap length (lines-after d ws c k) ∙ length-drop k (linesFrom d ws c) in
+    let s : 0 < length (linesFrom d ws c) → 0 < k = chunk-some d ws c in
+    let f : length (linesFrom d ws (cursorAfter d c k)) ≤ n =
+    by-cases (decLt 0 (length (linesFrom d ws c))) (λ g. omega (arith, s g)) (λ g. omega arith) in
+    ap (λ (x : List ℕ). joined (chunkFrom d ws c) ++ x) (all-chunks n d ws (cursorAfter d c k) f) ∙ chunk-rest d ws c

@@ -5,8 +5,6 @@ use mathlib.Core.Bool.{Bool, true, false, cond}
 use mathlib.Core.List.{List, [], _∷_, _++_, flatMap, append-assoc}
 use native.Mathlib.Omega.{arith}
 use lib.ListN.{length, getD, take, drop, length-append}
-use lib.Seq.{take-at, drop-at}
-use borrow.Author.Tests.{le-leb}
 use Rattle.wiring.specs.Frames.{Result, good}
 use Rattle.wiring.specs.declared.DomainRead.the-variants.{Expanders}
 use Rattle.wiring.specs.Lists.{keep}
@@ -23,7 +21,8 @@ use Rattle.tables.specs.declared.TablesGiven.the-variants.{Counts}
 use Rattle.tables.proofs.Tables.{table-length, tables-length}
 use Rattle.tables.proofs.Given.{judged-wired, tableCall-iff}
 use Rattle.listing.specs.Text.{lineOf, totalsOf}
-use Rattle.listing.specs.Lines.{Entry, tableEntries, placeEntries, wordLines, linesFrom, cursor, tableLines, joined, entryLines, listingOf}
+use Rattle.listing.specs.Lines.{Entry, tableEntries, placeEntries, wordLines, linesFrom, cursor, tableLines, joined, chunksFrom, entryLines, listingOf}
+use Rattle.listing.proofs.Chunks.{all-chunks}
 use Rattle.listing.proofs.Cursors.{expander-on}
 
 -- line k of a table's words says index k and word k
@@ -89,12 +88,14 @@ module _ (d : Domain) where
   unfolding tables entryLines tablePlaces
   tables-lines rest = ap (λ (es : List Entry). wordLines es (tables d ++ rest)) (sym (expander-on d 0)) ∙ place-lines (places d) rest
 
--- what `routes` lists of an accepted file: its lines, and the lines and totals as one text
+-- what `routes` lists of an accepted file: its lines, the lines and totals as one text, and the chunks and totals one after the
+-- other, as many chunks as there are entries or more (the last ones have no line)
 pub record Listed (file : List ℕ) (t w : ℕ) (rows words : List ℕ) : Type 0 where
   pub domain : Domain
   pub accepted : judged file ≡ good domain
   pub lines : linesFrom (domainIn rows) words (cursor 0 0 0 0) ≡ entryLines domain
   pub text : joined (linesFrom (domainIn rows) words (cursor 0 0 0 0)) ++ totalsOf t w ≡ listingOf domain
+  pub chunks : (n : ℕ) → needed domain ≤ n → chunksFrom (domainIn rows) words (cursor 0 0 0 0) n ++ totalsOf t w ≡ listingOf domain
 
 -- from what `read_domain` and `give_tables` promise
 pub listed : (file before after lent words : List ℕ) (n t w : ℕ) → length before ≡ 16512 → length lent ≡ 8192
@@ -111,9 +112,14 @@ listed file before after lent words n t w eb el r g =
     let q : words ≡ tables d ++ drop (needed d) lent = g .words ∙ ap (λ (x : Result Domain). wordsAfter x lent) (a .1) in
     let l : linesFrom (domainIn (take (258 * n) after)) words (cursor 0 0 0 0) ≡ entryLines d =
     ap₂ (λ (x : Domain) (y : List ℕ). linesFrom x y (cursor 0 0 0 0)) e q ∙ tables-lines d (drop (needed d) lent) in
+    let x : joined (linesFrom (domainIn (take (258 * n) after)) words (cursor 0 0 0 0)) ++ totalsOf t w ≡ listingOf d =
+    ap₂ (λ (ls : List (List ℕ)) (y : Counted). joined ls ++ totalsOf (y .tableCount) (y .wordCount)) l (sym f) in
     record {
       domain = d;
       accepted = c .0;
       lines = l;
-      text = ap₂ (λ (x : List (List ℕ)) (y : Counted). joined x ++ totalsOf (y .tableCount) (y .wordCount)) l (sym f);
+      text = x;
+      chunks = λ k h.
+          ap (λ (ls : List ℕ). ls ++ totalsOf t w)
+          (all-chunks k (domainIn (take (258 * n) after)) words (cursor 0 0 0 0) (omega (arith, ap length l, lines-needed d))) ∙ x;
     }

@@ -86,6 +86,11 @@ fitting end (l ∷ ls) = cond (leb (end + 80) 65536) (l ∷ fitting (end + lengt
 abbrev pub chunkFrom : Domain → List ℕ → Cursor → List (List ℕ)
 chunkFrom d ws c = fitting 0 (linesFrom d ws c)
 
+-- the text of so many chunks, each from the cursor after the one before
+unfoldable pub chunksFrom : Domain → List ℕ → Cursor → ℕ → List ℕ
+chunksFrom d ws c zero = []
+chunksFrom d ws c (suc n) = joined (chunkFrom d ws c) ++ chunksFrom d ws (cursorAfter d c (length (chunkFrom d ws c))) n
+
 -- a chunk of lines was put: its text, which lies within the buffer, and the cursor after its lines
 pub record ChunkPut (d : Domain) (ws : List ℕ) (from : Cursor) (before after : List ℕ) (next : Cursor) (end : ℕ) : Type 0 where
   pub text : Put before after 0 end (joined (chunkFrom d ws from))
