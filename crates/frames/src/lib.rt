@@ -1,6 +1,7 @@
 // SMP frames, each by itself: REPORT GENERAL and DISCOVER responses are read, CONFIGURE ROUTE
 // INFORMATION requests are written and read.
 mod bytes;
+pub mod codes;
 mod configure_route;
 mod discovery;
 mod refusals;
