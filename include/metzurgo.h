@@ -44,6 +44,17 @@ extern "C" {
 #define METZURGO_NO_DESTINATION 1
 #define METZURGO_BAD_DESTINATION 2
 
+/* Attached device types; 4 to 7 are reserved. */
+#define METZURGO_NO_DEVICE 0
+#define METZURGO_END_DEVICE 1
+#define METZURGO_EDGE_EXPANDER 2
+#define METZURGO_FANOUT_EXPANDER 3
+
+/* Routing attributes; 3 to 15 are reserved. */
+#define METZURGO_DIRECT 0
+#define METZURGO_SUBTRACTIVE 1
+#define METZURGO_TABLE 2
+
 /*
  * Wiring. Tests causes 1 to 10, then 16 (fewer words than expanders). Writes
  * one word for each expander: the bit worth 2^j is set when expander j is a

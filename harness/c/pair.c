@@ -145,7 +145,9 @@ int main(void)
     /* Frames inside the file. */
     expect("read_general", 4 * 65536 + 2 * 256 + 1,
            metzurgo_read_general(pair_rig + 10, 28));
-    expect("read_discover", (UINT64_C(1) << 32) + (1 << 24),
+    expect("read_discover",
+           (UINT64_C(1) << 32) + (METZURGO_END_DEVICE << 24) +
+               (METZURGO_DIRECT << 16),
            metzurgo_read_discover(pair_rig + 90, 52));
     expect("discover_own", UINT64_C(0x5000000000000010),
            metzurgo_discover_own(pair_rig + 90, 52));

@@ -351,7 +351,7 @@ impl Sketch {
                     Slot::Link { link, end, lane } => {
                         let (_, attribute) = self.links[link].ends[end];
                         let (far, _) = self.links[link].ends[1 - end];
-                        let device_type = random.pick(&[EXPANDER, FANOUT]);
+                        let device_type = random.pick(&[EDGE_EXPANDER, FANOUT_EXPANDER]);
                         expander.phy(attribute, device_type, own[far], lanes[link][lane][1 - end])
                     }
                     Slot::Drive { drive, attribute } => {
@@ -359,7 +359,7 @@ impl Sketch {
                     }
                     Slot::Empty { attribute } => {
                         let attached = stray_address(random, &all);
-                        expander.phy(attribute, NOTHING, attached, random.byte())
+                        expander.phy(attribute, NO_DEVICE, attached, random.byte())
                     }
                     Slot::Vacant => {
                         let mut vacant = expander.empty(DIRECT);

@@ -3,6 +3,7 @@
 use crate::calls::Calls;
 use crate::compare::{same, Difference, Lent};
 use crate::layout::*;
+use metzurgo::codes;
 
 // Addresses of the pair rig.
 const X10: u64 = 0x5000_0000_0000_0010;
@@ -607,7 +608,7 @@ impl Test<'_> {
             "type 3 on a direct phy of expander 1",
             &pair_with(|rig| {
                 rig[1].phys[0].attribute = DIRECT;
-                rig[1].phys[0].device_type = FANOUT;
+                rig[1].phys[0].device_type = FANOUT_EXPANDER;
             }),
             7,
             1,
@@ -652,7 +653,7 @@ impl Test<'_> {
         )?;
         self.refuses(
             "the far end has nothing attached",
-            &pair_with(|rig| rig[0].phys[0].device_type = NOTHING),
+            &pair_with(|rig| rig[0].phys[0].device_type = NO_DEVICE),
             7,
             1,
             0,
@@ -676,31 +677,31 @@ impl Test<'_> {
             "type 2 at an end device",
             &pair_with(|rig| {
                 rig[0].phys[1].attribute = SUBTRACTIVE;
-                rig[0].phys[1].device_type = EXPANDER;
+                rig[0].phys[1].device_type = EDGE_EXPANDER;
             }),
             7,
             0,
             1,
         )?;
         // Type 3 beside type 2.
-        let mixed = pair_with(|rig| rig[0].phys[0].device_type = FANOUT);
+        let mixed = pair_with(|rig| rig[0].phys[0].device_type = FANOUT_EXPANDER);
         self.judge("type 3 beside type 2", &mixed, 2)?;
         self.wire("type 3 beside type 2", &mixed, 2, &[0b10, 0b01])?;
         let both = pair_with(|rig| {
-            rig[0].phys[0].device_type = FANOUT;
-            rig[1].phys[0].device_type = FANOUT;
+            rig[0].phys[0].device_type = FANOUT_EXPANDER;
+            rig[1].phys[0].device_type = FANOUT_EXPANDER;
         });
         self.table_words("type 3 at both ends", &both, 1, &[B1, 0, 0, 0])?;
 
         // A wide link, its lanes crossed and of both types.
         let wide = file(vec![
             Expander::new(e(0), 1, true)
-                .phy(TABLE, EXPANDER, e(1), 2)
-                .phy(TABLE, FANOUT, e(1), 0),
+                .phy(TABLE, EDGE_EXPANDER, e(1), 2)
+                .phy(TABLE, FANOUT_EXPANDER, e(1), 0),
             Expander::new(e(1), 0, false)
-                .phy(SUBTRACTIVE, FANOUT, e(0), 1)
+                .phy(SUBTRACTIVE, FANOUT_EXPANDER, e(0), 1)
                 .drive(DIRECT, d(1, 1))
-                .phy(SUBTRACTIVE, EXPANDER, e(0), 0),
+                .phy(SUBTRACTIVE, EDGE_EXPANDER, e(0), 0),
         ]);
         self.judge("wide link", &wide, 2)?;
         self.wire("wide link", &wide, 2, &[0b10, 0b01])?;
@@ -754,7 +755,7 @@ impl Test<'_> {
         });
         self.judge("the earlier phy is vacant", &vacant, 2)?;
         let empty = pair_with(|rig| {
-            rig[0].phys[1].device_type = NOTHING;
+            rig[0].phys[1].device_type = NO_DEVICE;
             rig[1].phys[1].attached = A1;
         });
         self.judge("the earlier phy is empty", &empty, 2)?;
@@ -922,7 +923,7 @@ impl Test<'_> {
         self.refuses(
             "7 at 1 0 and 8 at 0 1",
             &pair_with(|rig| {
-                rig[0].phys[0].device_type = NOTHING;
+                rig[0].phys[0].device_type = NO_DEVICE;
                 rig[0].phys[1].attached = X20;
             }),
             7,
@@ -2047,6 +2048,65 @@ impl Test<'_> {
             let got = self.subject.discover_attached(&frame);
             same(|| format!("{name}: discover_attached"), attached, got)?;
         }
+        self.every_code()
+    }
+
+    /// The attached device type of every byte 12, and the routing attribute of
+    /// every byte 44, by the tables of the standard.
+    fn every_code(&mut self) -> Done {
+        let types = [
+            NO_DEVICE,
+            END_DEVICE,
+            EDGE_EXPANDER,
+            FANOUT_EXPANDER,
+            codes::RESERVED_4,
+            codes::RESERVED_5,
+            codes::RESERVED_6,
+            codes::RESERVED_7,
+        ];
+        let attributes = [
+            DIRECT,
+            SUBTRACTIVE,
+            TABLE,
+            codes::RESERVED_3,
+            codes::RESERVED_4,
+            codes::RESERVED_5,
+            codes::RESERVED_6,
+            codes::RESERVED_7,
+            codes::RESERVED_8,
+            codes::RESERVED_9,
+            codes::RESERVED_10,
+            codes::RESERVED_11,
+            codes::RESERVED_12,
+            codes::RESERVED_13,
+            codes::RESERVED_14,
+            codes::RESERVED_15,
+        ];
+        let discover = &pair_rig()[230..282];
+        for byte in 0..=255u8 {
+            self.count += 2;
+            let mut frame = discover.to_vec();
+            frame[12] = byte;
+            let device_type = types[usize::from(byte) % 128 / 16];
+            let answer = 0x0001_0000_0000 + (u64::from(device_type) << 24);
+            let got = self.subject.read_discover(&frame);
+            same(
+                || format!("byte 12 {byte:02x}h: read_discover"),
+                answer,
+                got,
+            )?;
+
+            let mut frame = discover.to_vec();
+            frame[44] = byte;
+            let attribute = attributes[usize::from(byte) % 16];
+            let answer = 0x0001_0100_0000 + (u64::from(attribute) << 16);
+            let got = self.subject.read_discover(&frame);
+            same(
+                || format!("byte 44 {byte:02x}h: read_discover"),
+                answer,
+                got,
+            )?;
+        }
         Ok(())
     }
 }
@@ -2203,8 +2263,8 @@ pub fn typed() -> Done {
     )?;
     let phy = Discover::Phy {
         identifier: 1,
-        device_type: 1,
-        attribute: 0,
+        device_type: codes::END_DEVICE,
+        attribute: codes::DIRECT,
         own: X20,
         attached: B1,
         attached_phy: 0,

@@ -13,6 +13,34 @@ pub const STUB: bool = cfg!(feature = "stub");
 /// The phy number that stands for the expander itself.
 pub const EXPANDER_ITSELF: u8 = 255;
 
+/// The codes of attached device type and routing attribute, in the order of the
+/// standard.
+pub mod codes {
+    pub const NO_DEVICE: u8 = 0b000;
+    pub const END_DEVICE: u8 = 0b001;
+    pub const EDGE_EXPANDER: u8 = 0b010;
+    pub const FANOUT_EXPANDER: u8 = 0b011;
+
+    pub const DIRECT: u8 = 0x0;
+    pub const SUBTRACTIVE: u8 = 0x1;
+    pub const TABLE: u8 = 0x2;
+
+    /// Reserved codes: 4 to 7 of the types, 3 to 15 of the attributes.
+    pub const RESERVED_3: u8 = 3;
+    pub const RESERVED_4: u8 = 4;
+    pub const RESERVED_5: u8 = 5;
+    pub const RESERVED_6: u8 = 6;
+    pub const RESERVED_7: u8 = 7;
+    pub const RESERVED_8: u8 = 8;
+    pub const RESERVED_9: u8 = 9;
+    pub const RESERVED_10: u8 = 10;
+    pub const RESERVED_11: u8 = 11;
+    pub const RESERVED_12: u8 = 12;
+    pub const RESERVED_13: u8 = 13;
+    pub const RESERVED_14: u8 = 14;
+    pub const RESERVED_15: u8 = 15;
+}
+
 /// The calls with their answers as 64-bit numbers.
 pub mod raw {
     #[cfg(not(feature = "stub"))]
@@ -237,7 +265,8 @@ pub struct General {
     pub configurable: bool,
 }
 
-/// The fields of a DISCOVER response, unchecked, or a vacant phy.
+/// The fields of a DISCOVER response, unchecked, or a vacant phy. [`codes`] names
+/// the types and attributes.
 #[derive(Clone, Copy, Debug, PartialEq, Eq, Hash)]
 pub enum Discover {
     Vacant {
