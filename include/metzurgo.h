@@ -92,16 +92,18 @@ uint64_t metzurgo_trace(const uint8_t *file, size_t file_len,
 
 /*
  * Writes one CONFIGURE ROUTE INFORMATION request into the first 40 bytes of
- * `buf`; later bytes stay. Refuses a phy above 127 (15), then fewer than 40
- * bytes (16). Answer: 40.
+ * `buf`; later bytes stay. `length` is its byte 3, REQUEST LENGTH: 00h, or 09h,
+ * which SAS-2 expanders expect. Refuses any other `length` (2), then a phy above
+ * 127 (15), then fewer than 40 bytes (16). Answer: 40.
  */
-uint64_t metzurgo_write_route(uint8_t *buf, size_t buf_len,
+uint64_t metzurgo_write_route(uint8_t *buf, size_t buf_len, uint8_t length,
                               uint8_t phy, uint16_t index, uint64_t entry);
 
 /*
- * Reads a CONFIGURE ROUTE INFORMATION request. Refuses any length but 40 (1),
- * wrong bytes 0 and 1 (2), a phy above 127 (15).
- * Answer: phy * 65536 + route index.
+ * Reads a CONFIGURE ROUTE INFORMATION request. Refuses any number of bytes but
+ * 40 (1), wrong bytes 0, 1 and 3 (2), a phy above 127 (15). Byte 3, REQUEST
+ * LENGTH, is 00h or 09h.
+ * Answer: REQUEST LENGTH * 2^24 + phy * 2^16 + route index.
  */
 uint64_t metzurgo_read_route(const uint8_t *frame, size_t len);
 

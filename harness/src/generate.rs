@@ -894,6 +894,9 @@ pub fn frame(random: &mut Random) -> Vec<u8> {
     if right == 40 && random.chance(2, 3) && length > 9 {
         frame[9] &= 0x7f;
     }
+    if right == 40 && random.chance(5, 6) && length > 3 {
+        frame[3] = random.pick(&[0x00, 0x09]);
+    }
     // One byte, most often a fixed one, is changed.
     if random.chance(1, 4) && length > 12 {
         let at = random.pick(&[0, 1, 2, 3, 9, 12]);

@@ -1895,20 +1895,34 @@ impl Test<'_> {
         disabled[7] = 0xff;
         disabled[9] = 127;
         disabled[12] = 0x80;
-        for (phy, index, entry, length, answer, frame) in [
-            (5, 0x0102, B1, 40, 40, Some(&expected)),
-            (5, 0x0102, B1, 60, 40, Some(&expected)),
-            (127, 0xffff, 0, 41, 40, Some(&disabled)),
-            (128, 0, B1, 40, refused(15, 0, 0), None),
-            (255, 0, 0, 0, refused(15, 0, 0), None),
-            (127, 0, B1, 39, refused(16, 0, 0), None),
-            (0, 0, 0, 0, refused(16, 0, 0), None),
+        // The bytes that smp_conf_route_info of smp_utils sends, without its CRC.
+        let smp_utils: [u8; 40] = [
+            0x40, 0x90, 0x00, 0x09, 0x00, 0x00, 0x01, 0x02, 0x00, 0x05, 0x00, 0x00, 0x00, 0x00,
+            0x00, 0x00, 0x50, 0x00, 0x00, 0x00, 0x00, 0x00, 0x00, 0xb1, 0x00, 0x00, 0x00, 0x00,
+            0x00, 0x00, 0x00, 0x00, 0x00, 0x00, 0x00, 0x00, 0x00, 0x00, 0x00, 0x00,
+        ];
+        for (length, phy, index, entry, room, answer, frame) in [
+            (0, 5, 0x0102, B1, 40, 40, Some(&expected)),
+            (0, 5, 0x0102, B1, 60, 40, Some(&expected)),
+            (9, 5, 0x0102, B1, 44, 40, Some(&smp_utils)),
+            (0, 127, 0xffff, 0, 41, 40, Some(&disabled)),
+            (1, 5, 0x0102, B1, 40, refused(2, 0, 0), None),
+            (8, 128, 0, B1, 39, refused(2, 0, 0), None),
+            (10, 0, 0, 0, 0, refused(2, 0, 0), None),
+            (0x90, 127, 0, B1, 60, refused(2, 0, 0), None),
+            (0, 128, 0, B1, 40, refused(15, 0, 0), None),
+            (9, 255, 0, 0, 0, refused(15, 0, 0), None),
+            (9, 127, 0, B1, 39, refused(16, 0, 0), None),
+            (0, 0, 0, 0, 0, refused(16, 0, 0), None),
         ] {
             self.count += 1;
-            let mut lent = Lent::new(length, || 0x77u8);
+            let mut lent = Lent::new(room, || 0x77u8);
             let after = lent.after(frame.map_or(&[][..], |frame| frame));
-            let got = self.subject.write_route(lent.part(), phy, index, entry);
-            let what = || format!("write_route, phy {phy}, index {index}, {length} bytes");
+            let got = self
+                .subject
+                .write_route(lent.part(), length, phy, index, entry);
+            let what =
+                || format!("write_route, length {length}, phy {phy}, index {index}, {room} bytes");
             same(what, answer, got)?;
             lent.check(what, &after)?;
         }
@@ -1919,18 +1933,32 @@ impl Test<'_> {
         let mut other_bits = [0xff; 40];
         other_bits[0] = 0x40;
         other_bits[1] = 0x90;
+        other_bits[3] = 0x09;
         other_bits[9] = 0;
         other_bits[12] = 0x7f;
         let mut byte_0 = expected;
         byte_0[0] = 0x41;
         let mut byte_1 = expected;
         byte_1[1] = 0x10;
-        let mut phy_128 = expected;
+        let mut byte_3 = expected;
+        byte_3[3] = 0x08;
+        let mut byte_3_other = expected;
+        byte_3_other[3] = 0x89;
+        let mut phy_128 = smp_utils;
         phy_128[9] = 128;
+        let mut byte_3_and_phy = phy_128;
+        byte_3_and_phy[3] = 0x0a;
         let mut both = phy_128;
         both[0] = 0;
         for (name, frame, answer, entry) in [
             ("written frame", &expected[..], 0x0005_0102, B1),
+            ("frame of smp_utils", &smp_utils[..], 0x0905_0102, B1),
+            (
+                "frame of smp_utils with its CRC",
+                &[&smp_utils[..], &[0; 4]].concat()[..],
+                refused(1, 0, 0),
+                0,
+            ),
             ("disabled entry", &disabled[..], 0x007f_ffff, 0),
             ("address 0, enabled", &zero_address[..], 0x0005_0102, 0),
             (
@@ -1939,7 +1967,7 @@ impl Test<'_> {
                 0x0005_0102,
                 0,
             ),
-            ("all other bits", &other_bits[..], 0x0000_ffff, u64::MAX),
+            ("all other bits", &other_bits[..], 0x0900_ffff, u64::MAX),
             ("39 bytes", &expected[..39], refused(1, 0, 0), 0),
             ("no bytes", &[][..], refused(1, 0, 0), 0),
             (
@@ -1950,6 +1978,14 @@ impl Test<'_> {
             ),
             ("byte 0", &byte_0[..], refused(2, 0, 0), 0),
             ("byte 1", &byte_1[..], refused(2, 0, 0), 0),
+            ("byte 3 08h", &byte_3[..], refused(2, 0, 0), 0),
+            ("byte 3 89h", &byte_3_other[..], refused(2, 0, 0), 0),
+            (
+                "byte 3 and phy 128",
+                &byte_3_and_phy[..],
+                refused(2, 0, 0),
+                0,
+            ),
             ("phy 128", &phy_128[..], refused(15, 0, 0), 0),
             ("byte 0 and phy 128", &both[..], refused(2, 0, 0), 0),
         ] {
@@ -2229,12 +2265,13 @@ pub fn typed() -> Done {
         metzurgo::trace(&rig, &words, 0, 255, 0, &mut passed),
     )?;
     let mut buf = [7; 50];
-    let frame = metzurgo::write_route(&mut buf, 3, 0x0405, B1).map(|frame| frame.to_vec());
     let route = Route {
+        length: 0x09,
         phy: 3,
         index: 0x0405,
         entry: B1,
     };
+    let frame = metzurgo::write_route(&mut buf, route).map(|frame| frame.to_vec());
     equal("write_route", Ok(40), frame.as_ref().map(Vec::len))?;
     equal(
         "read_route",
@@ -2249,7 +2286,7 @@ pub fn typed() -> Done {
     equal(
         "write_route",
         Some(refusal(15, 0, 0)),
-        metzurgo::write_route(&mut buf, 128, 0, 0).err(),
+        metzurgo::write_route(&mut buf, Route { phy: 128, ..route }).err(),
     )?;
     let general = General {
         route_indexes: 4,

@@ -85,8 +85,10 @@ pub mod raw {
         }
     }
 
-    pub fn write_route(buf: &mut [u8], phy: u8, index: u16, entry: u64) -> u64 {
-        unsafe { calls::metzurgo_write_route(buf.as_mut_ptr(), buf.len(), phy, index, entry) }
+    pub fn write_route(buf: &mut [u8], length: u8, phy: u8, index: u16, entry: u64) -> u64 {
+        unsafe {
+            calls::metzurgo_write_route(buf.as_mut_ptr(), buf.len(), length, phy, index, entry)
+        }
     }
 
     pub fn read_route(frame: &[u8]) -> u64 {
@@ -144,6 +146,7 @@ mod linked {
         pub fn metzurgo_write_route(
             buf: *mut u8,
             buf_len: usize,
+            length: u8,
             phy: u8,
             index: u16,
             entry: u64,
@@ -186,7 +189,7 @@ mod stub {
     ) -> u64 {
         NOTHING
     }
-    pub unsafe fn metzurgo_write_route(_: *mut u8, _: usize, _: u8, _: u16, _: u64) -> u64 {
+    pub unsafe fn metzurgo_write_route(_: *mut u8, _: usize, _: u8, _: u8, _: u16, _: u64) -> u64 {
         NOTHING
     }
     pub unsafe fn metzurgo_read_route(_: *const u8, _: usize) -> u64 {
@@ -249,9 +252,11 @@ pub struct Trace {
     pub count: u8,
 }
 
-/// The fields of a CONFIGURE ROUTE INFORMATION request.
+/// The fields of a CONFIGURE ROUTE INFORMATION request. `length` is its byte 3,
+/// REQUEST LENGTH: 00h or 09h.
 #[derive(Clone, Copy, Debug, PartialEq, Eq, Hash)]
 pub struct Route {
+    pub length: u8,
     pub phy: u8,
     pub index: u16,
     pub entry: u64,
@@ -336,14 +341,21 @@ pub fn trace(
 }
 
 /// Writes a CONFIGURE ROUTE INFORMATION request; gives the forty bytes written.
-pub fn write_route(buf: &mut [u8], phy: u8, index: u16, entry: u64) -> Result<&mut [u8], Refusal> {
-    let length = accepted(raw::write_route(buf, phy, index, entry))?;
-    Ok(&mut buf[..length as usize])
+pub fn write_route(buf: &mut [u8], route: Route) -> Result<&mut [u8], Refusal> {
+    let Route {
+        length,
+        phy,
+        index,
+        entry,
+    } = route;
+    let written = accepted(raw::write_route(buf, length, phy, index, entry))?;
+    Ok(&mut buf[..written as usize])
 }
 
 /// Reads a CONFIGURE ROUTE INFORMATION request.
 pub fn read_route(frame: &[u8]) -> Result<Route, Refusal> {
     accepted(raw::read_route(frame)).map(|answer| Route {
+        length: (answer >> 24) as u8,
         phy: (answer >> 16) as u8,
         index: answer as u16,
         entry: raw::read_route_entry(frame),

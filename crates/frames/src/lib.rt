@@ -63,8 +63,10 @@ pub enum DiscoverRead {
     Read(Discover),
 }
 
-// The fields of a CONFIGURE ROUTE INFORMATION request. Entry 0 is a disabled entry.
+// The fields of a CONFIGURE ROUTE INFORMATION request: REQUEST LENGTH (00h or 09h), phy, route index and
+// entry. Entry 0 is a disabled entry.
 pub struct Route {
+    pub length: u8,
     pub phy: PhyId,
     pub index: RouteIndex,
     pub entry: u64,
