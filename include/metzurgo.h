@@ -44,6 +44,17 @@ extern "C" {
 #define METZURGO_NO_DESTINATION 1
 #define METZURGO_BAD_DESTINATION 2
 
+/* Attached device types; 4 to 7 are reserved. */
+#define METZURGO_NO_DEVICE 0
+#define METZURGO_END_DEVICE 1
+#define METZURGO_EDGE_EXPANDER 2
+#define METZURGO_FANOUT_EXPANDER 3
+
+/* Routing attributes; 3 to 15 are reserved. */
+#define METZURGO_DIRECT 0
+#define METZURGO_SUBTRACTIVE 1
+#define METZURGO_TABLE 2
+
 /*
  * Wiring. Tests causes 1 to 10, then 16 (fewer words than expanders). Writes
  * one word for each expander: the bit worth 2^j is set when expander j is a
@@ -81,16 +92,18 @@ uint64_t metzurgo_trace(const uint8_t *file, size_t file_len,
 
 /*
  * Writes one CONFIGURE ROUTE INFORMATION request into the first 40 bytes of
- * `buf`; later bytes stay. Refuses a phy above 127 (15), then fewer than 40
- * bytes (16). Answer: 40.
+ * `buf`; later bytes stay. `length` is its byte 3, REQUEST LENGTH: 00h, or 09h,
+ * which SAS-2 expanders expect. Refuses any other `length` (2), then a phy above
+ * 127 (15), then fewer than 40 bytes (16). Answer: 40.
  */
-uint64_t metzurgo_write_route(uint8_t *buf, size_t buf_len,
+uint64_t metzurgo_write_route(uint8_t *buf, size_t buf_len, uint8_t length,
                               uint8_t phy, uint16_t index, uint64_t entry);
 
 /*
- * Reads a CONFIGURE ROUTE INFORMATION request. Refuses any length but 40 (1),
- * wrong bytes 0 and 1 (2), a phy above 127 (15).
- * Answer: phy * 65536 + route index.
+ * Reads a CONFIGURE ROUTE INFORMATION request. Refuses any number of bytes but
+ * 40 (1), wrong bytes 0, 1 and 3 (2), a phy above 127 (15). Byte 3, REQUEST
+ * LENGTH, is 00h or 09h.
+ * Answer: REQUEST LENGTH * 2^24 + phy * 2^16 + route index.
  */
 uint64_t metzurgo_read_route(const uint8_t *frame, size_t len);
 

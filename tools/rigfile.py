@@ -36,7 +36,7 @@ lines that alter the file after it is laid out, for files that are to be refused
 FIELD is identifier, type, attribute, own, attached or attached-phy."""
 
 ATTRIBUTES = ("direct", "subtractive", "table")
-END_DEVICE, EDGE, FANOUT = 1, 2, 3
+END_DEVICE, EDGE_EXPANDER, FANOUT_EXPANDER = 1, 2, 3
 VACANT = 0x16  # the SMP function result PHY VACANT
 MOST = 255  # expanders and phys: their counts are one byte
 NAME = r"[A-Za-z][A-Za-z0-9_-]*"
@@ -95,7 +95,7 @@ class Expander:
     def __init__(self, name, address, indexes=0, configurable=False, fanout=False, line=0):
         self.name, self.address, self.line = name, address, line
         self.indexes, self.configurable = indexes, configurable
-        self.type = FANOUT if fanout else EDGE
+        self.type = FANOUT_EXPANDER if fanout else EDGE_EXPANDER
         self.phys = []
         self.set = {}
 
@@ -368,7 +368,7 @@ class Reader:
             if not known or given[word] is None:
                 raise TextError(line, EXPANDER_FORM)
         expander.configurable = "configurable" in given
-        expander.type = FANOUT if "fanout" in given else EDGE
+        expander.type = FANOUT_EXPANDER if "fanout" in given else EDGE_EXPANDER
         expander.indexes = number(line, given.get("R", "0"), 0, 65535, "R")
 
     def phy(self, line, words):
@@ -653,7 +653,7 @@ def attach(rig):
     def names(phy, far):
         return (
             far.found["result"] == 0
-            and far.found["type"] in (EDGE, FANOUT)
+            and far.found["type"] in (EDGE_EXPANDER, FANOUT_EXPANDER)
             and far.found["attached"] == phy.expander.address
             and far.found["attached-phy"] == phy.number
         )
@@ -669,7 +669,7 @@ def attach(rig):
                 if found["attached"] not in drives:
                     drives[found["attached"]] = Drive(f"D{len(drives)}", found["attached"])
                 phy.attached = (drives[found["attached"]], found["attached-phy"])
-            elif found["type"] in (EDGE, FANOUT) and not phy.attached:
+            elif found["type"] in (EDGE_EXPANDER, FANOUT_EXPANDER) and not phy.attached:
                 number = found["attached-phy"]
                 for other in owners.get(found["attached"], ()):
                     if number < len(other.phys):
@@ -686,8 +686,8 @@ def attach(rig):
             if phy.attached and isinstance(phy.attached[0], Expander):
                 types.setdefault(phy.attached[0], set()).add(phy.found["type"])
     for expander, used in types.items():
-        if used == {FANOUT}:
-            expander.type = FANOUT
+        if used == {FANOUT_EXPANDER}:
+            expander.type = FANOUT_EXPANDER
 
 
 def rig_text(rig):
@@ -699,7 +699,7 @@ def rig_text(rig):
             lines.append("")
         line = f"expander {expander.name} {expander.address:016x} R {expander.indexes}"
         line += " configurable" if expander.configurable else ""
-        line += " fanout" if expander.type == FANOUT else ""
+        line += " fanout" if expander.type == FANOUT_EXPANDER else ""
         lines.append(line)
         lines += set_lines("  ", expander.name, expander.set)
         for phy in expander.phys:

@@ -67,7 +67,7 @@ static void empty_slices(void)
     expect("trace, no bytes", room,
            metzurgo_trace(pair_rig, size, words, 4, 0, 255, A1, NULL, 0));
     expect("write_route, no bytes", room,
-           metzurgo_write_route(NULL, 0, 0, 0, A1));
+           metzurgo_write_route(NULL, 0, 0, 0, 0, A1));
     expect("read_route, no frame", cut, metzurgo_read_route(NULL, 0));
     expect("read_route_entry, no frame", 0, metzurgo_read_route_entry(NULL, 0));
     expect("read_general, no frame", cut, metzurgo_read_general(NULL, 0));
@@ -137,15 +137,18 @@ int main(void)
     /* The loading frame of entry 0, written and read back. */
     uint8_t frame[41];
     memset(frame, 9, sizeof frame);
-    expect("write_route", 40, metzurgo_write_route(frame, 41, 0, 0, words[0]));
+    expect("write_route", 40,
+           metzurgo_write_route(frame, 41, 0x09, 0, 0, words[0]));
     expect("byte after the frame", 9, frame[40]);
-    expect("read_route", 0, metzurgo_read_route(frame, 40));
+    expect("read_route", 0x09 << 24, metzurgo_read_route(frame, 40));
     expect("read_route_entry", B1, metzurgo_read_route_entry(frame, 40));
 
     /* Frames inside the file. */
     expect("read_general", 4 * 65536 + 2 * 256 + 1,
            metzurgo_read_general(pair_rig + 10, 28));
-    expect("read_discover", (UINT64_C(1) << 32) + (1 << 24),
+    expect("read_discover",
+           (UINT64_C(1) << 32) + (METZURGO_END_DEVICE << 24) +
+               (METZURGO_DIRECT << 16),
            metzurgo_read_discover(pair_rig + 90, 52));
     expect("discover_own", UINT64_C(0x5000000000000010),
            metzurgo_discover_own(pair_rig + 90, 52));

@@ -15,7 +15,7 @@ pub trait Calls: Sync {
         address: u64,
         passed: &mut [u8],
     ) -> u64;
-    fn write_route(&self, buf: &mut [u8], phy: u8, index: u16, entry: u64) -> u64;
+    fn write_route(&self, buf: &mut [u8], length: u8, phy: u8, index: u16, entry: u64) -> u64;
     fn read_route(&self, frame: &[u8]) -> u64;
     fn read_route_entry(&self, frame: &[u8]) -> u64;
     fn read_general(&self, frame: &[u8]) -> u64;
@@ -56,8 +56,8 @@ impl Calls for Archive {
         metzurgo::raw::trace(file, words, start, arrival, address, passed)
     }
 
-    fn write_route(&self, buf: &mut [u8], phy: u8, index: u16, entry: u64) -> u64 {
-        metzurgo::raw::write_route(buf, phy, index, entry)
+    fn write_route(&self, buf: &mut [u8], length: u8, phy: u8, index: u16, entry: u64) -> u64 {
+        metzurgo::raw::write_route(buf, length, phy, index, entry)
     }
 
     fn read_route(&self, frame: &[u8]) -> u64 {

@@ -377,10 +377,7 @@ pub fn check_frame(
         ("discover_attached", own.1, subject.discover_attached(read)),
         (
             "read_route",
-            match route {
-                Ok(route) => u64::from(route.phy) * 65536 + u64::from(route.index),
-                Err(refusal) => refusal.answer(),
-            },
+            route.map_or_else(Refusal::answer, Route::answer),
             subject.read_route(read),
         ),
         (
@@ -398,6 +395,11 @@ pub fn check_frame(
     lent.check(|| what("the frame of a read call"), &Lent::of(&frame).all)?;
 
     let route = Route {
+        length: match random.below(4) {
+            0 => random.pick(&[1, 8, 10, 0x80, 0x90, 255]),
+            1 => random.byte(),
+            _ => random.pick(&[0x00, 0x09]),
+        },
         phy: match random.below(4) {
             0 => random.pick(&[0, 1, 127, 128, 255]),
             1 => random.byte(),
@@ -421,7 +423,13 @@ pub fn check_frame(
         Ok(written) => (40, buf.after(&written)),
         Err(refusal) => (refusal.answer(), buf.after(&[])),
     };
-    let got = subject.write_route(buf.part(), route.phy, route.index, route.entry);
+    let got = subject.write_route(
+        buf.part(),
+        route.length,
+        route.phy,
+        route.index,
+        route.entry,
+    );
     counts.answer(expected);
     let what = || format!("write_route of {route:x?}, {length} bytes");
     same(what, expected, got)?;
@@ -429,10 +437,9 @@ pub fn check_frame(
     if expected == 40 {
         // What was written reads back.
         let frame = &buf.part()[..40];
-        let read = u64::from(route.phy) * 65536 + u64::from(route.index);
         same(
             || "read_route of a written frame".into(),
-            read,
+            route.answer(),
             subject.read_route(frame),
         )?;
         same(

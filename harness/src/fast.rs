@@ -563,7 +563,10 @@ impl Calls for Fast {
         }
     }
 
-    fn write_route(&self, buf: &mut [u8], phy: u8, index: u16, entry: u64) -> u64 {
+    fn write_route(&self, buf: &mut [u8], length: u8, phy: u8, index: u16, entry: u64) -> u64 {
+        if length != 0 && length != 9 {
+            return refusal(2, 0, 0);
+        }
         if phy > 127 {
             return refusal(15, 0, 0);
         }
@@ -573,6 +576,7 @@ impl Calls for Fast {
         buf[..40].fill(0);
         buf[0] = 0x40;
         buf[1] = 0x90;
+        buf[3] = length;
         buf[6..8].copy_from_slice(&index.to_be_bytes());
         buf[9] = phy;
         buf[12] = if entry == 0 { 0x80 } else { 0 };
@@ -584,13 +588,16 @@ impl Calls for Fast {
         if frame.len() != 40 {
             return refusal(1, 0, 0);
         }
-        if frame[0] != 0x40 || frame[1] != 0x90 {
+        if frame[0] != 0x40 || frame[1] != 0x90 || frame[3] != 0 && frame[3] != 9 {
             return refusal(2, 0, 0);
         }
         if frame[9] > 127 {
             return refusal(15, 0, 0);
         }
-        u64::from(frame[9]) << 16 | u64::from(frame[6]) << 8 | u64::from(frame[7])
+        u64::from(frame[3]) << 24
+            | u64::from(frame[9]) << 16
+            | u64::from(frame[6]) << 8
+            | u64::from(frame[7])
     }
 
     fn read_route_entry(&self, frame: &[u8]) -> u64 {

@@ -351,7 +351,7 @@ impl Sketch {
                     Slot::Link { link, end, lane } => {
                         let (_, attribute) = self.links[link].ends[end];
                         let (far, _) = self.links[link].ends[1 - end];
-                        let device_type = random.pick(&[EXPANDER, FANOUT]);
+                        let device_type = random.pick(&[EDGE_EXPANDER, FANOUT_EXPANDER]);
                         expander.phy(attribute, device_type, own[far], lanes[link][lane][1 - end])
                     }
                     Slot::Drive { drive, attribute } => {
@@ -359,7 +359,7 @@ impl Sketch {
                     }
                     Slot::Empty { attribute } => {
                         let attached = stray_address(random, &all);
-                        expander.phy(attribute, NOTHING, attached, random.byte())
+                        expander.phy(attribute, NO_DEVICE, attached, random.byte())
                     }
                     Slot::Vacant => {
                         let mut vacant = expander.empty(DIRECT);
@@ -893,6 +893,9 @@ pub fn frame(random: &mut Random) -> Vec<u8> {
     }
     if right == 40 && random.chance(2, 3) && length > 9 {
         frame[9] &= 0x7f;
+    }
+    if right == 40 && random.chance(5, 6) && length > 3 {
+        frame[3] = random.pick(&[0x00, 0x09]);
     }
     // One byte, most often a fixed one, is changed.
     if random.chance(1, 4) && length > 12 {

@@ -1,9 +1,9 @@
 //! Lays out domain files byte by byte.
 
-pub const NOTHING: u8 = 0;
+pub const NO_DEVICE: u8 = 0;
 pub const END_DEVICE: u8 = 1;
-pub const EXPANDER: u8 = 2;
-pub const FANOUT: u8 = 3;
+pub const EDGE_EXPANDER: u8 = 2;
+pub const FANOUT_EXPANDER: u8 = 3;
 
 pub const DIRECT: u8 = 0;
 pub const SUBTRACTIVE: u8 = 1;
@@ -59,12 +59,12 @@ impl Expander {
 
     /// Appends a phy attached to another expander's phy.
     pub fn link(self, attribute: u8, address: u64, phy: u8) -> Self {
-        self.phy(attribute, EXPANDER, address, phy)
+        self.phy(attribute, EDGE_EXPANDER, address, phy)
     }
 
     /// Appends a phy with nothing attached.
     pub fn empty(self, attribute: u8) -> Self {
-        self.phy(attribute, NOTHING, 0, 0)
+        self.phy(attribute, NO_DEVICE, 0, 0)
     }
 
     /// Appends a vacant phy.

@@ -166,17 +166,22 @@ impl Discover {
 /// CONFIGURE ROUTE INFORMATION.
 #[derive(Clone, Copy, Debug, PartialEq, Eq)]
 pub struct Route {
+    pub length: u8,
     pub phy: u8,
     pub index: u16,
     pub entry: u64,
 }
 
 impl Route {
+    /// REQUEST LENGTH, byte 3.
+    const LENGTHS: [u8; 2] = [0x00, 0x09];
+
     /// The forty bytes; `room` is the length of the lent buffer.
     pub fn write(self, room: usize) -> Result<Vec<u8>, Refusal> {
+        refuse(!Route::LENGTHS.contains(&self.length), 2, NOWHERE)?;
         refuse(self.phy > 127, 15, NOWHERE)?;
         refuse(room < 40, 16, NOWHERE)?;
-        let fields: HashMap<usize, u8> = [(0, 0x40), (1, 0x90), (9, self.phy)]
+        let fields: HashMap<usize, u8> = [(0, 0x40), (1, 0x90), (3, self.length), (9, self.phy)]
             .into_iter()
             .chain((self.entry == 0).then_some((12, 0x80)))
             .chain((6..).zip(self.index.to_be_bytes()))
@@ -190,8 +195,10 @@ impl Route {
     pub fn read(frame: &[u8]) -> Result<Route, Refusal> {
         refuse(frame.len() != 40, 1, NOWHERE)?;
         refuse(!frame.starts_with(&[0x40, 0x90]), 2, NOWHERE)?;
+        refuse(!Route::LENGTHS.contains(&frame[3]), 2, NOWHERE)?;
         refuse(frame[9] > 127, 15, NOWHERE)?;
         Ok(Route {
+            length: frame[3],
             phy: frame[9],
             index: number(&frame[6..=7]) as u16,
             entry: match frame[12] >= 0x80 {
@@ -199,6 +206,12 @@ impl Route {
                 false => number(&frame[16..=23]),
             },
         })
+    }
+
+    /// What reading answers; the entry is asked for by itself.
+    pub fn answer(self) -> u64 {
+        let fields = [self.length, self.phy];
+        number(&fields) * 65536 + u64::from(self.index)
     }
 }
 
@@ -942,8 +955,13 @@ impl Calls for Reference {
         }))
     }
 
-    fn write_route(&self, buf: &mut [u8], phy: u8, index: u16, entry: u64) -> u64 {
-        let route = Route { phy, index, entry };
+    fn write_route(&self, buf: &mut [u8], length: u8, phy: u8, index: u16, entry: u64) -> u64 {
+        let route = Route {
+            length,
+            phy,
+            index,
+            entry,
+        };
         answer(route.write(buf.len()).map(|frame| {
             buf[..40].copy_from_slice(&frame);
             40
@@ -951,9 +969,7 @@ impl Calls for Reference {
     }
 
     fn read_route(&self, frame: &[u8]) -> u64 {
-        answer(
-            Route::read(frame).map(|route| u64::from(route.phy) * 65536 + u64::from(route.index)),
-        )
+        answer(Route::read(frame).map(Route::answer))
     }
 
     fn read_route_entry(&self, frame: &[u8]) -> u64 {

@@ -3,6 +3,7 @@
 use crate::calls::Calls;
 use crate::compare::{same, Difference, Lent};
 use crate::layout::*;
+use metzurgo::codes;
 
 // Addresses of the pair rig.
 const X10: u64 = 0x5000_0000_0000_0010;
@@ -607,7 +608,7 @@ impl Test<'_> {
             "type 3 on a direct phy of expander 1",
             &pair_with(|rig| {
                 rig[1].phys[0].attribute = DIRECT;
-                rig[1].phys[0].device_type = FANOUT;
+                rig[1].phys[0].device_type = FANOUT_EXPANDER;
             }),
             7,
             1,
@@ -652,7 +653,7 @@ impl Test<'_> {
         )?;
         self.refuses(
             "the far end has nothing attached",
-            &pair_with(|rig| rig[0].phys[0].device_type = NOTHING),
+            &pair_with(|rig| rig[0].phys[0].device_type = NO_DEVICE),
             7,
             1,
             0,
@@ -676,31 +677,31 @@ impl Test<'_> {
             "type 2 at an end device",
             &pair_with(|rig| {
                 rig[0].phys[1].attribute = SUBTRACTIVE;
-                rig[0].phys[1].device_type = EXPANDER;
+                rig[0].phys[1].device_type = EDGE_EXPANDER;
             }),
             7,
             0,
             1,
         )?;
         // Type 3 beside type 2.
-        let mixed = pair_with(|rig| rig[0].phys[0].device_type = FANOUT);
+        let mixed = pair_with(|rig| rig[0].phys[0].device_type = FANOUT_EXPANDER);
         self.judge("type 3 beside type 2", &mixed, 2)?;
         self.wire("type 3 beside type 2", &mixed, 2, &[0b10, 0b01])?;
         let both = pair_with(|rig| {
-            rig[0].phys[0].device_type = FANOUT;
-            rig[1].phys[0].device_type = FANOUT;
+            rig[0].phys[0].device_type = FANOUT_EXPANDER;
+            rig[1].phys[0].device_type = FANOUT_EXPANDER;
         });
         self.table_words("type 3 at both ends", &both, 1, &[B1, 0, 0, 0])?;
 
         // A wide link, its lanes crossed and of both types.
         let wide = file(vec![
             Expander::new(e(0), 1, true)
-                .phy(TABLE, EXPANDER, e(1), 2)
-                .phy(TABLE, FANOUT, e(1), 0),
+                .phy(TABLE, EDGE_EXPANDER, e(1), 2)
+                .phy(TABLE, FANOUT_EXPANDER, e(1), 0),
             Expander::new(e(1), 0, false)
-                .phy(SUBTRACTIVE, FANOUT, e(0), 1)
+                .phy(SUBTRACTIVE, FANOUT_EXPANDER, e(0), 1)
                 .drive(DIRECT, d(1, 1))
-                .phy(SUBTRACTIVE, EXPANDER, e(0), 0),
+                .phy(SUBTRACTIVE, EDGE_EXPANDER, e(0), 0),
         ]);
         self.judge("wide link", &wide, 2)?;
         self.wire("wide link", &wide, 2, &[0b10, 0b01])?;
@@ -754,7 +755,7 @@ impl Test<'_> {
         });
         self.judge("the earlier phy is vacant", &vacant, 2)?;
         let empty = pair_with(|rig| {
-            rig[0].phys[1].device_type = NOTHING;
+            rig[0].phys[1].device_type = NO_DEVICE;
             rig[1].phys[1].attached = A1;
         });
         self.judge("the earlier phy is empty", &empty, 2)?;
@@ -922,7 +923,7 @@ impl Test<'_> {
         self.refuses(
             "7 at 1 0 and 8 at 0 1",
             &pair_with(|rig| {
-                rig[0].phys[0].device_type = NOTHING;
+                rig[0].phys[0].device_type = NO_DEVICE;
                 rig[0].phys[1].attached = X20;
             }),
             7,
@@ -1894,20 +1895,34 @@ impl Test<'_> {
         disabled[7] = 0xff;
         disabled[9] = 127;
         disabled[12] = 0x80;
-        for (phy, index, entry, length, answer, frame) in [
-            (5, 0x0102, B1, 40, 40, Some(&expected)),
-            (5, 0x0102, B1, 60, 40, Some(&expected)),
-            (127, 0xffff, 0, 41, 40, Some(&disabled)),
-            (128, 0, B1, 40, refused(15, 0, 0), None),
-            (255, 0, 0, 0, refused(15, 0, 0), None),
-            (127, 0, B1, 39, refused(16, 0, 0), None),
-            (0, 0, 0, 0, refused(16, 0, 0), None),
+        // The bytes that smp_conf_route_info of smp_utils sends, without its CRC.
+        let smp_utils: [u8; 40] = [
+            0x40, 0x90, 0x00, 0x09, 0x00, 0x00, 0x01, 0x02, 0x00, 0x05, 0x00, 0x00, 0x00, 0x00,
+            0x00, 0x00, 0x50, 0x00, 0x00, 0x00, 0x00, 0x00, 0x00, 0xb1, 0x00, 0x00, 0x00, 0x00,
+            0x00, 0x00, 0x00, 0x00, 0x00, 0x00, 0x00, 0x00, 0x00, 0x00, 0x00, 0x00,
+        ];
+        for (length, phy, index, entry, room, answer, frame) in [
+            (0, 5, 0x0102, B1, 40, 40, Some(&expected)),
+            (0, 5, 0x0102, B1, 60, 40, Some(&expected)),
+            (9, 5, 0x0102, B1, 44, 40, Some(&smp_utils)),
+            (0, 127, 0xffff, 0, 41, 40, Some(&disabled)),
+            (1, 5, 0x0102, B1, 40, refused(2, 0, 0), None),
+            (8, 128, 0, B1, 39, refused(2, 0, 0), None),
+            (10, 0, 0, 0, 0, refused(2, 0, 0), None),
+            (0x90, 127, 0, B1, 60, refused(2, 0, 0), None),
+            (0, 128, 0, B1, 40, refused(15, 0, 0), None),
+            (9, 255, 0, 0, 0, refused(15, 0, 0), None),
+            (9, 127, 0, B1, 39, refused(16, 0, 0), None),
+            (0, 0, 0, 0, 0, refused(16, 0, 0), None),
         ] {
             self.count += 1;
-            let mut lent = Lent::new(length, || 0x77u8);
+            let mut lent = Lent::new(room, || 0x77u8);
             let after = lent.after(frame.map_or(&[][..], |frame| frame));
-            let got = self.subject.write_route(lent.part(), phy, index, entry);
-            let what = || format!("write_route, phy {phy}, index {index}, {length} bytes");
+            let got = self
+                .subject
+                .write_route(lent.part(), length, phy, index, entry);
+            let what =
+                || format!("write_route, length {length}, phy {phy}, index {index}, {room} bytes");
             same(what, answer, got)?;
             lent.check(what, &after)?;
         }
@@ -1918,18 +1933,32 @@ impl Test<'_> {
         let mut other_bits = [0xff; 40];
         other_bits[0] = 0x40;
         other_bits[1] = 0x90;
+        other_bits[3] = 0x09;
         other_bits[9] = 0;
         other_bits[12] = 0x7f;
         let mut byte_0 = expected;
         byte_0[0] = 0x41;
         let mut byte_1 = expected;
         byte_1[1] = 0x10;
-        let mut phy_128 = expected;
+        let mut byte_3 = expected;
+        byte_3[3] = 0x08;
+        let mut byte_3_other = expected;
+        byte_3_other[3] = 0x89;
+        let mut phy_128 = smp_utils;
         phy_128[9] = 128;
+        let mut byte_3_and_phy = phy_128;
+        byte_3_and_phy[3] = 0x0a;
         let mut both = phy_128;
         both[0] = 0;
         for (name, frame, answer, entry) in [
             ("written frame", &expected[..], 0x0005_0102, B1),
+            ("frame of smp_utils", &smp_utils[..], 0x0905_0102, B1),
+            (
+                "frame of smp_utils with its CRC",
+                &[&smp_utils[..], &[0; 4]].concat()[..],
+                refused(1, 0, 0),
+                0,
+            ),
             ("disabled entry", &disabled[..], 0x007f_ffff, 0),
             ("address 0, enabled", &zero_address[..], 0x0005_0102, 0),
             (
@@ -1938,7 +1967,7 @@ impl Test<'_> {
                 0x0005_0102,
                 0,
             ),
-            ("all other bits", &other_bits[..], 0x0000_ffff, u64::MAX),
+            ("all other bits", &other_bits[..], 0x0900_ffff, u64::MAX),
             ("39 bytes", &expected[..39], refused(1, 0, 0), 0),
             ("no bytes", &[][..], refused(1, 0, 0), 0),
             (
@@ -1949,6 +1978,14 @@ impl Test<'_> {
             ),
             ("byte 0", &byte_0[..], refused(2, 0, 0), 0),
             ("byte 1", &byte_1[..], refused(2, 0, 0), 0),
+            ("byte 3 08h", &byte_3[..], refused(2, 0, 0), 0),
+            ("byte 3 89h", &byte_3_other[..], refused(2, 0, 0), 0),
+            (
+                "byte 3 and phy 128",
+                &byte_3_and_phy[..],
+                refused(2, 0, 0),
+                0,
+            ),
             ("phy 128", &phy_128[..], refused(15, 0, 0), 0),
             ("byte 0 and phy 128", &both[..], refused(2, 0, 0), 0),
         ] {
@@ -2046,6 +2083,65 @@ impl Test<'_> {
             same(|| format!("{name}: discover_own"), own, got)?;
             let got = self.subject.discover_attached(&frame);
             same(|| format!("{name}: discover_attached"), attached, got)?;
+        }
+        self.every_code()
+    }
+
+    /// The attached device type of every byte 12, and the routing attribute of
+    /// every byte 44, by the tables of the standard.
+    fn every_code(&mut self) -> Done {
+        let types = [
+            NO_DEVICE,
+            END_DEVICE,
+            EDGE_EXPANDER,
+            FANOUT_EXPANDER,
+            codes::RESERVED_4,
+            codes::RESERVED_5,
+            codes::RESERVED_6,
+            codes::RESERVED_7,
+        ];
+        let attributes = [
+            DIRECT,
+            SUBTRACTIVE,
+            TABLE,
+            codes::RESERVED_3,
+            codes::RESERVED_4,
+            codes::RESERVED_5,
+            codes::RESERVED_6,
+            codes::RESERVED_7,
+            codes::RESERVED_8,
+            codes::RESERVED_9,
+            codes::RESERVED_10,
+            codes::RESERVED_11,
+            codes::RESERVED_12,
+            codes::RESERVED_13,
+            codes::RESERVED_14,
+            codes::RESERVED_15,
+        ];
+        let discover = &pair_rig()[230..282];
+        for byte in 0..=255u8 {
+            self.count += 2;
+            let mut frame = discover.to_vec();
+            frame[12] = byte;
+            let device_type = types[usize::from(byte) % 128 / 16];
+            let answer = 0x0001_0000_0000 + (u64::from(device_type) << 24);
+            let got = self.subject.read_discover(&frame);
+            same(
+                || format!("byte 12 {byte:02x}h: read_discover"),
+                answer,
+                got,
+            )?;
+
+            let mut frame = discover.to_vec();
+            frame[44] = byte;
+            let attribute = attributes[usize::from(byte) % 16];
+            let answer = 0x0001_0100_0000 + (u64::from(attribute) << 16);
+            let got = self.subject.read_discover(&frame);
+            same(
+                || format!("byte 44 {byte:02x}h: read_discover"),
+                answer,
+                got,
+            )?;
         }
         Ok(())
     }
@@ -2169,12 +2265,13 @@ pub fn typed() -> Done {
         metzurgo::trace(&rig, &words, 0, 255, 0, &mut passed),
     )?;
     let mut buf = [7; 50];
-    let frame = metzurgo::write_route(&mut buf, 3, 0x0405, B1).map(|frame| frame.to_vec());
     let route = Route {
+        length: 0x09,
         phy: 3,
         index: 0x0405,
         entry: B1,
     };
+    let frame = metzurgo::write_route(&mut buf, route).map(|frame| frame.to_vec());
     equal("write_route", Ok(40), frame.as_ref().map(Vec::len))?;
     equal(
         "read_route",
@@ -2189,7 +2286,7 @@ pub fn typed() -> Done {
     equal(
         "write_route",
         Some(refusal(15, 0, 0)),
-        metzurgo::write_route(&mut buf, 128, 0, 0).err(),
+        metzurgo::write_route(&mut buf, Route { phy: 128, ..route }).err(),
     )?;
     let general = General {
         route_indexes: 4,
@@ -2203,8 +2300,8 @@ pub fn typed() -> Done {
     )?;
     let phy = Discover::Phy {
         identifier: 1,
-        device_type: 1,
-        attribute: 0,
+        device_type: codes::END_DEVICE,
+        attribute: codes::DIRECT,
         own: X20,
         attached: B1,
         attached_phy: 0,

@@ -13,6 +13,34 @@ pub const STUB: bool = cfg!(feature = "stub");
 /// The phy number that stands for the expander itself.
 pub const EXPANDER_ITSELF: u8 = 255;
 
+/// The codes of attached device type and routing attribute, in the order of the
+/// standard.
+pub mod codes {
+    pub const NO_DEVICE: u8 = 0b000;
+    pub const END_DEVICE: u8 = 0b001;
+    pub const EDGE_EXPANDER: u8 = 0b010;
+    pub const FANOUT_EXPANDER: u8 = 0b011;
+
+    pub const DIRECT: u8 = 0x0;
+    pub const SUBTRACTIVE: u8 = 0x1;
+    pub const TABLE: u8 = 0x2;
+
+    /// Reserved codes: 4 to 7 of the types, 3 to 15 of the attributes.
+    pub const RESERVED_3: u8 = 3;
+    pub const RESERVED_4: u8 = 4;
+    pub const RESERVED_5: u8 = 5;
+    pub const RESERVED_6: u8 = 6;
+    pub const RESERVED_7: u8 = 7;
+    pub const RESERVED_8: u8 = 8;
+    pub const RESERVED_9: u8 = 9;
+    pub const RESERVED_10: u8 = 10;
+    pub const RESERVED_11: u8 = 11;
+    pub const RESERVED_12: u8 = 12;
+    pub const RESERVED_13: u8 = 13;
+    pub const RESERVED_14: u8 = 14;
+    pub const RESERVED_15: u8 = 15;
+}
+
 /// The calls with their answers as 64-bit numbers.
 pub mod raw {
     #[cfg(not(feature = "stub"))]
@@ -57,8 +85,10 @@ pub mod raw {
         }
     }
 
-    pub fn write_route(buf: &mut [u8], phy: u8, index: u16, entry: u64) -> u64 {
-        unsafe { calls::metzurgo_write_route(buf.as_mut_ptr(), buf.len(), phy, index, entry) }
+    pub fn write_route(buf: &mut [u8], length: u8, phy: u8, index: u16, entry: u64) -> u64 {
+        unsafe {
+            calls::metzurgo_write_route(buf.as_mut_ptr(), buf.len(), length, phy, index, entry)
+        }
     }
 
     pub fn read_route(frame: &[u8]) -> u64 {
@@ -116,6 +146,7 @@ mod linked {
         pub fn metzurgo_write_route(
             buf: *mut u8,
             buf_len: usize,
+            length: u8,
             phy: u8,
             index: u16,
             entry: u64,
@@ -158,7 +189,7 @@ mod stub {
     ) -> u64 {
         NOTHING
     }
-    pub unsafe fn metzurgo_write_route(_: *mut u8, _: usize, _: u8, _: u16, _: u64) -> u64 {
+    pub unsafe fn metzurgo_write_route(_: *mut u8, _: usize, _: u8, _: u8, _: u16, _: u64) -> u64 {
         NOTHING
     }
     pub unsafe fn metzurgo_read_route(_: *const u8, _: usize) -> u64 {
@@ -221,9 +252,11 @@ pub struct Trace {
     pub count: u8,
 }
 
-/// The fields of a CONFIGURE ROUTE INFORMATION request.
+/// The fields of a CONFIGURE ROUTE INFORMATION request. `length` is its byte 3,
+/// REQUEST LENGTH: 00h or 09h.
 #[derive(Clone, Copy, Debug, PartialEq, Eq, Hash)]
 pub struct Route {
+    pub length: u8,
     pub phy: u8,
     pub index: u16,
     pub entry: u64,
@@ -237,7 +270,8 @@ pub struct General {
     pub configurable: bool,
 }
 
-/// The fields of a DISCOVER response, unchecked, or a vacant phy.
+/// The fields of a DISCOVER response, unchecked, or a vacant phy. [`codes`] names
+/// the types and attributes.
 #[derive(Clone, Copy, Debug, PartialEq, Eq, Hash)]
 pub enum Discover {
     Vacant {
@@ -307,14 +341,21 @@ pub fn trace(
 }
 
 /// Writes a CONFIGURE ROUTE INFORMATION request; gives the forty bytes written.
-pub fn write_route(buf: &mut [u8], phy: u8, index: u16, entry: u64) -> Result<&mut [u8], Refusal> {
-    let length = accepted(raw::write_route(buf, phy, index, entry))?;
-    Ok(&mut buf[..length as usize])
+pub fn write_route(buf: &mut [u8], route: Route) -> Result<&mut [u8], Refusal> {
+    let Route {
+        length,
+        phy,
+        index,
+        entry,
+    } = route;
+    let written = accepted(raw::write_route(buf, length, phy, index, entry))?;
+    Ok(&mut buf[..written as usize])
 }
 
 /// Reads a CONFIGURE ROUTE INFORMATION request.
 pub fn read_route(frame: &[u8]) -> Result<Route, Refusal> {
     accepted(raw::read_route(frame)).map(|answer| Route {
+        length: (answer >> 24) as u8,
         phy: (answer >> 16) as u8,
         index: answer as u16,
         entry: raw::read_route_entry(frame),

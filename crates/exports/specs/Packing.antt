@@ -42,13 +42,13 @@ packEnd o last phy count = packOutcome o * 2 ^ 24 + last * 2 ^ 16 + phy * 2 ^ 8 
 abbrev pub ended : Reported → ℕ
 ended t = packEnd (t .outcome) (t .last) (t .phy) (t .count)
 
--- the length of a request
+-- the bytes of a request
 abbrev pub forty : List ℕ → ℕ
 forty frame = 40
 
--- phy and route index
+-- REQUEST LENGTH, phy and route index
 abbrev pub route : Route → ℕ
-route q = q .phy .0 * 65536 + q .index .0
+route q = q .length * 2 ^ 24 + q .phy .0 * 2 ^ 16 + q .index .0
 
 -- the entry, and 0 where refused
 abbrev pub entryOf : Result Route → ℕ

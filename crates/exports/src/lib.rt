@@ -90,13 +90,21 @@ pub extern "C" fn metzurgo_trace(
     }
 }
 
-// Writes one CONFIGURE ROUTE INFORMATION request, and answers its length, 40.
+// Writes one CONFIGURE ROUTE INFORMATION request that states this REQUEST LENGTH, and answers how many
+// bytes it has, 40.
 #[no_mangle]
-pub extern "C" fn metzurgo_write_route(buf: &mut [u8], phy: u8, index: u16, entry: u64) -> u64
-    ensures { λ r. ⌜ (r ≡ packed forty (routeWritten (length (now (buf .entry))) (record { phy = record { 0 = phy }; index = record { 0 = index }; entry = entry })))
-        × (now (buf .exit) ≡ bufferAfter (now (buf .entry)) (routeWritten (length (now (buf .entry))) (record { phy = record { 0 = phy }; index = record { 0 = index }; entry = entry }))) ⌝ }
+pub extern "C" fn metzurgo_write_route(
+    buf: &mut [u8],
+    stated: u8,
+    phy: u8,
+    index: u16,
+    entry: u64,
+) -> u64
+    ensures { λ r. ⌜ (r ≡ packed forty (routeWritten (length (now (buf .entry))) (record { length = stated; phy = record { 0 = phy }; index = record { 0 = index }; entry = entry })))
+        × (now (buf .exit) ≡ bufferAfter (now (buf .entry)) (routeWritten (length (now (buf .entry))) (record { length = stated; phy = record { 0 = phy }; index = record { 0 = index }; entry = entry }))) ⌝ }
 {
     let request = Route {
+        length: stated,
         phy: PhyId(phy),
         index: RouteIndex(index),
         entry: entry,
@@ -108,7 +116,7 @@ pub extern "C" fn metzurgo_write_route(buf: &mut [u8], phy: u8, index: u16, entr
     }
 }
 
-// Reads one CONFIGURE ROUTE INFORMATION request: phy and route index.
+// Reads one CONFIGURE ROUTE INFORMATION request: REQUEST LENGTH, phy and route index.
 #[no_mangle]
 pub extern "C" fn metzurgo_read_route(frame: &[u8]) -> u64
     ensures { λ r. ⌜ r ≡ packed route (routeRead (now (frame .entry))) ⌝ }
@@ -116,7 +124,7 @@ pub extern "C" fn metzurgo_read_route(frame: &[u8]) -> u64
     let answer = frames::read_route(frame);
     match answer {
         RouteRead::Refused(r) => packing::refusal(r),
-        RouteRead::Read(q) => (q.phy.0 as u64) * 65536 + (q.index.0 as u64),
+        RouteRead::Read(q) => packing::request(q),
     }
 }
 

@@ -1,11 +1,12 @@
 // Answers packed into one number.
 use frames::Discover;
 use frames::Refusal;
+use frames::Route;
 use tracing::End;
 use tracing::Outcome;
 ghost use mathlib.Core.Path.{_≡_};
 ghost use Prim.Native.Nat.{_≤_};
-ghost use Rattle.exports.specs.Packing.{packRefusal, packEnd, packOutcome, packFields};
+ghost use Rattle.exports.specs.Packing.{packRefusal, packEnd, packOutcome, packFields, route};
 
 // A refusal: 2 to the power 63, and below it number, expander and phy, a byte each.
 pub(crate) fn refusal(r: Refusal) -> u64
@@ -41,4 +42,11 @@ pub(crate) fn discover(d: Discover) -> u64
         + (d.device as u64) * 16777216
         + (d.attribute as u64) * 65536
         + (d.far.0 as u64)
+}
+
+// A CONFIGURE ROUTE INFORMATION request, without its entry.
+pub(crate) fn request(q: Route) -> u64
+    ensures { λ n. ⌜ n ≡ route q ⌝ }
+{
+    (q.length as u64) * 16777216 + (q.phy.0 as u64) * 65536 + (q.index.0 as u64)
 }

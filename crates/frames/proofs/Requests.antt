@@ -8,31 +8,34 @@ use lib.Dec.{eqb, leb}
 use borrow.Author.Tests.{le-leb, eqb-true, leb-true}
 use Rattle.frames.specs.Bytes.{numberAt, bytesOf}
 use Rattle.frames.specs.Refusals.{Result, good, unless, refusal}
-use Rattle.frames.specs.ConfigureRoute.{routeFrame, routeWritten, partAfter, routeAnswer, routeRead}
+use Rattle.frames.specs.ConfigureRoute.{isLength, routeFrame, routeWritten, partAfter, routeAnswer, routeFixed, routeRead}
 use Rattle.frames.specs.declared.Refusal.{Refusal}
 use Rattle.frames.specs.declared.Route.{Route}
 use Rattle.frames.specs.declared.RouteRead.{RouteRead}
 use Rattle.frames.specs.declared.RouteRead.the-variants.{Refused, Read}
 use Rattle.frames.proofs.Numbers.{number-back}
 
--- a written request has its phy and its room
+-- a written request has its length, its phy and its room
 pub record Fits (room : ℕ) (q : Route) : Type 0 where
+  pub length : isLength (q .length) ≡ true
   pub phy : q .phy .0 ≤ 127
   pub bytes : 40 ≤ room
 
-fits-by : (a b : Bool) (r s : Refusal) (x l : List ℕ) → unless a r (unless b s (good x)) ≡ good l → (a ≡ true) × (b ≡ true)
-fits-by true true r s x l e = (refl, refl)
-fits-by true false r s x l e = let z : _≡_ {A = ℕ} 0 1 = cc in absurd (omega arith)
-fits-by false b r s x l e = let z : _≡_ {A = ℕ} 0 1 = cc in absurd (omega arith)
+fits-by : (a b c : Bool) (r s t : Refusal) (x l : List ℕ) → unless a r (unless b s (unless c t (good x))) ≡ good l → (a ≡ true) × ((b ≡ true) × (c ≡ true))
+fits-by true true true r s t x l e = (refl, (refl, refl))
+fits-by true true false r s t x l e = let z : _≡_ {A = ℕ} 0 1 = cc in absurd (omega arith)
+fits-by true false c r s t x l e = let z : _≡_ {A = ℕ} 0 1 = cc in absurd (omega arith)
+fits-by false b c r s t x l e = let z : _≡_ {A = ℕ} 0 1 = cc in absurd (omega arith)
 
 pub fits : (room : ℕ) (q : Route) (l : List ℕ) → routeWritten room q ≡ good l → Fits room q
 unfolding routeWritten
 fits room q l e =
-    let t = fits-by (leb (q .phy .0) 127) (leb 40 room) (refusal 15 0 0) (refusal 16 0 0) (routeFrame q) l e in
-    record { phy = leb-true (q .phy .0) 127 (t .0); bytes = leb-true 40 room (t .1) }
+    let t = fits-by (isLength (q .length)) (leb (q .phy .0) 127) (leb 40 room) (refusal 2 0 0) (refusal 15 0 0) (refusal 16 0 0) (routeFrame q) l e in
+    record { length = t .0; phy = leb-true (q .phy .0) 127 (t .1 .0); bytes = leb-true 40 room (t .1 .1) }
 
--- the numbers of a request that its types allow, and the phys that can be written
+-- the numbers of a request that its types allow, and the lengths and phys that can be written
 pub record Allowed (q : Route) : Type 0 where
+  pub length : isLength (q .length) ≡ true
   pub phy : q .phy .0 ≤ 127
   pub index : q .index .0 < 2 ^ 16
   pub entry : q .entry < 2 ^ 64
@@ -44,11 +47,11 @@ entry-back entry e q false t = q
 
 -- reading a written request yields it
 pub round-trip : (q : Route) → Allowed q → routeRead (routeFrame q) ≡ good q
-unfolding routeRead routeFrame numberAt bytesOf
+unfolding routeRead routeFixed routeFrame numberAt bytesOf
 round-trip q a =
     let i : numberAt (bytesOf 2 (q .index .0)) 0 2 ≡ q .index .0 = number-back 2 (q .index .0) (a .index) in
     let e : numberAt (bytesOf 8 (q .entry)) 0 8 ≡ q .entry = number-back 8 (q .entry) (a .entry) in
-    simp (le-leb (q .phy .0) 127 (a .phy), i, entry-back (q .entry) _ e (eqb (q .entry) 0) refl)
+    simp (a .length, le-leb (q .phy .0) 127 (a .phy), i, entry-back (q .entry) _ e (eqb (q .entry) 0) refl)
 
 -- two different requests never give equal frames
 pub frames-differ : (q r : Route) → Allowed q → Allowed r → routeFrame q ≡ routeFrame r → q ≡ r
@@ -65,5 +68,5 @@ pub promised-back : (room : ℕ) (q : Route) (part : List ℕ) (answer : RouteRe
     → part ≡ partAfter (routeWritten room q) → routeAnswer answer ≡ routeRead part → answer ≡ Read q
 unfolding routeWritten
 promised-back room q part answer a h e r =
-    let p : part ≡ routeFrame q = e ∙ simp (le-leb (q .phy .0) 127 (a .phy), le-leb 40 room h) in
+    let p : part ≡ routeFrame q = e ∙ simp (a .length, le-leb (q .phy .0) 127 (a .phy), le-leb 40 room h) in
     read-good answer q (r ∙ ap routeRead p ∙ round-trip q a)

@@ -7,40 +7,48 @@ use Rattle.frames.specs.Bytes.{numberAt, bytesOf}
 use Rattle.frames.specs.Refusals.{refused, good, refusal}
 use Rattle.frames.specs.ReportGeneral.{generalFixed, generalRead}
 use Rattle.frames.specs.Discovery.{vacant, fields, discoverFixed, discoverRead}
-use Rattle.frames.specs.ConfigureRoute.{routeFrame, routeWritten, routeRead}
+use Rattle.frames.specs.ConfigureRoute.{routeFrame, routeWritten, routeFixed, routeRead}
 use Rattle.frames.specs.declared.Route.{Route}
 
 -- phy 5, route index 258
-abbrev request : ℕ → Route
-request entry = record { phy = record { 0 = 5 }; index = record { 0 = 258 }; entry = entry }
+abbrev request : ℕ → ℕ → Route
+request length entry = record { length = length; phy = record { 0 = 5 }; index = record { 0 = 258 }; entry = entry }
 
 -- its bytes up to byte 11
-abbrev front : List ℕ
-front = 0x40 ∷ 0x90 ∷ 0 ∷ 0 ∷ 0 ∷ 0 ∷ 1 ∷ 2 ∷ 0 ∷ 5 ∷ 0 ∷ 0 ∷ []
+abbrev front : ℕ → List ℕ
+front length = 0x40 ∷ 0x90 ∷ 0 ∷ length ∷ 0 ∷ 0 ∷ 1 ∷ 2 ∷ 0 ∷ 5 ∷ 0 ∷ 0 ∷ []
 
-enabled : List ℕ
-enabled = front ++ (0x00 ∷ 0 ∷ 0 ∷ 0 ∷ 0x50 ∷ 0 ∷ 0 ∷ 0 ∷ 0 ∷ 0 ∷ 0 ∷ 0xb1 ∷ replicate 16 0)
+enabled : ℕ → List ℕ
+enabled length = front length ++ (0x00 ∷ 0 ∷ 0 ∷ 0 ∷ 0x50 ∷ 0 ∷ 0 ∷ 0 ∷ 0 ∷ 0 ∷ 0 ∷ 0xb1 ∷ replicate 16 0)
 
 disabled : List ℕ
-disabled = front ++ (0x80 ∷ replicate 27 0)
+disabled = front 0 ++ (0x80 ∷ replicate 27 0)
 
-writes : (routeFrame (request 0x50000000000000b1) ≡ enabled)
-    × ((routeFrame (request 0) ≡ disabled)
-    × ((routeWritten 39 (request 7) ≡ refused (refusal 16 0 0))
-    × (routeWritten 39 (record { phy = record { 0 = 128 }; index = record { 0 = 0 }; entry = 7 }) ≡ refused (refusal 15 0 0))))
+-- 2 before 15 before 16
+writes : (routeFrame (request 0x00 0x50000000000000b1) ≡ enabled 0x00)
+    × ((routeFrame (request 0x00 0) ≡ disabled)
+    × ((routeWritten 39 (request 0x09 7) ≡ refused (refusal 16 0 0))
+    × ((routeWritten 39 (record { length = 0x09; phy = record { 0 = 128 }; index = record { 0 = 0 }; entry = 7 }) ≡ refused (refusal 15 0 0))
+    × (routeWritten 39 (record { length = 0x0a; phy = record { 0 = 128 }; index = record { 0 = 0 }; entry = 7 }) ≡ refused (refusal 2 0 0)))))
 unfolding routeFrame routeWritten bytesOf enabled disabled
-writes = (refl, (refl, (refl, refl)))
+writes = (refl, (refl, (refl, (refl, refl))))
 
 -- a set disable bit hides the address; the other bits of byte 12 and the other bytes are ignored
-reads : (routeRead enabled ≡ good (request 0x50000000000000b1))
-    × ((routeRead (set enabled 12 0x80) ≡ good (request 0))
-    × ((routeRead (set (set enabled 12 0x7f) 39 0xff) ≡ good (request 0x50000000000000b1))
-    × ((routeRead (enabled ++ (0 ∷ [])) ≡ refused (refusal 1 0 0))
-    × ((routeRead (set (set enabled 0 0x41) 9 128) ≡ refused (refusal 2 0 0))
-    × ((routeRead (set enabled 1 0x91) ≡ refused (refusal 2 0 0))
-    × (routeRead (set enabled 9 128) ≡ refused (refusal 15 0 0)))))))
-unfolding routeRead numberAt enabled
-reads = (refl, (refl, (refl, (refl, (refl, (refl, refl))))))
+reads : (routeRead (enabled 0x00) ≡ good (request 0x00 0x50000000000000b1))
+    × ((routeRead (set (enabled 0x00) 12 0x80) ≡ good (request 0x00 0))
+    × ((routeRead (set (set (enabled 0x00) 12 0x7f) 39 0xff) ≡ good (request 0x00 0x50000000000000b1))
+    × ((routeRead (enabled 0x00 ++ (0 ∷ [])) ≡ refused (refusal 1 0 0))
+    × ((routeRead (set (set (enabled 0x00) 0 0x41) 9 128) ≡ refused (refusal 2 0 0))
+    × ((routeRead (set (enabled 0x00) 1 0x91) ≡ refused (refusal 2 0 0))
+    × ((routeRead (set (enabled 0x0a) 9 128) ≡ refused (refusal 2 0 0))
+    × (routeRead (set (enabled 0x09) 9 128) ≡ refused (refusal 15 0 0))))))))
+unfolding routeRead routeFixed numberAt enabled
+reads = (refl, (refl, (refl, (refl, (refl, (refl, (refl, refl)))))))
+
+-- the forty bytes that smp_conf_route_info of smp_utils sends for this request, written and read
+smp-utils : (routeFrame (request 0x09 0x50000000000000b1) ≡ enabled 0x09) × (routeRead (enabled 0x09) ≡ good (request 0x09 0x50000000000000b1))
+unfolding routeFrame bytesOf routeRead routeFixed numberAt enabled
+smp-utils = (refl, refl)
 
 -- R 0x1234, 20 phys, configurable
 general : List ℕ

@@ -11,7 +11,17 @@ ghost use mathlib.Core.List.{_++_};
 ghost use Prim.Native.Nat.{_≤_};
 ghost use lib.ListN.{length, drop};
 ghost use denote.Ref.{ptr};
-ghost use Rattle.frames.specs.ConfigureRoute.{disableByte, routeFrame, routeWritten, writeAnswer, bufferAfter, partAfter, routeAnswer, entryIn, routeRead};
+ghost use Rattle.frames.specs.ConfigureRoute.{isLength, disableByte, routeFrame, routeWritten, writeAnswer, bufferAfter, partAfter, routeAnswer, routeFixed, entryIn, routeRead};
+
+// Whether byte 3, REQUEST LENGTH, may be this: 00h or 09h.
+fn is_length(b: u8) -> bool
+    ensures { λ r. ⌜ r ≡ isLength b ⌝ }
+{
+    if b == 0x00 {
+        return true;
+    }
+    b == 0x09
+}
 
 // Byte 12: bit 7 is set where the entry is 0, that is disabled.
 fn disable_byte(entry: u64) -> u8
@@ -33,18 +43,24 @@ fn put_frame(buf: &mut [u8], request: Route)
     bytes::clear_front(buf, 40);
     buf[0] = 0x40;
     buf[1] = 0x90;
+    buf[3] = request.length;
     buf[9] = request.phy.0;
     buf[12] = disable;
     bytes::put_number(buf, 6, 2, index as u64);
     bytes::put_number(buf, 16, 8, request.entry);
 }
 
-// Whether a request can be written into the buffer: the phy (15), then the room (16). It is given what
-// the writers are given, and writes nothing.
+// Whether a request can be written into the buffer: REQUEST LENGTH (2), the phy (15), then the room (16).
+// It is given what the writers are given, and writes nothing.
 pub fn route_refusal(buf: &[u8], request: Route) -> RouteWrite
     ensures { λ r. ⌜ writeAnswer request r ≡ routeWritten (length (now (buf .entry))) request ⌝ }
 {
-    if request.phy.0 > 127 {
+    let stated = is_length(request.length);
+    let identifier = request.phy.0;
+    if !stated {
+        return RouteWrite::Refused(refusals::refused(2));
+    }
+    if identifier > 127 {
         return RouteWrite::Refused(refusals::refused(15));
     }
     if buf.len() < 40 {
@@ -80,6 +96,20 @@ pub fn write_route<'a>(buf: &'a mut [u8], request: Route) -> &'a mut [u8]
     }
 }
 
+// Whether bytes 0, 1 and 3 are right.
+fn is_fixed(frame: &[u8]) -> bool
+    requires { ⌜ length (now frame) ≡ 40 ⌝ }
+    ensures { λ r. ⌜ r ≡ routeFixed (now (frame .entry)) ⌝ }
+{
+    if frame[0] != 0x40 {
+        return false;
+    }
+    if frame[1] != 0x90 {
+        return false;
+    }
+    is_length(frame[3])
+}
+
 // The entry of a request: 0 when the disable bit is set.
 fn entry_in(frame: &[u8]) -> u64
     requires { ⌜ length (now frame) ≡ 40 ⌝ }
@@ -91,17 +121,14 @@ fn entry_in(frame: &[u8]) -> u64
     bytes::number_at(frame, 16, 8)
 }
 
-// Reads one request. Its length (1), bytes 0 and 1 (2) and phy (15) are checked in this order.
+// Reads one request. Its length (1), bytes 0, 1 and 3 (2) and phy (15) are checked in this order.
 pub fn read_route(frame: &[u8]) -> RouteRead
     ensures { λ r. ⌜ routeAnswer r ≡ routeRead (now (frame .entry)) ⌝ }
 {
     if frame.len() != 40 {
         return RouteRead::Refused(refusals::refused(1));
     }
-    if frame[0] != 0x40 {
-        return RouteRead::Refused(refusals::refused(2));
-    }
-    if frame[1] != 0x90 {
+    if !is_fixed(frame) {
         return RouteRead::Refused(refusals::refused(2));
     }
     let phy = frame[9];
@@ -109,6 +136,7 @@ pub fn read_route(frame: &[u8]) -> RouteRead
         return RouteRead::Refused(refusals::refused(15));
     }
     RouteRead::Read(Route {
+        length: frame[3],
         phy: PhyId(phy),
         index: RouteIndex(bytes::number_at(frame, 6, 2) as u16),
         entry: entry_in(frame),

@@ -1,6 +1,7 @@
 // SMP frames, each by itself: REPORT GENERAL and DISCOVER responses are read, CONFIGURE ROUTE
 // INFORMATION requests are written and read.
 mod bytes;
+pub mod codes;
 mod configure_route;
 mod discovery;
 mod refusals;
@@ -62,8 +63,10 @@ pub enum DiscoverRead {
     Read(Discover),
 }
 
-// The fields of a CONFIGURE ROUTE INFORMATION request. Entry 0 is a disabled entry.
+// The fields of a CONFIGURE ROUTE INFORMATION request: REQUEST LENGTH (00h or 09h), phy, route index and
+// entry. Entry 0 is a disabled entry.
 pub struct Route {
+    pub length: u8,
     pub phy: PhyId,
     pub index: RouteIndex,
     pub entry: u64,

@@ -1,3 +1,4 @@
+-- metzurgo_read_route answers the packing of what read_route answers, refusal or request.
 use mathlib.Core.Path.{sym, _∙_, ap}
 use borrow.Author.Needs.{needs}
 use Rattle.exports.specs.Packing.{packed, route}
@@ -17,17 +18,8 @@ refusal-requires c κs = search needs
 enum-known-answer-2 : tie.Need-enum-known-answer-2
 enum-known-answer-2 c = search needs
 
-cast-result : tie.Need-cast-result
-cast-result c = search needs
-
-mul-result : tie.Need-mul-result
-mul-result c = search needs
-
-cast-result-2 : tie.Need-cast-result-2
-cast-result-2 c = search needs
-
-add-result : tie.Need-add-result
-add-result c = search needs
+request-requires : tie.Need-request-requires
+request-requires c κs = search needs
 
 returns : tie.Need-returns
 returns c =
@@ -36,20 +28,9 @@ returns c =
 
 returns-2 : tie.Need-returns-2
 returns-2 c =
-    let e = sym (c .before .before .before .before .before .read-route .ensures) ∙ ap (routeAnswer) (c .before .before .before .answer2 .given .1) in
-    sym (ap (packed route) e)
+    let e = sym (c .before .before .before .before .read-route .ensures) ∙ ap (routeAnswer) (c .before .before .answer2 .given .1) in
+    c .request .ensures ∙ sym (ap (packed route) e)
 
 pub metzurgo-read-route-spec : {M : Type 1} → statement M
 metzurgo-read-route-spec =
-    tie.close
-    (tie.spec
-    read-route-requires
-    enum-known-answer
-    refusal-requires
-    enum-known-answer-2
-    cast-result
-    mul-result
-    cast-result-2
-    add-result
-    returns
-    returns-2)
+    tie.close (tie.spec read-route-requires enum-known-answer refusal-requires enum-known-answer-2 request-requires returns returns-2)

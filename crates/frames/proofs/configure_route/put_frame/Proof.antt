@@ -25,6 +25,9 @@ slice-write-buf-3 c = simp length-set (omega arith)
 slice-write-buf-4 : tie.Need-slice-write-buf-4
 slice-write-buf-4 c = simp length-set (omega arith)
 
+slice-write-buf-5 : tie.Need-slice-write-buf-5
+slice-write-buf-5 c = simp length-set (omega arith)
+
 cast-put-number : tie.Need-cast-put-number
 cast-put-number c = search needs
 
@@ -59,6 +62,7 @@ put-frame-spec =
     slice-write-buf-2
     slice-write-buf-3
     slice-write-buf-4
+    slice-write-buf-5
     cast-put-number
     put-number-requires
     put-number-requires-2
