@@ -9,7 +9,7 @@ use lib.ListN.{length, getD, drop, drop-of-length-le}
 use lib.Seq.{drop-drop, drop-cons}
 use lib.Dec.{leb}
 use borrow.Author.Tests.{le-leb, lt-leb}
-use Rattle.listing.specs.Lines.{joined, fitting, chunkOf}
+use Rattle.listing.specs.Lines.{textOf, fitting, chunkOf}
 use Rattle.listing.specs.Marks.{lineAt, markedLines}
 
 length-marked : (ms ws : List ℕ) → length (markedLines ms ws) ≡ min (length ms) (length ws)
@@ -57,21 +57,21 @@ module _ (ms ws : List ℕ) (n end : ℕ) where
   chunk-full h = fit-full end (drop n (markedLines ms ws)) (omega arith)
 
 -- the text and the number of lines left
-pub joined-next : (ls : List (List ℕ)) (l : List ℕ) (rest : List (List ℕ)) → ls ≡ l ∷ rest → joined ls ≡ l ++ joined rest
-unfolding joined
-joined-next ls l rest e = ap joined e
+pub text-next : (ls : List (List ℕ)) (l : List ℕ) (rest : List (List ℕ)) → ls ≡ l ∷ rest → textOf ls ≡ l ++ textOf rest
+unfolding textOf
+text-next ls l rest e = ap textOf e
 
-pub joined-none : (ls : List (List ℕ)) → ls ≡ [] → joined ls ≡ []
-unfolding joined
-joined-none ls e = ap joined e
+pub text-none : (ls : List (List ℕ)) → ls ≡ [] → textOf ls ≡ []
+unfolding textOf
+text-none ls e = ap textOf e
 
 pub chunk-count : (n v : ℕ) (ls : List (List ℕ)) (l : List ℕ) (rest : List (List ℕ)) → ls ≡ l ∷ rest → n + length ls ≡ v → n + 1 + length rest ≡ v
 chunk-count n v ls l rest e q = omega (arith, ap length e)
 
-joined-append : (ls ms : List (List ℕ)) → joined (ls ++ ms) ≡ joined ls ++ joined ms
-unfolding joined
-joined-append [] ms = refl
-joined-append (l ∷ ls) ms = ap (λ (x : List ℕ). l ++ x) (joined-append ls ms) ∙ sym (append-assoc l (joined ls) (joined ms))
+text-append : (ls ms : List (List ℕ)) → textOf (ls ++ ms) ≡ textOf ls ++ textOf ms
+unfolding textOf
+text-append [] ms = refl
+text-append (l ∷ ls) ms = ap (λ (x : List ℕ). l ++ x) (text-append ls ms) ∙ sym (append-assoc l (textOf ls) (textOf ms))
 
 fit-rest : (end : ℕ) (ls : List (List ℕ)) → fitting end ls ++ drop (length (fitting end ls)) ls ≡ ls
 unfolding fitting
@@ -85,11 +85,11 @@ fit-rest end (l ∷ ls) = go (leb (end + 80) 65536) (fit-rest (end + length l) l
 
 module _ (ls : List (List ℕ)) (from : ℕ) where
   -- the text of a chunk, and then that of the lines after it, is the text of all lines from `from` on
-  pub chunk-rest : joined (chunkOf ls from) ++ joined (drop (from + length (chunkOf ls from)) ls) ≡ joined (drop from ls)
+  pub chunk-rest : textOf (chunkOf ls from) ++ textOf (drop (from + length (chunkOf ls from)) ls) ≡ textOf (drop from ls)
   chunk-rest =
       let n : ℕ = length (chunkOf ls from) in
-      ap (λ (x : List (List ℕ)). joined (chunkOf ls from) ++ joined x) (sym (drop-drop n from ls))
-      ∙ sym (joined-append (chunkOf ls from) (drop n (drop from ls))) ∙ ap joined (fit-rest 0 (drop from ls))
+      ap (λ (x : List (List ℕ)). textOf (chunkOf ls from) ++ textOf x) (sym (drop-drop n from ls))
+      ∙ sym (text-append (chunkOf ls from) (drop n (drop from ls))) ∙ ap textOf (fit-rest 0 (drop from ls))
 
   -- a chunk has a line where one is left
   pub chunk-some : from < length ls → 0 < length (chunkOf ls from)

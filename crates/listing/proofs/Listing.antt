@@ -15,12 +15,12 @@ use Rattle.wiring.proofs.Results.{good-one, then-good}
 use Rattle.wiring.proofs.Accepted.{wired-read}
 use Rattle.wiring.proofs.Opening.{opened}
 use Rattle.tables.specs.Tables.{table, tablePlaces, tables, needed}
-use Rattle.tables.specs.Judge.{judged, tableCall, Counted, countsIn, wordsAfter, TablesDone}
+use Rattle.tables.specs.Judge.{judged, tableCall, Counted, countsIn, tablesAfter, TablesDone}
 use Rattle.tables.specs.declared.TablesGiven.the-variants.{Counts}
 use Rattle.tables.proofs.Tables.{table-length, tables-length}
 use Rattle.tables.proofs.Given.{judged-wired, tableCall-iff}
 use Rattle.listing.specs.Text.{lineOf, totalsOf}
-use Rattle.listing.specs.Lines.{tableLines, placeLines, linesOf, joined, entryLines, listingOf}
+use Rattle.listing.specs.Lines.{tableLines, placeLines, linesOf, textOf, entryLines, listingOf}
 
 -- line k of a table's words says index k and word k
 pub entry-line : (i p from : ℕ) (ws : List ℕ) (k : ℕ) → k < length ws → getD (tableLines i p from ws) k [] ≡ lineOf i p (from + k) (getD ws k 0)
@@ -76,7 +76,7 @@ pub record Listed (file : List ℕ) (t w : ℕ) (rows words : List ℕ) : Type 0
   pub domain : Domain
   pub accepted : judged file ≡ good domain
   pub lines : linesOf (domainIn rows) words ≡ entryLines domain
-  pub text : joined (linesOf (domainIn rows) words) ++ totalsOf t w ≡ listingOf domain
+  pub text : textOf (linesOf (domainIn rows) words) ++ totalsOf t w ≡ listingOf domain
 
 -- from what `read_domain` and `give_tables` promise
 pub listed : (file before after lent words : List ℕ) (n t w : ℕ) → length before ≡ 16512 → length lent ≡ 8192
@@ -90,12 +90,12 @@ listed file before after lent words n t w eb el r g =
     let o = opened file before after eb (Expanders n) r in
     let e : domainIn (take (258 * n) after) ≡ d = good-one _ _ (sym (o .0) ∙ wired-read file d (judged-wired file d (c .0))) in
     let f = good-one _ _ (a .2) in
-    let q : words ≡ tables d ++ drop (needed d) lent = g .words ∙ ap (λ (x : Result Domain). wordsAfter x lent) (a .1) in
+    let q : words ≡ tables d ++ drop (needed d) lent = g .words ∙ ap (λ (x : Result Domain). tablesAfter x lent) (a .1) in
     let l : linesOf (domainIn (take (258 * n) after)) words ≡ entryLines d =
     ap₂ linesOf e q ∙ tables-lines d (drop (needed d) lent) (omega (arith, c .1)) in
     record {
       domain = d;
       accepted = c .0;
       lines = l;
-      text = ap₂ (λ (x : List (List ℕ)) (y : Counted). joined x ++ totalsOf (y .tableCount) (y .wordCount)) l (sym f);
+      text = ap₂ (λ (x : List (List ℕ)) (y : Counted). textOf x ++ totalsOf (y .tableCount) (y .wordCount)) l (sym f);
     }

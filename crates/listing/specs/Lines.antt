@@ -29,9 +29,9 @@ unfoldable pub linesOf : Domain → List ℕ → List (List ℕ)
 linesOf d ws = cond (leb (needed d) 8192) (placeLines d (tablePlaces d) ws) []
 
 -- lines as one text
-unfoldable pub joined : List (List ℕ) → List ℕ
-joined [] = []
-joined (l ∷ ls) = l ++ joined ls
+unfoldable pub textOf : List (List ℕ) → List ℕ
+textOf [] = []
+textOf (l ∷ ls) = l ++ textOf ls
 
 -- the lines that are put after `end` bytes, up to the first for which no 80 of the 65,536 bytes are left
 unfoldable pub fitting : ℕ → List (List ℕ) → List (List ℕ)
@@ -44,7 +44,7 @@ chunkOf ls from = fitting 0 (drop from ls)
 
 -- a chunk of lines was put: its text, which lies within the buffer, and the number of the next line
 pub record ChunkPut (ls : List (List ℕ)) (from : ℕ) (before after : List ℕ) (next end : ℕ) : Type 0 where
-  pub text : Put before after 0 end (joined (chunkOf ls from))
+  pub text : Put before after 0 end (textOf (chunkOf ls from))
   pub counts : Counts end after
   pub line : next ≡ from + length (chunkOf ls from)
 
@@ -54,4 +54,4 @@ entryLines d = flatMap (λ q. tableLines (q .expander) (q .phy) 0 (table d (q .e
 
 -- the whole listing: a line for each word of each table, then the totals
 unfoldable pub listingOf : Domain → List ℕ
-listingOf d = joined (entryLines d) ++ totalsOf (length (tablePlaces d)) (needed d)
+listingOf d = textOf (entryLines d) ++ totalsOf (length (tablePlaces d)) (needed d)

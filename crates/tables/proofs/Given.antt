@@ -5,9 +5,9 @@ use mathlib.Core.List.{List}
 use Prim.Native.Nat.{ℕ, _≤_, _<_}
 use native.Mathlib.Omega.{arith}
 use native.Mathlib.Decide.{decLt}
-use lib.ListN.{length, getD, List·getD-eq-default}
+use lib.ListN.{length}
 use lib.Dec.{T, leb, lt→ltb, ltb→lt, leb→le, le→leb}
-use Rattle.wiring.specs.Frames.{good, refusal}
+use Rattle.wiring.specs.Frames.{Result, good, then, refusal}
 use Rattle.wiring.specs.Domain.{Domain, expanderAt, phyAt, routes, toExpander}
 use Rattle.wiring.specs.File.{limits, domainRead}
 use Rattle.wiring.specs.Causes.{farPhy, wiredDomain, wired}
@@ -17,10 +17,9 @@ use Rattle.wiring.specs.Links.{linkedDomain}
 use Rattle.wiring.proofs.Members.{tests}
 use Rattle.wiring.proofs.Wires.{Wired, routes-range}
 use Rattle.wiring.proofs.Results.{good-one, unless-good, good-unless, then-good, good-then}
-use Rattle.wiring.proofs.Accepted.{firstOf-good, good-firstOf, wired-same, wired-read, wired-domain, wired-wires, Linked, linked-iff, linked-same}
-use Rattle.tables.specs.Tables.{levelList, table, needed}
+use Rattle.wiring.proofs.Accepted.{firstOf-good, good-firstOf, wired-same, wired-read, wired-domain, wired-wires, passed-wired, wires-passed, Linked, linked-iff, linked-same}
+use Rattle.tables.specs.Tables.{levelList, needed}
 use Rattle.tables.specs.Judge.{overlong, judgedDomain, judged, tablesFor, tableCall}
-use Rattle.tables.proofs.Tables.{table-entry}
 
 -- past causes 11 to 14
 pub record Routable (d : Domain) : Type 0 where
@@ -75,16 +74,23 @@ judged-iff file d e = (
 pub judged-wires : (file : List ℕ) (d : Domain) → judged file ≡ good d → Wired d × Routable d
 judged-wires file d j = let e = judged-wired file d j in (wired-wires file d e, judged-iff file d e .0 j)
 
--- the table call gives the tables of d exactly when the file is accepted and there is room
-pub tableCall-iff : (file : List ℕ) (room : ℕ) (d : Domain) → (tableCall file room ≡ good d) ↔ ((judged file ≡ good d) × (needed d ≤ room))
-unfolding tableCall
-tableCall-iff file room d = (
-  λ c. let a = then-good (judged file) (tablesFor room) d c in
+-- past causes 1 to 10 a domain passes causes 11 to 14 exactly when it is routable
+pub routable-iff : (d : Domain) → Wired d → (judgedDomain d ≡ good d) ↔ Routable d
+routable-iff d w = (λ j. judged-routable d d j .2, routable-judged d (passed-wired d (wires-passed d w)))
+
+-- where x is what causes 1 to 14 leave, the table call gives the tables of d exactly when that is d and there is room
+pub tables-for-iff : (x : Result Domain) (room : ℕ) (d : Domain) → (then x (tablesFor room) ≡ good d) ↔ ((x ≡ good d) × (needed d ≤ room))
+tables-for-iff x room d = (
+  λ c. let a = then-good x (tablesFor room) d c in
       let b = unless-good (leb (needed (a .0)) room) (refusal 16 0 0) (good (a .0)) d (a .2) in
       let e = good-one (a .0) d (b .1) in
-      (a .1 ∙ ap good e, subst (λ x. needed x ≤ room) e (leb→le (needed (a .0)) room (b .0))),
-  λ j. good-then (judged file) (tablesFor room) d d (j .0) (good-unless (leb (needed d) room) (refusal 16 0 0) (good d) (le→leb (needed d) room (j .1))),
+      (a .1 ∙ ap good e, subst (λ y. needed y ≤ room) e (leb→le (needed (a .0)) room (b .0))),
+  λ j. good-then x (tablesFor room) d d (j .0) (good-unless (leb (needed d) room) (refusal 16 0 0) (good d) (le→leb (needed d) room (j .1))),
 )
+
+pub tableCall-iff : (file : List ℕ) (room : ℕ) (d : Domain) → (tableCall file room ≡ good d) ↔ ((judged file ≡ good d) × (needed d ≤ room))
+unfolding tableCall
+tableCall-iff file room d = tables-for-iff (judged file) room d
 
 -- "given exactly when": past causes 1 to 10, and with room, the table call gives tables exactly when there is no loop, a chain joins
 -- the first expander to each, no table phy is attached to a table phy, and every level list has at most R words
@@ -100,15 +106,3 @@ given-iff file room d e h = (
   λ g. let r : Routable d = record { linked = record { noLoop = g .0; chained = g .1; noTables = g .2 }; fits = g .3 } in
       tableCall-iff file room d .1 (judged-iff file d e .1 r, h),
 )
-
--- no other domain is given for the file
-pub given-same : (file : List ℕ) (room : ℕ) (d e : Domain) → wired file ≡ good d → tableCall file room ≡ good e → d ≡ e
-given-same file room d e f c = good-one d e (sym f ∙ judged-wired file e (tableCall-iff file room e .0 c .0))
-
--- table and level list agree index for index: entry k is word k of the list, and 0 after the list
-pub index-for-index : (d : Domain) → Routable d → (i p : ℕ) → T (routes 2 (phyAt d i p)) → (k : ℕ)
-    → (k < length (levelList d i p) → getD (table d i p) k 0 ≡ getD (levelList d i p) k 0)
-    × (length (levelList d i p) ≤ k → getD (table d i p) k 0 ≡ 0)
-index-for-index d r i p t k =
-    let e = table-entry d i p (r .fits i p t) k in
-    (λ h. e, λ h. e ∙ List·getD-eq-default (levelList d i p) 0 h)

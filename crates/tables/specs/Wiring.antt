@@ -1,8 +1,9 @@
 -- What the layer above uses of wiring and frames.
 pub use Rattle.wiring.specs.Frames.{Result, refused, good, unless, then, refusal}
 pub use Rattle.wiring.specs.declared.Phy.{Phy}
+pub use Rattle.wiring.specs.declared.Phy.the-variants.{Present}
 pub use Rattle.wiring.specs.declared.Check.the-variants.{Refused}
-pub use Rattle.wiring.specs.Lists.{upTo, In, Distinct, Below}
+pub use Rattle.wiring.specs.Lists.{upTo, In, Distinct, Below, last}
 unfoldable pub use Rattle.wiring.specs.Lists.{numbers, any, keep, isIn}
 pub use Rattle.wiring.specs.Domain.{Expander, Domain, noExpander, expanderAt, phyAt, typeOf, addressOf, farOf, attributeOf, routes}
 pub use Rattle.wiring.specs.Domain.{attached, toEnd, toExpander, bears}
@@ -12,5 +13,6 @@ pub use Rattle.wiring.specs.Rows.{domainIn}
 pub use Rattle.wiring.specs.Causes.{Place, place, places, farPhy, wired}
 unfoldable pub use Rattle.wiring.specs.Causes.{phyPlaces, placesFrom}
 pub use Rattle.wiring.specs.Checks.{checkAnswer}
-pub use Rattle.wiring.specs.Graph.{Steps, Loop, self, ring, Chain}
+pub use Rattle.wiring.specs.Graph.{Steps, Loop, self, ring}
 pub use Rattle.wiring.specs.Neighbours.{neighbours}
+pub use Rattle.wiring.specs.Devices.{LoopIn, ChainIn, Home, Borne}

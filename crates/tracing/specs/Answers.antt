@@ -10,7 +10,7 @@ use Rattle.tables.specs.Tables.{sizes}
 use Rattle.tables.specs.Judge.{judgedDomain}
 use Rattle.tracing.specs.Steps.{Step as Stepped, here, endDevice, bad, lost, onward, Pick as Picked, at, nowhere, pick, phyNumbers}
 use Rattle.tracing.specs.Steps.{bearing, listing, subtracting, subtractively, byTable, directly}
-use Rattle.tracing.specs.Trace.{Traced, traced, requested, report, traceAnswer, bytesAfter}
+use Rattle.tracing.specs.Trace.{Traced, Request, traced, requested, report, traceAnswer, bytesAfter}
 use Rattle.tracing.specs.declared.Step.{Step}
 use Rattle.tracing.specs.declared.Step.the-variants.{Here, EndDevice, Bad, Lost, Onward}
 use Rattle.tracing.specs.declared.steps.Pick.{Pick}
@@ -70,16 +70,16 @@ pub record Walked (t : Traced) (end : End) (before after : List ℕ) : Type 0 wh
   pub bytes : after ≡ t .passed ++ drop (length (t .passed)) before
 
 -- a request over a domain: causes 15 to 17, then the trace
-unfoldable pub tracedRequest : Domain → List ℕ → ℕ → ℕ → ℕ → ℕ → Result Traced
-tracedRequest d words bytes i arrival s =
-    then (requested (length words) bytes i arrival s d) (λ _.
-    good (traced d words i arrival s))
+unfoldable pub tracedRequest : Domain → List ℕ → ℕ → Request → Result Traced
+tracedRequest d words bytes q =
+    then (requested q (length words) bytes d) (λ _.
+    good (traced d words q))
 
 -- causes 7 to 17, then the trace
-unfoldable pub judgedRequest : Domain → List ℕ → ℕ → ℕ → ℕ → ℕ → Result Traced
-judgedRequest d words bytes i arrival s = then (judgedDomain d) (λ e. tracedRequest e words bytes i arrival s)
+unfoldable pub judgedRequest : Domain → List ℕ → ℕ → Request → Result Traced
+judgedRequest d words bytes q = then (judgedDomain d) (λ e. tracedRequest e words bytes q)
 
--- what a request answers, and its bytes
-pub record Answered (result : Result Traced) (answer : TraceAnswer) (before after : List ℕ) : Type 0 where
-  pub answers : traceAnswer answer ≡ then result report
-  pub bytes : after ≡ bytesAfter result before
+-- all that a trace call with this outcome promises: the answer, and the bytes after
+pub record TraceDone (outcome : Result Traced) (answer : TraceAnswer) (before after : List ℕ) : Type 0 where
+  pub answers : traceAnswer answer ≡ then outcome report
+  pub bytes : after ≡ bytesAfter outcome before

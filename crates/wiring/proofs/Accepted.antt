@@ -219,9 +219,6 @@ read-good most file d e =
     }
 
 -- what causes 1 to 6 leave of a file, in numbers
-pub some-expander : (file : List ℕ) (d : Domain) → domainRead limits file ≡ good d → 0 < length d
-some-expander file d e = read-good limits file d e .some
-
 pub few-expanders : (file : List ℕ) (d : Domain) → domainRead limits file ≡ good d → length d ≤ 64
 few-expanders file d e = read-good limits file d e .expanders
 

@@ -15,3 +15,4 @@ pub mod Claims
 pub mod Clashes
 pub mod Cables
 pub mod Links
+pub mod Devices

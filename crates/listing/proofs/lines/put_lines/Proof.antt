@@ -3,11 +3,11 @@ use mathlib.Core.Path.{_≡_, refl, ap}
 use borrow.Author.Needs.{needs}
 use native.Mathlib.Omega.{arith}
 use lib.ListN.{length, getD, drop}
-use Rattle.listing.specs.Lines.{joined, fitting, chunkOf}
+use Rattle.listing.specs.Lines.{textOf, fitting, chunkOf}
 use Rattle.listing.specs.Marks.{markedLines}
 use Rattle.listing.proofs.Puts.{Going, go-start, go-turn, go-end, put-within}
 use Rattle.listing.proofs.Numbers.{line-short}
-use Rattle.listing.proofs.Chunks.{chunk-next, chunk-last, chunk-full, chunk-count, joined-next, joined-none}
+use Rattle.listing.proofs.Chunks.{chunk-next, chunk-last, chunk-full, chunk-count, text-next, text-none}
 use Rattle.listing.proofs.lines.put_lines.Statement.{statement}
 use Rattle.listing.proofs.lines.put_lines.Tie as tie
 
@@ -15,7 +15,7 @@ abbrev Inv-loop : tie.InvT-loop
 Inv-loop marks words from out₀ n next₀ end₀ out next end =
     (end ≤ length out)
     × ((next + length (fitting end (drop next (markedLines marks words))) ≡ from + length (chunkOf (markedLines marks words) from))
-    × Going out₀ 0 (joined (chunkOf (markedLines marks words) from)) out end (joined (fitting end (drop next (markedLines marks words)))))
+    × Going out₀ 0 (textOf (chunkOf (markedLines marks words) from)) out end (textOf (fitting end (drop next (markedLines marks words)))))
 
 abbrev μ-loop : tie.MeasureT-loop
 μ-loop marks words from out₀ n next₀ end₀ out next end = n - next
@@ -31,7 +31,7 @@ returns c =
     let a = c .before .before .before .before .before .before .args in
     let l = c .before .before .loop in
     let e = chunk-full (a .marks .now) (a .words .now) (l .next) (l .end) (omega arith) in
-    let t = go-end (l .inv .1 .1) (joined-none _ e) in
+    let t = go-end (l .inv .1 .1) (text-none _ e) in
     let z = l .inv .1 .1 .same in
     record { text = t; counts = put-within t (omega arith); line = omega (arith, ap length e, l .inv .1 .0) }
 
@@ -70,14 +70,14 @@ loop-again c =
     let s = l .inv .1 .1 .same in
     let e = chunk-next (a .marks .now) (a .words .now) (l .next) (l .end) (omega arith) (omega arith) (omega arith) in
     let f = rw (← n) at e in
-    (omega arith, (chunk-count (l .next) _ _ _ _ f (l .inv .1 .0), go-turn (l .inv .1 .1) _ u (joined-next _ _ _ f) (omega arith)))
+    (omega arith, (chunk-count (l .next) _ _ _ _ f (l .inv .1 .0), go-turn (l .inv .1 .1) _ u (text-next _ _ _ f) (omega arith)))
 
 returns-2 : tie.Need-returns-2 Inv-loop μ-loop
 returns-2 c =
     let a = c .before .before .before .before .before .args in
     let l = c .before .loop in
     let e = chunk-last (a .marks .now) (a .words .now) (l .next) (l .end) (omega arith) in
-    let t = go-end (l .inv .1 .1) (joined-none _ e) in
+    let t = go-end (l .inv .1 .1) (text-none _ e) in
     let z = l .inv .1 .1 .same in
     record { text = t; counts = put-within t (omega arith); line = omega (arith, ap length e, l .inv .1 .0) }
 
