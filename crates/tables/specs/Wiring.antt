@@ -1,5 +1,5 @@
 -- What the layer above uses of wiring and frames.
-pub use Rattle.wiring.specs.Frames.{Result, refused, good, unless, then, refusal}
+pub use Rattle.wiring.specs.Frames.{Result, refused, good, unless, then, refusal, Exactly}
 pub use Rattle.wiring.specs.declared.Phy.{Phy}
 pub use Rattle.wiring.specs.declared.Phy.the-variants.{Present}
 pub use Rattle.wiring.specs.declared.Check.the-variants.{Refused}

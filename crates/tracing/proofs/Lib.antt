@@ -6,4 +6,5 @@ pub mod Stepping
 pub mod Passing
 pub mod Arrives
 pub mod Demand
+pub mod Exactly
 pub mod Pair

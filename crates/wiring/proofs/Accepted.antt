@@ -20,6 +20,7 @@ use Rattle.wiring.specs.Lists.{upTo, any, In, isIn}
 use Rattle.wiring.specs.Domain.{Expander, Domain, noExpander, expanderAt, phyAt, addressOf, farOf, attributeOf, routes, attached, toEnd, toExpander, numberOf}
 use Rattle.wiring.specs.File.{limits, Parsed, parsed, placed, phyOf, phyUnit, phyUnits, expanderUnit, expanderOf, expanders, domainRead}
 use Rattle.wiring.specs.Causes.{Place, place, places, farPhy, names, unanswered, endAt, claimed, clash, clashing, fixed, firstIn, firstOf, wiredDomain, wired}
+use Rattle.wiring.specs.Tested.{Passed}
 use Rattle.wiring.specs.Graph.{loopfree}
 use Rattle.wiring.specs.Neighbours.{neighbours}
 use Rattle.wiring.specs.Links.{unlooped, joined, joinedIn, tableToTable, linkedDomain}
@@ -279,13 +280,6 @@ clashing-range d i p t =
 fixed-range : (d : Domain) (i p : ℕ) → T (fixed d i p) → p < length (expanderAt d i .phys)
 unfolding fixed
 fixed-range d i p t = routes-range d 2 i p (search tests) (omega arith)
-
--- none of causes 7 to 10 holds of a phy
-pub record Passed (d : Domain) : Type 0 where
-  pub seven : (i p : ℕ) → ¬ (T (unanswered d i p))
-  pub eight : (i p : ℕ) → ¬ (T (claimed d i p))
-  pub nine : (i p : ℕ) → ¬ (T (clashing d i p))
-  pub ten : (i p : ℕ) → ¬ (T (fixed d i p))
 
 pub wired-passed : (d e : Domain) → wiredDomain d ≡ good e → (d ≡ e) × Passed d
 unfolding wiredDomain

@@ -22,5 +22,6 @@ pub mod EndDevices
 pub mod LowerPhys
 pub mod Cables
 pub mod Calls
+pub mod Exactly
 pub mod Opened
 pub mod Worked

@@ -74,10 +74,6 @@ attached-cases φ t =
 pub routes-one : (a b : ℕ) (φ : Phy) → T (routes a φ) → T (routes b φ) → a ≡ b
 routes-one a b φ t u = sym (eqb→eq (attributeOf φ) a t) ∙ eqb→eq (attributeOf φ) b u
 
-pub plain-type : (φ : Phy) → Plain φ → typeOf φ ≤ 3
-plain-type (Vacant r) h = omega arith
-plain-type (Present f) h = h .0
-
 pub plain-attribute : (φ : Phy) → Plain φ → T (attached φ) → attributeOf φ ≤ 2
 plain-attribute (Vacant r) h t = absurd t
 plain-attribute (Present f) h t = h .1

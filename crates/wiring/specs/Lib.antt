@@ -16,3 +16,4 @@ pub mod Clashes
 pub mod Cables
 pub mod Links
 pub mod Devices
+pub mod Tested
