@@ -1,13 +1,13 @@
 -- What the causes leave of a domain that is read: 7 to 10 of one that is wired, 11 to 13 of one that is linked.
 use mathlib.Core.Path.{_≡_, refl, sym, ap, subst, _∙_}
 use mathlib.Core.Logic.{_⊎_, inl, inr, _≢_, _↔_, ⊎-elim, by-cases}
-use mathlib.Core.List.{List, [], _∷_, _++_}
+use mathlib.Core.List.{List, [], _∷_}
 use mathlib.Core.Bool.{Bool, true, false, cond, not, _||_, _&&_}
-use Prim.Native.Nat.{ℕ, zero, suc, _+_, _≤_, _<_}
+use Prim.Native.Nat.{ℕ, zero, suc, _≤_, _<_}
 use native.Mathlib.Omega.{arith}
 use native.Mathlib.Decide.{ℕ-discrete, decLt}
 use lib.ListN.{length, getD, take, List·getD-eq-default}
-use lib.Dec.{T, eqb, ltb, leb, eqb→eq, ltb→lt, lt→ltb, leb→le, not-T, T-not}
+use lib.Dec.{T, eqb, ltb, eqb→eq, ltb→lt, lt→ltb, not-T, T-not}
 use Rattle.frames.specs.Refusals.{refused, good, refusal}
 use Rattle.wiring.specs.declared.Limits.{Limits}
 use Rattle.wiring.specs.declared.Phy.{Phy}

@@ -1,13 +1,13 @@
 -- What a file reads as, by one induction over the definitions of the file: for each unit a record of all its facts. The domain is one
 -- that causes 1 to 6 leave, it fits where the file is of bytes, and the second reading gets it again.
-use Prim.Native.Nat.{ℕ, zero, suc, _+_, _*_, _^_, _≤_, _<_}
+use Prim.Native.Nat.{ℕ, zero, suc, _+_, _^_, _≤_, _<_}
 use mathlib.Core.Path.{_≡_, refl, sym, ap}
 use mathlib.Core.Logic.{_≢_, inl, ⊎-elim}
 use mathlib.Core.Bool.{Bool, true, false, not, _||_, _&&_}
-use mathlib.Core.List.{List, [], _∷_, _++_, map}
+use mathlib.Core.List.{List, [], _∷_, _++_}
 use native.Mathlib.Nat.{pow-suc}
 use native.Mathlib.Omega.{arith}
-use lib.ListN.{length, getD, take, drop}
+use lib.ListN.{length, take, drop}
 use lib.Seq.{getD-drop}
 use lib.Dec.{eqb, leb}
 use borrow.Author.Tests.{eqb-true, eqb-false, leb-true, not-true}
@@ -20,13 +20,13 @@ use Rattle.frames.specs.declared.Discover.{Discover}
 use Rattle.wiring.specs.declared.Limits.{Limits}
 use Rattle.wiring.specs.declared.ExpanderUnit.{ExpanderUnit}
 use Rattle.wiring.specs.declared.Phy.{Phy}
-use Rattle.wiring.specs.declared.Phy.the-variants.{Vacant, Present}
+use Rattle.wiring.specs.declared.Phy.the-variants.{Present}
 use Rattle.wiring.specs.Lists.{any, In, isIn, Distinct}
 use Rattle.wiring.specs.Domain.{Expander, Domain}
-use Rattle.wiring.specs.Read.{ReadFields, ReadPhy, ReadExpander, addresses, Read, Bytes, FitsPhy, FitsExpander, Fits}
+use Rattle.wiring.specs.Read.{ReadPhy, ReadExpander, addresses, Read, Bytes, FitsPhy, FitsExpander, Fits}
 use Rattle.wiring.specs.File.{Parsed, placed, fieldsOf, phyOf, phyUnit, phyUnits, expanderUnit, expanderOf, expanders, domainRead}
 use Rattle.wiring.specs.Fill.{physGot, domainGot}
-use Rattle.wiring.proofs.Results.{Holds, held, yields, unless-holds, then-holds, both}
+use Rattle.wiring.proofs.Results.{Holds, held, weaker, unless-holds, then-holds, both}
 use Rattle.wiring.proofs.Members.{was-false, in-cast, all-cons, in-left, in-right, isIn-of}
 
 -- bytes and the numbers in them
@@ -115,12 +115,9 @@ module _ (file : List ℕ) where
   unfolding phyUnit
   phyUnit-facts own i p at =
       let s = take 52 (drop at file) in
-      let frame = placed i p (discoverRead s) in
       unless-holds UnitFacts (leb (at + 52) (length file)) _ _ (λ _.
-      then-holds UnitFacts frame _ (λ f q.
-      then-holds UnitFacts (phyOf own i p f) _ (λ φ e.
-      let d = held (DiscoveredFacts s) frame f (placed-holds (DiscoveredFacts s) i p (discoverRead s) (discover-facts s)) q in
-      let g = held (PhyFacts s) (phyOf own i p f) φ (phyOf-facts s own i p f d) e in
+      then-holds (DiscoveredFacts s) UnitFacts (placed i p (discoverRead s)) _ (placed-holds (DiscoveredFacts s) i p (discoverRead s) (discover-facts s)) (λ f _ d.
+      then-holds (PhyFacts s) UnitFacts (phyOf own i p f) _ (phyOf-facts s own i p f d) (λ φ _ g.
       record { read = g .read; fits = λ b. g .fits (part 52 at file b) })))
 
   -- as many phys
@@ -133,11 +130,9 @@ module _ (file : List ℕ) where
   unfolding phyUnits physGot
   phyUnits-facts own i zero p at = record { size = refl; each = λ φ h. absurd h; again = refl }
   phyUnits-facts own i (suc count) p at =
-      then-holds (PhysFacts own i (suc count) p at) (phyUnit file own i p at) _ (λ u q.
-      let rest : Result (Parsed (List Phy)) = phyUnits file own i count (p + 1) (u .next) in
-      then-holds (PhysFacts own i (suc count) p at) rest _ (λ us e.
-      let f = held UnitFacts (phyUnit file own i p at) u (phyUnit-facts own i p at) q in
-      let r = held (PhysFacts own i count (p + 1) (u .next)) rest us (phyUnits-facts own i count (p + 1) (u .next)) e in
+      let P = PhysFacts own i (suc count) p at in
+      then-holds UnitFacts P (phyUnit file own i p at) _ (phyUnit-facts own i p at) (λ u q f.
+      then-holds (PhysFacts own i count (p + 1) (u .next)) P (phyUnits file own i count (p + 1) (u .next)) _ (phyUnits-facts own i count (p + 1) (u .next)) (λ us _ r.
       record { size = ap suc (r .size); each = all-cons (PhyFacts file) (u .value) (us .value) f (r .each); again = simp (q, r .again) }))
 
 -- an expander's unit: one that passes where addresses were seen passes where none were
@@ -156,16 +151,14 @@ module _ (most : Limits) (file : List ℕ) where
   expanderUnit-facts seen i at =
       let own = numberAt file at 8 in
       let s = take 28 (drop (at + 8) file) in
-      let frame = placed i 0 (generalRead s) in
       let P = ExpanderFacts most file seen i at in
       unless-holds P (leb (at + 36) (length file)) _ _ (λ long.
-      then-holds P frame _ (λ g q.
+      then-holds (GeneralFacts s) P (placed i 0 (generalRead s)) _ (placed-holds (GeneralFacts s) i 0 (generalRead s) (general-facts s)) (λ g q f.
       unless-holds P (leb 1 (g .phys) && leb (g .phys) (most .phys)) _ _ (λ three.
       unless-holds P (not (eqb own 0) && not (isIn own seen)) _ _ (λ four.
-      let f = held (GeneralFacts s) frame g (placed-holds (GeneralFacts s) i 0 (generalRead s) (general-facts s)) q in
       let n = both (leb 1 (g .phys)) _ three in
       let o = both (not (eqb own 0)) _ four in
-      let z = o .0 in
+      let free = o .0 in
       record {
         borne = eqb-false own 0 (not-true _ (o .0));
         new = λ h. was-false (isIn own seen) (not-true _ (o .1)) (isIn-of own seen h);
@@ -173,7 +166,7 @@ module _ (most : Limits) (file : List ℕ) where
         some = leb-true 1 (g .phys) (n .0);
         few = leb-true (g .phys) (most .phys) (n .1);
         fits = λ b. let c = part 28 (at + 8) file b in (number-fits file at 8 b, (f .indexes c, f .phys c));
-        again = simp (long, q, three, z);
+        again = simp (long, q, three, free);
       }))))
 
   -- the expanders that follow those with the addresses in `seen`
@@ -191,16 +184,12 @@ module _ (most : Limits) (file : List ℕ) where
       record { size = refl; new = λ s h. absurd h; differ = tt; each = λ e h. absurd h; fits = λ b e h. absurd h; again = refl })
   expanders-facts (suc count) i at seen =
       let P = RestFacts seen (suc count) i at in
-      then-holds P (expanderUnit most file seen i at) _ (λ u q.
+      then-holds (ExpanderFacts most file seen i at) P (expanderUnit most file seen i at) _ (expanderUnit-facts seen i at) (λ u _ x.
       let own = u .value .address in
       let n = u .value .phys in
-      let units : Result (Parsed (List Phy)) = phyUnits file own i n 0 (u .next) in
-      then-holds P units _ (λ φs e.
-      let rest : Result Domain = expanders most file count (i + 1) (φs .next) (seen ++ (own ∷ [])) in
-      then-holds P rest _ (λ d r.
-      let x = held (ExpanderFacts most file seen i at) (expanderUnit most file seen i at) u (expanderUnit-facts seen i at) q in
-      let y = held (PhysFacts file own i n 0 (u .next)) units φs (phyUnits-facts file own i n 0 (u .next)) e in
-      let z = held (RestFacts (seen ++ (own ∷ [])) count (i + 1) (φs .next)) rest d (expanders-facts count (i + 1) (φs .next) (seen ++ (own ∷ []))) r in
+      then-holds (PhysFacts file own i n 0 (u .next)) P (phyUnits file own i n 0 (u .next)) _ (phyUnits-facts file own i n 0 (u .next)) (λ φs _ y.
+      let more = seen ++ (own ∷ []) in
+      then-holds (RestFacts more count (i + 1) (φs .next)) P (expanders most file count (i + 1) (φs .next) more) _ (expanders-facts count (i + 1) (φs .next) more) (λ d _ z.
       let k = y .size in
       let read : ReadExpander most (expanderOf (u .value) (φs .value)) = record {
         borne = x .borne;
@@ -233,8 +222,7 @@ module _ (most : Limits) (file : List ℕ) where
       unless-holds FileFacts (leb 2 (length file)) _ _ (λ _.
       unless-holds FileFacts (eqb (byte file 0) 0x10) _ _ (λ _.
       unless-holds FileFacts (leb 1 n && leb n (most .expanders)) _ all (λ three.
-      yields FileFacts all (λ d q.
-      let r = held (RestFacts [] n 0 2) all d (expanders-facts n 0 2 []) q in
+      weaker (RestFacts [] n 0 2) FileFacts all (expanders-facts n 0 2 []) (λ d r.
       let k = both (leb 1 n) _ three in
       let e = r .size in
       record {
