@@ -12,7 +12,7 @@ use Rattle.wiring.specs.declared.Phy.{Phy}
 use Rattle.wiring.specs.declared.Phy.the-variants.{Vacant, Present}
 use Rattle.wiring.specs.Lists.{In}
 use Rattle.wiring.specs.Domain.{Domain, Expander, addressOf}
-use Rattle.wiring.specs.Read.{ReadPhy, ReadExpander, Read, FitsPhy, FitsExpander, Fits}
+use Rattle.wiring.specs.Read.{ReadPhy, ReadExpander, Read, FitsPhy, FitsExpander, FitsDomain}
 use Rattle.wiring.specs.File.{limits}
 use Rattle.wiring.specs.Rows.{phyWord, phyWords, headWord, rowOf, rowsOf, phyIn, physIn, rowIn, rowsIn, domainIn}
 use Rattle.wiring.proofs.Filling.{length-rowOf}
@@ -84,7 +84,7 @@ module _ (d : Domain) (g : Read limits d) where
   pub length-rowsOf : length (rowsOf d) ≡ 258 * length d
   length-rowsOf = rows-length d (g .each)
 
-  pub domain-back : Fits d → domainIn (rowsOf d) ≡ d
+  pub domain-back : FitsDomain d → domainIn (rowsOf d) ≡ d
   unfolding domainIn
   domain-back h =
       let l = length-rowsOf in

@@ -23,7 +23,7 @@ use Rattle.wiring.specs.declared.Phy.{Phy}
 use Rattle.wiring.specs.declared.Phy.the-variants.{Present}
 use Rattle.wiring.specs.Lists.{any, In, isIn, Distinct}
 use Rattle.wiring.specs.Domain.{Expander, Domain}
-use Rattle.wiring.specs.Read.{ReadPhy, ReadExpander, addresses, Read, Bytes, FitsPhy, FitsExpander, Fits}
+use Rattle.wiring.specs.Read.{ReadPhy, ReadExpander, addresses, Read, Bytes, FitsPhy, FitsExpander, FitsDomain}
 use Rattle.wiring.specs.File.{Parsed, placed, fieldsOf, phyOf, phyUnit, phyUnits, expanderUnit, expanderOf, expanders, domainRead}
 use Rattle.wiring.specs.Fill.{physGot, domainGot}
 use Rattle.wiring.proofs.Results.{Holds, held, weaker, unless-holds, then-holds, both}
@@ -211,7 +211,7 @@ module _ (most : Limits) (file : List ℕ) where
   -- all that is known of the domain of a file
   record FileFacts (d : Domain) : Type 0 where
     read : Read most d
-    fits : Bytes file → Fits d
+    fits : Bytes file → FitsDomain d
     again : domainGot most file (length d) 0 2 ≡ d
 
   file-facts : Holds FileFacts (domainRead most file)
@@ -241,7 +241,7 @@ module _ (most : Limits) (file : List ℕ) where
   read-good d q = held FileFacts (domainRead most file) d file-facts q .read
 
   -- and it fits, where the file is of bytes
-  pub read-fits : (d : Domain) → Bytes file → domainRead most file ≡ good d → Fits d
+  pub read-fits : (d : Domain) → Bytes file → domainRead most file ≡ good d → FitsDomain d
   read-fits d b q = held FileFacts (domainRead most file) d file-facts q .fits b
 
   -- the second reading gets it again

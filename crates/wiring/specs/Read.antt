@@ -1,5 +1,5 @@
--- What causes 1 to 6 leave of a domain (`Read`), and what the bytes of a file have room for (`Fits`): a file of bytes reads as a domain
--- that is both.
+-- What causes 1 to 6 leave of a domain (`Read`), and what the bytes of a file have room for (`FitsDomain`): a file of bytes reads as
+-- a domain of which both hold.
 use Prim.Native.Nat.{ℕ, _^_, _≤_, _<_}
 use mathlib.Core.Path.{_≡_}
 use mathlib.Core.Logic.{_≢_}
@@ -59,6 +59,6 @@ pub record FitsExpander (e : Expander) : Type 0 where
   pub phys : (φ : Phy) → In φ (e .phys) → FitsPhy φ
 
 -- a count of expanders has one byte
-pub record Fits (d : Domain) : Type 0 where
+pub record FitsDomain (d : Domain) : Type 0 where
   pub count : length d < 256
   pub each : (e : Expander) → In e d → FitsExpander e
