@@ -16,7 +16,7 @@ use Rattle.wiring.specs.Graph.{loopfree}
 use Rattle.wiring.specs.Neighbours.{neighbours}
 use Rattle.wiring.specs.Links.{unlooped, joined, joinedIn, tableToTable, linkedDomain}
 use Rattle.wiring.proofs.Results.{never, good-one, then-good, good-then}
-use Rattle.wiring.proofs.Accepted.{wired-passed, passed-wired, wired-read, wired-domain}
+use Rattle.wiring.proofs.Accepted.{wired-passed, passed-wired}
 pub use Rattle.wiring.proofs.Exactly.{Numbered, numbered-unless, numbered-then, exactly}
 use Rattle.wiring.proofs.Exactly.{first-numbered, read-numbered, wired-numbered}
 use Rattle.tables.specs.Tables.{tablePlaces, tables, needed}
@@ -25,7 +25,7 @@ use Rattle.tables.specs.Tested.{NoJudgingCause, NoTableCause, judgingNum
 use Rattle.tables.specs.declared.Judgement.{Judgement}
 use Rattle.tables.specs.declared.TablesGiven.{TablesGiven}
 use Rattle.tables.specs.declared.TablesGiven.the-variants.{Refused, Counts}
-use Rattle.tables.proofs.Given.{judged-wired, judged-iff, tableCall-iff}
+use Rattle.tables.proofs.Given.{judged-routable, judged-read, judged-iff, tableCall-iff}
 
 -- causes 11 to 14 refuse with their numbers
 joined-numbered : (P : ℕ → Type 0) (l : List ℕ) (d : Domain) → P 12 → Numbered P (joinedIn l d)
@@ -56,12 +56,13 @@ judged-numbered P h file =
 -- a file is accepted exactly when none of causes 1 to 14 holds
 pub judged-causes : (file : List ℕ) (d : Domain) → judged file ≡ good d → (c : NoJudgingCause file) × (c .domain ≡ d)
 judged-causes file d j =
-    let e = judged-wired file d j in
-    let r = judged-iff file d e .0 j in (
+    let e = judged-read file d j in
+    let o = judged-routable d d (e .1) in
+    let r = o .2 in (
       record {
         domain = d;
-        read = wired-read file d e;
-        passed = wired-passed d d (wired-domain file d e) .1;
+        read = e .0;
+        passed = wired-passed d d (o .1) .1;
         noLoop = r .linked .noLoop;
         chained = r .linked .chained;
         noTables = r .linked .noTables;

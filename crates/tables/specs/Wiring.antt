@@ -10,7 +10,7 @@ pub use Rattle.wiring.specs.Domain.{attached, toEnd, toExpander, bears}
 unfoldable pub use Rattle.wiring.specs.Domain.{numberOf}
 pub use Rattle.wiring.specs.File.{limits, domainRead}
 pub use Rattle.wiring.specs.Rows.{domainIn}
-pub use Rattle.wiring.specs.Causes.{Place, place, places, farPhy, wired}
+pub use Rattle.wiring.specs.Causes.{Place, place, places, farPhy, wiredDomain, wired}
 unfoldable pub use Rattle.wiring.specs.Causes.{phyPlaces, placesFrom}
 pub use Rattle.wiring.specs.Checks.{checkAnswer}
 pub use Rattle.wiring.specs.Graph.{Steps, Loop, self, ring}

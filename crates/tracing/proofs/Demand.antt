@@ -5,13 +5,13 @@ use mathlib.Core.List.{List, _∷_, _++_}
 use Prim.Native.Nat.{ℕ, _≤_, _<_}
 use lib.ListN.{length, take, drop}
 use lib.Seq.{take-at}
-use Rattle.tables.specs.Wiring.{Result, good, then, Distinct, Below, Domain, wired}
+use Rattle.tables.specs.Wiring.{Result, good, then, Distinct, Below, Domain, wiredDomain, wired}
 use Rattle.tables.specs.Wiring.{Home, Borne}
 use Rattle.tables.specs.Tables.{tables, needed}
 use Rattle.tables.specs.Judge.{judgedDomain, tablesFor, tableCall}
-use Rattle.tables.proofs.Wiring.{good-one, then-good, Wired, wired-wires, wired-read}
+use Rattle.tables.proofs.Wiring.{good-one, then-good, Wired, wired-wires, wired-read, wired-domain}
 use Rattle.tables.proofs.Beyond.{linked-clear}
-use Rattle.tables.proofs.Given.{Routable, judged-routable, routable-iff, tables-for-iff}
+use Rattle.tables.proofs.Given.{Routable, judged-routable, routable-iff, tables-iff}
 use Rattle.tables.proofs.Exactly.{counts-given, counts-iff}
 use Rattle.tracing.specs.declared.Outcome.the-variants.{Arrived, NoDestination, BadDestination}
 use Rattle.tracing.specs.declared.End.{End}
@@ -23,7 +23,7 @@ use Rattle.tracing.proofs.Asked.{requested-iff}
 use Rattle.tracing.proofs.Passing.{passes-once, passes-below, steps-taken, bad-itself}
 use Rattle.tracing.proofs.Arrives.{tables-given, traced-borne, joined-all, one-chain, traced-arrives, ends-nowhere}
 
-module _ (d : Domain) (w : Wired d) where
+module _ (d : Domain) (past : wiredDomain d ≡ good d) (w : Wired d) where
   -- the outcomes of the two calls past causes 1 to 6
   abbrev called : ℕ → Result Domain
   called room = then (judgedDomain d) (tablesFor room)
@@ -97,10 +97,10 @@ module _ (d : Domain) (w : Wired d) where
   -- tables are given exactly when the domain is routable and there is room
   call-iff : (room : ℕ) → ((x : Domain) × (called room ≡ good x)) ↔ (Routable d × (needed d ≤ room))
   call-iff room = (
-    λ c. let a = tables-for-iff (judgedDomain d) room (c .0) .0 (c .1) in
+    λ c. let a = tables-iff (judgedDomain d) room (c .0) .0 (c .1) in
         let r = judged-routable d (c .0) (a .0) in
         (r .2, subst (λ x. needed x ≤ room) (sym (r .0)) (a .1)),
-    λ r. (d, tables-for-iff (judgedDomain d) room d .1 (routable-iff d w .1 (r .0), r .1)),
+    λ r. (d, tables-iff (judgedDomain d) room d .1 (routable-iff d past .1 (r .0), r .1)),
   )
 
   -- a request over the tables given
@@ -112,7 +112,7 @@ module _ (d : Domain) (w : Wired d) where
     words-are : o .words ≡ tables d ++ rest
     words-are =
         let g = counts-given (called (length (o .before))) (o .tableCount) (o .wordCount) (o .before) (o .words) (o .given) in
-        let a = tables-for-iff (judgedDomain d) (length (o .before)) (g .domain) .0 (g .given) in
+        let a = tables-iff (judgedDomain d) (length (o .before)) (g .domain) .0 (g .given) in
         subst (λ x. o .words ≡ tables x ++ drop (needed x) (o .before)) (sym (judged-routable d (g .domain) (a .0) .0)) (g .left)
 
     a : Answer (tables d ++ rest) q e lent after
@@ -172,4 +172,4 @@ demand3 file d e =
     subst
     (λ x. Demand3 d (λ room. then (then x judgedDomain) (tablesFor room))
     (λ words bytes q. then (then x judgedDomain) (λ y. then (requested q (length words) bytes y) (λ _. good (traced y words q)))))
-    (sym (wired-read file d e)) (demand3-domain d (wired-wires file d e))
+    (sym (wired-read file d e)) (demand3-domain d (wired-domain file d e) (wired-wires file d e))
