@@ -20,20 +20,31 @@ use Rattle.frames.specs.ReportGeneral.{generalAnswer, generalFixed, gene
 use Rattle.frames.specs.Discovery.{discoverAnswer, discoverFixed, discoverRead}
 use Rattle.frames.specs.ConfigureRoute.{routeWritten, writeAnswer, routeAnswer, routeRead}
 
--- where it is a refusal, its number is one of these
-module _ {A : Type 0} (P : ℕ → Type 0) where
+-- where it is a refusal, its number is one of N; where it is good, P holds of what it yields
+module _ {A : Type 0} (N : ℕ → Type 0) where
+  abbrev pub Holds : (A → Type 0) → Result A → Type 0
+  Holds P (refused r) = N (r .number)
+  Holds P (good a) = P a
+
+  pub unless-holds : (P : A → Type 0) (b : Bool) (r : Refusal) (x : Result A) → N (r .number) → (b ≡ true → Holds P x) → Holds P (unless b r x)
+  unless-holds P true r x h k = k refl
+  unless-holds P false r x h k = h
+
+  -- its number alone
   abbrev pub Numbered : Result A → Type 0
-  Numbered (refused r) = P (r .number)
-  Numbered (good a) = Unit {0}
+  Numbered = Holds (λ _. Unit {0})
 
-  pub numbered-unless : (b : Bool) (r : Refusal) (x : Result A) → P (r .number) → Numbered x → Numbered (unless b r x)
-  numbered-unless true r x h k = k
-  numbered-unless false r x h k = h
+  pub numbered-unless : (b : Bool) (r : Refusal) (x : Result A) → N (r .number) → Numbered x → Numbered (unless b r x)
+  numbered-unless b r x h k = unless-holds (λ _. Unit {0}) b r x h (λ _. k)
 
-module _ {A B : Type 0} (P : ℕ → Type 0) where
-  pub numbered-then : (x : Result A) (k : A → Result B) → Numbered P x → ((a : A) → Numbered P (k a)) → Numbered P (then x k)
-  numbered-then (refused r) k h f = h
-  numbered-then (good a) k h f = f a
+module _ {A B : Type 0} (N : ℕ → Type 0) where
+  pub then-holds : (P : A → Type 0) (Q : B → Type 0) (x : Result A) (k : A → Result B) → Holds N P x
+      → ((a : A) → x ≡ good a → P a → Holds N Q (k a)) → Holds N Q (then x k)
+  then-holds P Q (refused r) k h f = h
+  then-holds P Q (good a) k h f = f a refl h
+
+  pub numbered-then : (x : Result A) (k : A → Result B) → Numbered N x → ((a : A) → Numbered N (k a)) → Numbered N (then x k)
+  numbered-then x k h f = then-holds (λ _. Unit {0}) (λ _. Unit {0}) x k h (λ a _ _. f a)
 
 module _ {A : Type 0} (P : ℕ → Type 0) where
   -- one test after the other: the first refuses with number n, and x is what comes after

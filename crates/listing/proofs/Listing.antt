@@ -17,7 +17,7 @@ use Rattle.tables.specs.Tables.{table, tablePlaces, tables, needed}
 use Rattle.tables.specs.Judge.{judged, tableCall, Counted, countsIn, tablesAfter, TablesDone}
 use Rattle.tables.specs.declared.TablesGiven.the-variants.{Counts}
 use Rattle.tables.proofs.Tables.{table-length, tables-length}
-use Rattle.tables.proofs.Given.{judged-read, tableCall-iff}
+use Rattle.tables.proofs.Given.{judged-file, tableCall-iff}
 use Rattle.listing.specs.Text.{lineOf, totalsOf}
 use Rattle.listing.specs.Lines.{tableLines, placeLines, linesOf, textOf, entryLines, listingOf}
 
@@ -85,9 +85,9 @@ unfolding listingOf
 listed file before after lent words n t w eb el r g =
     let a = then-good (tableCall file (length lent)) countsIn (record { tableCount = t; wordCount = w }) (sym (g .answers)) in
     let d : Domain = a .0 in
-    let c = tableCall-iff file (length lent) d .0 (a .1) in
+    let c = tableCall-iff file d (length lent) .0 (a .1) in
     let o = opened file before after eb (Expanders n) r in
-    let e : domainIn (take (258 * n) after) ≡ d = good-one _ _ (sym (o .0) ∙ judged-read file d (c .0) .0) in
+    let e : domainIn (take (258 * n) after) ≡ d = good-one _ _ (sym (o .0) ∙ judged-file file d .0 (c .0) .0) in
     let f = good-one _ _ (a .2) in
     let q : words ≡ tables d ++ drop (needed d) lent = g .words ∙ ap (λ (x : Result Domain). tablesAfter x lent) (a .1) in
     let l : linesOf (domainIn (take (258 * n) after)) words ≡ entryLines d =

@@ -16,7 +16,7 @@ use Rattle.wiring.specs.Neighbours.{neighbours}
 use Rattle.wiring.proofs.Members.{tests, and-both, keep-more, in-cast, all-cons, in-append, in-left, in-right, in-getD, getD-in, keeps, kept, in-map, map-in, in-flatMap, flatMap-in, of-isIn, last-in, distinct-append, at-most}
 use Rattle.wiring.proofs.Walks.{NoBack, noback, repeats-nothing, same-rest}
 use Rattle.wiring.proofs.Wires.{Way, To, Wired, expander-attached, in-range, far-below, far-is, to-start, to-back, to-number, adj-to, to-adj, adj-symmetric, differ, alike}
-use Rattle.wiring.proofs.Accepted.{Linked}
+use Rattle.wiring.specs.Tested.{Linked}
 use Rattle.tables.specs.Levels.{once, down, belowPhys, below, nextLevel, levelsFrom, levels}
 use Rattle.tables.proofs.Once.{in-once, once-in, once-distinct}
 

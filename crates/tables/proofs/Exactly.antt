@@ -15,17 +15,18 @@ use Rattle.wiring.specs.Causes.{wiredDomain}
 use Rattle.wiring.specs.Graph.{loopfree}
 use Rattle.wiring.specs.Neighbours.{neighbours}
 use Rattle.wiring.specs.Links.{unlooped, joined, joinedIn, tableToTable, linkedDomain}
-use Rattle.wiring.proofs.Results.{never, good-one, then-good, good-then}
-use Rattle.wiring.proofs.Accepted.{wired-passed, passed-wired}
+use Rattle.wiring.proofs.Results.{never, then-good, good-then}
+use Rattle.wiring.proofs.Accepted.{passed-iff}
+use Rattle.wiring.proofs.Read.{read-numbered}
 pub use Rattle.wiring.proofs.Exactly.{Numbered, numbered-unless, numbered-then, exactly}
-use Rattle.wiring.proofs.Exactly.{first-numbered, read-numbered, wired-numbered}
+use Rattle.wiring.proofs.Exactly.{first-numbered, wired-numbered}
 use Rattle.tables.specs.Tables.{tablePlaces, tables, needed}
-use Rattle.tables.specs.Judge.{overlong, judgedDomain, judged, judgeAnswer, expandersIn, tablesFor, tableCall, Counted, countsIn, tablesAnswer, tablesAfter, TablesDone}
-use Rattle.tables.specs.Tested.{NoJudgingCause, NoTableCause, judgingNumber, tableNumber}
+use Rattle.tables.specs.Judge.{overlong, judgedDomain, judged, judgeAnswer, expandersIn, tablesFor, judgedTables, tableCall, Counted, countsIn, tablesAnswer, tablesAfter, TablesDone}
+use Rattle.tables.specs.Tested.{Routable, NoJudgingCause, NoTableCause, judgingNumber, tableNumber}
 use Rattle.tables.specs.declared.Judgement.{Judgement}
 use Rattle.tables.specs.declared.TablesGiven.{TablesGiven}
 use Rattle.tables.specs.declared.TablesGiven.the-variants.{Refused, Counts}
-use Rattle.tables.proofs.Given.{judged-routable, judged-read, judged-iff, tableCall-iff}
+use Rattle.tables.proofs.Given.{judged-routable, routable-iff, tables-same, judged-file, tableCall-iff}
 
 -- causes 11 to 14 refuse with their numbers
 joined-numbered : (P : ℕ → Type 0) (l : List ℕ) (d : Domain) → P 12 → Numbered P (joinedIn l d)
@@ -48,7 +49,7 @@ linked-numbered P h d =
 pub judged-numbered : (P : ℕ → Type 0) → ((n : ℕ) → 1 ≤ n → n ≤ 14 → P n) → (file : List ℕ) → Numbered P (judged file)
 unfolding judgedDomain
 judged-numbered P h file =
-    numbered-then P (domainRead limits file) judgedDomain (read-numbered P (λ n a b. h n a (omega arith)) limits file)
+    numbered-then P (domainRead limits file) judgedDomain (read-numbered limits file P (λ n a b. h n a (omega arith)))
     (λ d. numbered-then P (wiredDomain d) _ (wired-numbered P (λ n a b. h n (omega arith) (omega arith)) d)
     (λ _. numbered-then P (linkedDomain d) _ (linked-numbered P (λ n a b. h n (omega arith) (omega arith)) d)
     (λ _. first-numbered P 14 (overlong d) _ d (h 14 (omega arith) (omega arith)))))
@@ -56,26 +57,14 @@ judged-numbered P h file =
 -- a file is accepted exactly when none of causes 1 to 14 holds
 pub judged-causes : (file : List ℕ) (d : Domain) → judged file ≡ good d → (c : NoJudgingCause file) × (c .domain ≡ d)
 judged-causes file d j =
-    let e = judged-read file d j in
-    let o = judged-routable d d (e .1) in
-    let r = o .2 in (
-      record {
-        domain = d;
-        read = e .0;
-        passed = wired-passed d d (o .1) .1;
-        noLoop = r .linked .noLoop;
-        chained = r .linked .chained;
-        noTables = r .linked .noTables;
-        fits = r .fits;
-      },
-      refl,
-    )
+    let e = judged-file file d .0 j in
+    let r = judged-routable d d (e .1) in
+    (record { domain = d; read = e .0; passed = passed-iff d .0 (r .1); routable = r .2 }, refl)
 
 pub causes-judged : (file : List ℕ) (c : NoJudgingCause file) → judged file ≡ good (c .domain)
 causes-judged file c =
     let d = c .domain in
-    let e = good-then (domainRead limits file) wiredDomain d d (c .read) (passed-wired d (c .passed)) in
-    judged-iff file d e .1 (record { linked = record { noLoop = c .noLoop; chained = c .chained; noTables = c .noTables }; fits = c .fits })
+    judged-file file d .1 (c .read, routable-iff d (passed-iff d .1 (c .passed)) .1 (c .routable))
 
 -- the judging call answers exactly when none of its causes holds, and refuses with no other number
 pub judging-exactly : (file : List ℕ) (answer : Judgement) → judgeAnswer answer ≡ then (judged file) expandersIn
@@ -86,35 +75,30 @@ judging-exactly file answer q =
     (λ n e. let a = then-good (judged file) expandersIn n e in judged-causes file (a .0) (a .1) .0)
     (λ c. (length (c .domain), good-then (judged file) expandersIn (c .domain) (length (c .domain)) (causes-judged file c) refl))
 
--- a table call that answers counts: the domain whose tables they are, and the words after
-pub record TablesOf (outcome : Result Domain) (count words : ℕ) (before after : List ℕ) : Type 0 where
-  pub domain : Domain
-  pub given : outcome ≡ good domain
-  pub tableCount : count ≡ length (tablePlaces domain)
-  pub wordCount : words ≡ needed domain
-  pub left : after ≡ tables domain ++ drop (needed domain) before
-
-pub counts-given : (outcome : Result Domain) (c w : ℕ) (before after : List ℕ) → TablesDone outcome (Counts c w) before after
-    → TablesOf outcome c w before after
-counts-given outcome c w before after t =
-    let n : Counted = record { tableCount = c; wordCount = w } in
-    let a = then-good outcome countsIn n (sym (t .answers)) in
-    let e = good-one (record { tableCount = length (tablePlaces (a .0)); wordCount = needed (a .0) }) n (a .2) in record {
-      domain = a .0;
-      given = a .1;
-      tableCount = sym (ap (λ x. x .tableCount) e);
-      wordCount = sym (ap (λ x. x .wordCount) e);
-      left = t .words ∙ ap (λ x. tablesAfter x before) (a .1);
-    }
-
--- it answers counts exactly when its outcome is no refusal
+-- the table call answers counts exactly when its outcome is no refusal
 pub counts-iff : (outcome : Result Domain) (answer : TablesGiven) (before after : List ℕ) → TablesDone outcome answer before after
     → ((t w : ℕ) × (answer ≡ Counts t w)) ↔ ((d : Domain) × (outcome ≡ good d))
-counts-iff outcome (Refused r) before after t = (
+counts-iff outcome (Refused r) before after o = (
   λ c. let z : _≡_ {A = ℕ} 0 1 = cc in absurd (omega arith),
-  λ c. never r _ (t .answers ∙ ap (λ x. then x countsIn) (c .1)),
+  λ c. never r _ (o .answers ∙ ap (λ x. then x countsIn) (c .1)),
 )
-counts-iff outcome (Counts t w) before after o = (λ c. let g = counts-given outcome t w before after o in (g .domain, g .given), λ c. (t, w, refl))
+counts-iff outcome (Counts t w) before after o = (
+  λ c. let a = then-good outcome countsIn (record { tableCount = t; wordCount = w }) (sym (o .answers)) in (a .0, a .1),
+  λ c. (t, w, refl),
+)
+
+-- a table call on domain d that answered counts: there was room, and it left the tables of d and the words lent after them
+pub record TablesOf (d : Domain) (before after : List ℕ) : Type 0 where
+  pub routable : Routable d
+  pub enough : needed d ≤ length before
+  pub left : after ≡ tables d ++ drop (needed d) before
+
+pub tables-of : (d : Domain) (t w : ℕ) (before after : List ℕ) → TablesDone (judgedTables d (length before)) (Counts t w) before after
+    → TablesOf d before after
+tables-of d t w before after o =
+    let c = counts-iff (judgedTables d (length before)) (Counts t w) before after o .0 (t, w, refl) in
+    let s = tables-same d (c .0) (length before) (c .1) in
+    record { routable = s .1; enough = s .2; left = o .words ∙ ap (λ x. tablesAfter x before) (c .1 ∙ ap good (sym (s .0))) }
 
 -- the table call answers exactly when none of its causes holds, and refuses with no other number
 pub tables-exactly : (file before after : List ℕ) (answer : TablesGiven) → TablesDone (tableCall file (length before)) answer before after
@@ -136,7 +120,7 @@ tables-exactly file before after answer t =
     from : (n : Counted) → then (tableCall file room) countsIn ≡ good n → NoTableCause file room
     from n e =
         let a = then-good (tableCall file room) countsIn n e in
-        let b = tableCall-iff file room (a .0) .0 (a .1) in
+        let b = tableCall-iff file (a .0) room .0 (a .1) in
         let c = judged-causes file (a .0) (b .0) in
         record { judging = c .0; enough = subst (λ d. needed d ≤ room) (sym (c .1)) (b .1) }
 
@@ -144,4 +128,4 @@ tables-exactly file before after answer t =
     to c =
         let d = c .judging .domain in
         let n : Counted = record { tableCount = length (tablePlaces d); wordCount = needed d } in
-        (n, good-then (tableCall file room) countsIn d n (tableCall-iff file room d .1 (causes-judged file (c .judging), c .enough)) refl)
+        (n, good-then (tableCall file room) countsIn d n (tableCall-iff file d room .1 (causes-judged file (c .judging), c .enough)) refl)

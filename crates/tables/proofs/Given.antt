@@ -9,25 +9,19 @@ use lib.ListN.{length}
 use lib.Dec.{T, leb, lt→ltb, ltb→lt, leb→le, le→leb}
 use Rattle.wiring.specs.Frames.{Result, good, then, refusal}
 use Rattle.wiring.specs.declared.Limits.{Limits}
-use Rattle.wiring.specs.Domain.{Domain, expanderAt, phyAt, routes, toExpander}
+use Rattle.wiring.specs.Domain.{Domain, expanderAt}
 use Rattle.wiring.specs.Read.{Read}
 use Rattle.wiring.specs.File.{limits, domainRead}
-use Rattle.wiring.specs.Causes.{farPhy, wiredDomain, wired}
-use Rattle.wiring.specs.Graph.{Loop, Chain}
-use Rattle.wiring.specs.Neighbours.{neighbours}
+use Rattle.wiring.specs.Causes.{wiredDomain}
 use Rattle.wiring.specs.Links.{linkedDomain}
 use Rattle.wiring.proofs.Members.{tests}
 use Rattle.wiring.proofs.Wires.{Wired, routes-range}
-use Rattle.wiring.proofs.Results.{good-one, unless-good, good-unless, then-good, good-then}
+use Rattle.wiring.proofs.Results.{good-one, unless-good, good-unless, then-good, good-then, then-same}
 use Rattle.wiring.proofs.Read.{read-good}
-use Rattle.wiring.proofs.Accepted.{firstOf-good, good-firstOf, wired-same, wired-iff, wired-read, wired-domain, Linked, linked-iff, linked-same}
+use Rattle.wiring.proofs.Accepted.{firstOf-good, good-firstOf, wired-same, wired-iff, linked-iff, linked-same}
 use Rattle.tables.specs.Tables.{levelList, needed}
-use Rattle.tables.specs.Judge.{overlong, judgedDomain, judged, tablesFor, tableCall}
-
--- past causes 11 to 14
-pub record Routable (d : Domain) : Type 0 where
-  pub linked : Linked d
-  pub fits : (i p : ℕ) → T (routes 2 (phyAt d i p)) → length (levelList d i p) ≤ expanderAt d i .indexes
+use Rattle.tables.specs.Judge.{overlong, judgedDomain, judged, tablesFor, judgedTables, tableCall}
+use Rattle.tables.specs.Tested.{Routable}
 
 overlong-range : (d : Domain) (i p : ℕ) → T (overlong d i p) → p < length (expanderAt d i .phys)
 unfolding overlong
@@ -72,53 +66,34 @@ accepted-iff most d g m = (
 -- tables are given exactly when what was judged is accepted and there is room
 pub tables-iff : (x : Result Domain) (room : ℕ) (d : Domain) → (then x (tablesFor room) ≡ good d) ↔ ((x ≡ good d) × (needed d ≤ room))
 tables-iff x room d = (
-  λ c. let a = then-good x (tablesFor room) d c in
-      let b = unless-good (leb (needed (a .0)) room) (refusal 16 0 0) (good (a .0)) d (a .2) in
-      let e = good-one (a .0) d (b .1) in
-      (a .1 ∙ ap good e, subst (λ x. needed x ≤ room) e (leb→le (needed (a .0)) room (b .0))),
-  λ j. good-then x (tablesFor room) d d (j .0) (good-unless (leb (needed d) room) (refusal 16 0 0) (good d) (le→leb (needed d) room (j .1))),
+  λ c. let a = s .0 c in (a .0, leb→le (needed d) room (unless-good (leb (needed d) room) (refusal 16 0 0) (good d) d (a .1) .0)),
+  λ j. s .1 (j .0, good-unless (leb (needed d) room) (refusal 16 0 0) (good d) (le→leb (needed d) room (j .1))),
 )
+  where
+    s : (then x (tablesFor room) ≡ good d) ↔ ((x ≡ good d) × (tablesFor room d ≡ good d))
+    s = then-same x (tablesFor room) d (λ a e. good-one a d (unless-good (leb (needed a) room) (refusal 16 0 0) (good a) d e .1))
 
--- there is no loop, a chain joins the first expander to each, no table phy is attached to a table phy, and every level list has at
--- most R words
-abbrev pub Givable : Domain → Type 0
-Givable d =
-    (¬ (Loop (length d) (neighbours d)))
-    × ((i : ℕ) → i < length d → (l : List ℕ) × Chain (length d) (neighbours d) 0 i l)
-    × ((i p : ℕ) → T (toExpander (phyAt d i p)) → T (routes 2 (phyAt d i p)) → T (routes 2 (farPhy d (phyAt d i p))) → ⊥)
-    × ((i p : ℕ) → T (routes 2 (phyAt d i p)) → length (levelList d i p) ≤ expanderAt d i .indexes)
-
--- "given exactly when": past causes 7 to 10, and with room
-pub givable-iff : (d : Domain) (room : ℕ) → wiredDomain d ≡ good d → needed d ≤ room → (then (judgedDomain d) (tablesFor room) ≡ good d) ↔ Givable d
-givable-iff d room e h = (
-  λ c. let r = judged-routable d d (tables-iff (judgedDomain d) room d .0 c .0) .2 in (r .linked .noLoop, r .linked .chained, r .linked .noTables, r .fits),
-  λ g. let r : Routable d = record { linked = record { noLoop = g .0; chained = g .1; noTables = g .2 }; fits = g .3 } in
-      tables-iff (judgedDomain d) room d .1 (routable-judged d e r, h),
-)
+-- on a domain the table call gives that domain's tables, or none
+pub tables-same : (d e : Domain) (room : ℕ) → judgedTables d room ≡ good e → (d ≡ e) × Routable d × (needed d ≤ room)
+tables-same d e room f =
+    let a = tables-iff (judgedDomain d) room e .0 f in
+    let r = judged-routable d e (a .0) in
+    (r .0, r .2, subst (λ x. needed x ≤ room) (sym (r .0)) (a .1))
 
 -- the same of files
 module _ (file : List ℕ) (d : Domain) where
-  judged-by : domainRead limits file ≡ good d → judged file ≡ judgedDomain d
-  judged-by e = ap (λ x. then x judgedDomain) e
-
-  -- an accepted file reads as the domain that is accepted
-  pub judged-read : judged file ≡ good d → (domainRead limits file ≡ good d) × (judgedDomain d ≡ good d)
-  judged-read j =
-      let a = then-good (domainRead limits file) judgedDomain d j in
-      let q = judged-routable (a .0) d (a .2) .0 in
-      (a .1 ∙ ap good q, subst (λ x. judgedDomain x ≡ good d) q (a .2))
-
-  pub judged-iff : wired file ≡ good d → (judged file ≡ good d) ↔ Routable d
-  judged-iff e = subst (λ x. (x ≡ good d) ↔ Routable d) (sym (judged-by (wired-read file d e))) (routable-iff d (wired-domain file d e))
+  -- an accepted file reads as a domain that is accepted
+  pub judged-file : (judged file ≡ good d) ↔ ((domainRead limits file ≡ good d) × (judgedDomain d ≡ good d))
+  judged-file = then-same (domainRead limits file) judgedDomain d (λ a j. judged-routable a d j .0)
 
   pub judged-wires : judged file ≡ good d → Wired d × Routable d
-  judged-wires j = let r = judged-read j in accepted-iff limits d (read-good limits file d (r .0)) (omega arith) .0 (r .1)
+  judged-wires j = let r = judged-file .0 j in accepted-iff limits d (read-good limits file d (r .0)) (omega arith) .0 (r .1)
 
-pub tableCall-iff : (file : List ℕ) (room : ℕ) (d : Domain) → (tableCall file room ≡ good d) ↔ ((judged file ≡ good d) × (needed d ≤ room))
-unfolding tableCall
-tableCall-iff file room d = tables-iff (judged file) room d
+  pub tableCall-iff : (room : ℕ) → (tableCall file room ≡ good d) ↔ ((judged file ≡ good d) × (needed d ≤ room))
+  unfolding tableCall
+  tableCall-iff room = tables-iff (judged file) room d
 
-pub given-iff : (file : List ℕ) (room : ℕ) (d : Domain) → wired file ≡ good d → needed d ≤ room → (tableCall file room ≡ good d) ↔ Givable d
-unfolding tableCall
-given-iff file room d e h =
-    subst (λ x. (then x (tablesFor room) ≡ good d) ↔ Givable d) (sym (judged-by file d (wired-read file d e))) (givable-iff d room (wired-domain file d e) h)
+  -- the table call on a file is that on the domain that it reads as
+  pub table-call : domainRead limits file ≡ good d → (room : ℕ) → tableCall file room ≡ judgedTables d room
+  unfolding tableCall
+  table-call e room = ap (λ x. then (then x judgedDomain) (tablesFor room)) e

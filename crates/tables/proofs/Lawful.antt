@@ -13,10 +13,11 @@ use Rattle.wiring.specs.Read.{Read}
 use Rattle.wiring.specs.File.{limits, domainRead}
 use Rattle.wiring.specs.Causes.{Place, places, firstIn, firstOf, wiredDomain}
 use Rattle.wiring.specs.Links.{linkedDomain, checkedDomain}
+use Rattle.wiring.specs.Tested.{Linked}
 use Rattle.wiring.proofs.Results.{then-good, good-then}
 use Rattle.wiring.proofs.Wires.{Wired}
 use Rattle.wiring.proofs.Read.{read-good}
-use Rattle.wiring.proofs.Accepted.{Linked, wired-same, wired-iff, linked-iff, linked-same}
+use Rattle.wiring.proofs.Accepted.{wired-same, wired-iff, linked-iff, linked-same}
 use Rattle.tables.specs.Judge.{overlong, judgedDomain}
 use Rattle.tables.specs.Own.{own, ownList}
 use Rattle.tables.specs.Prepared.{orderList, overOwn, judgedOwn, Same, Lawful, Fillable}

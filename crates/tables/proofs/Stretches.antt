@@ -11,16 +11,16 @@ use lib.Dec.{T, eqb}
 use Rattle.wiring.specs.Frames.{good}
 use Rattle.wiring.specs.Lists.{In}
 use Rattle.wiring.specs.Domain.{Domain, expanderAt, phyAt, routes}
+use Rattle.wiring.specs.File.{limits, domainRead}
 use Rattle.wiring.specs.Causes.{Place, place, places}
 use Rattle.wiring.proofs.Members.{tests, is-true}
 use Rattle.wiring.proofs.Wires.{routes-range, in-places}
-use Rattle.wiring.proofs.Results.{good-one}
 use Rattle.tables.specs.Tables.{levelList, table, tables, size, sizes, needed, offsetIn, offset, stretch}
-use Rattle.tables.specs.Judge.{judged, tableCall, TablesDone, IndexForIndex}
+use Rattle.tables.specs.Judge.{judgedTables, tableCall, TablesDone, IndexForIndex}
 use Rattle.tables.specs.declared.TablesGiven.the-variants.{Counts}
 use Rattle.tables.proofs.Tables.{table-length, table-entry, wordsAt, tablesAt, tables-at, words-length, tables-length}
-use Rattle.tables.proofs.Given.{judged-wires, tableCall-iff}
-use Rattle.tables.proofs.Exactly.{counts-given}
+use Rattle.tables.proofs.Given.{table-call}
+use Rattle.tables.proofs.Exactly.{tables-of}
 
 -- the test by which the words before a table are counted
 abbrev isPlace : ℕ → ℕ → Place → Bool
@@ -111,12 +111,14 @@ index-tables d before fits h =
           ∙ getD-drop (needed d) before (k - needed d) 0 ∙ ap (λ v. getD before v 0) m;
     }
 
--- a table call that answers counts over an accepted file leaves each table in its own stretch, index for index
-pub index-for-index : (file before after : List ℕ) (d : Domain) (c w : ℕ) → judged file ≡ good d
+-- a table call that answers counts leaves each table in its own stretch, index for index: on a domain, and on a file
+pub index-for-index : (d : Domain) (before after : List ℕ) (c w : ℕ) → TablesDone (judgedTables d (length before)) (Counts c w) before after
+    → IndexForIndex d before after
+index-for-index d before after c w t =
+    let o = tables-of d c w before after t in
+    subst (IndexForIndex d before) (sym (o .left)) (index-tables d before (o .routable .fits) (o .enough))
+
+pub index-for-index-file : (file : List ℕ) (d : Domain) (before after : List ℕ) (c w : ℕ) → domainRead limits file ≡ good d
     → TablesDone (tableCall file (length before)) (Counts c w) before after → IndexForIndex d before after
-index-for-index file before after d c w j t =
-    let o = counts-given (tableCall file (length before)) c w before after t in
-    let g = tableCall-iff file (length before) (o .domain) .0 (o .given) in
-    let same = good-one (o .domain) d (sym (g .0) ∙ j) in
-    subst (IndexForIndex d before) (sym (subst (λ x. after ≡ tables x ++ drop (needed x) before) same (o .left)))
-    (index-tables d before (judged-wires file d j .1 .fits) (subst (λ x. needed x ≤ length before) same (g .1)))
+index-for-index-file file d before after c w e t =
+    index-for-index d before after c w (subst (λ x. TablesDone x (Counts c w) before after) (table-call file d e (length before)) t)

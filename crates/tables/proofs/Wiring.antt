@@ -5,5 +5,6 @@ pub use Rattle.wiring.proofs.Reach.{Joined, prepend}
 pub use Rattle.wiring.proofs.Wires.{Way, Wired, end-attached, expander-attached, attached-cases, in-range}
 pub use Rattle.wiring.proofs.Wires.{routes-range, in-places, differ, far-below, far-is, to-adj, adj-symmetric}
 pub use Rattle.wiring.proofs.Results.{good-one, unless-good, good-unless, then-good, good-then}
-pub use Rattle.wiring.proofs.Accepted.{wired-read, wired-domain, wired-wires}
+pub use Rattle.wiring.proofs.Read.{read-good}
+pub use Rattle.wiring.proofs.Accepted.{wired-iff, wired-file}
 pub use Rattle.wiring.proofs.Opening.{opened-as, opened-fits}

@@ -43,6 +43,10 @@ expandersIn d = good (length d)
 abbrev pub tablesFor : ℕ → Domain → Result Domain
 tablesFor room d = unless (leb (needed d) room) (refusal 16 0 0) (good d)
 
+-- causes 7 to 14, and 16: the table call on a domain that was read, with room for so many words
+abbrev pub judgedTables : Domain → ℕ → Result Domain
+judgedTables d room = then (judgedDomain d) (tablesFor room)
+
 -- the table call on a file, with room for so many words
 unfoldable pub tableCall : List ℕ → ℕ → Result Domain
 tableCall file room = then (judged file) (tablesFor room)

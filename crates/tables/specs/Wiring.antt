@@ -8,7 +8,9 @@ unfoldable pub use Rattle.wiring.specs.Lists.{numbers, any, keep, isIn}
 pub use Rattle.wiring.specs.Domain.{Expander, Domain, noExpander, expanderAt, phyAt, typeOf, addressOf, farOf, attributeOf, routes}
 pub use Rattle.wiring.specs.Domain.{attached, toEnd, toExpander, bears}
 unfoldable pub use Rattle.wiring.specs.Domain.{numberOf}
+pub use Rattle.wiring.specs.declared.Limits.{Limits}
 pub use Rattle.wiring.specs.File.{limits, domainRead}
+pub use Rattle.wiring.specs.Read.{Read}
 pub use Rattle.wiring.specs.Rows.{domainIn}
 pub use Rattle.wiring.specs.Causes.{Place, place, places, farPhy, wiredDomain, wired}
 unfoldable pub use Rattle.wiring.specs.Causes.{phyPlaces, placesFrom}

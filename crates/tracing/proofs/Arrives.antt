@@ -13,7 +13,7 @@ use Rattle.tables.proofs.Beyond.{Table, Sub, Clear, adj-cases, one-sub}
 use Rattle.tables.proofs.Listed.{held-cases, held-self, held-phy, list-beyond, beyond-list}
 use Rattle.tables.proofs.Tables.{in-table}
 use Rattle.tables.proofs.Stretches.{stretch-is}
-use Rattle.tables.proofs.Given.{Routable}
+use Rattle.tables.specs.Tested.{Routable}
 use Rattle.tracing.specs.declared.Outcome.the-variants.{Arrived, NoDestination}
 use Rattle.tracing.specs.Steps.{Step, onward, cameFrom, step}
 use Rattle.tracing.specs.Trace.{Traced, after, afterStep, traceFrom, request, traced}

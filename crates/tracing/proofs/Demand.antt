@@ -1,18 +1,22 @@
--- Demand 3, whole: over a domain past causes 1 to 10, and over a domain file.
+-- Demand 3, whole: over a domain that is read, under any limits, and past causes 7 to 10; and over a domain file.
 use mathlib.Core.Path.{_≡_, refl, sym, ap, subst, _∙_}
 use mathlib.Core.Logic.{_↔_}
 use mathlib.Core.List.{List, _∷_, _++_}
 use Prim.Native.Nat.{ℕ, _≤_, _<_}
+use native.Mathlib.Omega.{arith}
 use lib.ListN.{length, take, drop}
 use lib.Seq.{take-at}
-use Rattle.tables.specs.Wiring.{Result, good, then, Distinct, Below, Domain, wiredDomain, wired}
+use Rattle.tables.specs.Wiring.{Result, good, then, Distinct, Below, Limits, limits, Domain, Read, wiredDomain, wired}
 use Rattle.tables.specs.Wiring.{Home, Borne}
 use Rattle.tables.specs.Tables.{tables, needed}
-use Rattle.tables.specs.Judge.{judgedDomain, tablesFor, tableCall}
-use Rattle.tables.proofs.Wiring.{good-one, then-good, Wired, wired-wires, wired-read, wired-domain}
+use Rattle.tables.specs.Judge.{judgedDomain, tablesFor, judgedTables, tableCall, TablesDone}
+use Rattle.tables.specs.Tested.{Routable}
+use Rattle.tables.specs.declared.TablesGiven.{TablesGiven}
+use Rattle.tables.specs.declared.TablesGiven.the-variants.{Counts}
+use Rattle.tables.proofs.Wiring.{good-one, then-good, Wired, read-good, wired-iff, wired-file}
 use Rattle.tables.proofs.Beyond.{linked-clear}
-use Rattle.tables.proofs.Given.{Routable, judged-routable, routable-iff, tables-iff}
-use Rattle.tables.proofs.Exactly.{counts-given, counts-iff}
+use Rattle.tables.proofs.Given.{judged-routable, routable-iff, tables-iff, tables-same}
+use Rattle.tables.proofs.Exactly.{counts-iff, tables-of}
 use Rattle.tracing.specs.declared.Outcome.the-variants.{Arrived, NoDestination, BadDestination}
 use Rattle.tracing.specs.declared.End.{End}
 use Rattle.tracing.specs.Trace.{Request, endingAt, traced, requested, traceCall, Reported, report, bytesAfter}
@@ -23,10 +27,10 @@ use Rattle.tracing.proofs.Asked.{requested-iff}
 use Rattle.tracing.proofs.Passing.{passes-once, passes-below, steps-taken, bad-itself}
 use Rattle.tracing.proofs.Arrives.{tables-given, traced-borne, joined-all, one-chain, traced-arrives, ends-nowhere}
 
-module _ (d : Domain) (past : wiredDomain d ≡ good d) (w : Wired d) where
-  -- the outcomes of the two calls past causes 1 to 6
-  abbrev called : ℕ → Result Domain
-  called room = then (judgedDomain d) (tablesFor room)
+-- every phy identifier is below 255: arrival phy 255 is the expander itself
+module _ (most : Limits) (d : Domain) (read : Read most d) (few : most .phys ≤ 255) (past : wiredDomain d ≡ good d) where
+  w : Wired d
+  w = wired-iff most d read few .0 past
 
   -- a request over words: the domain is accepted, the request passes causes 15 to 17, and the answer and the bytes are those of its trace
   record Answer (words : List ℕ) (q : Request) (e : End) (lent after : List ℕ) : Type 0 where
@@ -38,7 +42,7 @@ module _ (d : Domain) (past : wiredDomain d ≡ good d) (w : Wired d) where
     count : e .count ≡ length (traced d words q .passed)
     bytes : after ≡ traced d words q .passed ++ drop (length (traced d words q .passed)) lent
 
-  answer : (words : List ℕ) (q : Request) (e : End) (lent after : List ℕ) → Over d called (judgedRequest d) words q e lent after → Answer words q e lent after
+  answer : (words : List ℕ) (q : Request) (e : End) (lent after : List ℕ) → Over d (judgedTables d) (judgedRequest d) words q e lent after → Answer words q e lent after
   unfolding judgedRequest tracedRequest
   answer words q e lent after o =
       let n : Reported = record { outcome = e .outcome; last = e .last .0; phy = e .phy .0; count = e .count } in
@@ -94,26 +98,23 @@ module _ (d : Domain) (past : wiredDomain d ≡ good d) (w : Wired d) where
           bytes = a .bytes ∙ ap (λ x. x .passed ++ drop (length (x .passed)) lent) t;
         }
 
-  -- tables are given exactly when the domain is routable and there is room
-  call-iff : (room : ℕ) → ((x : Domain) × (called room ≡ good x)) ↔ (Routable d × (needed d ≤ room))
-  call-iff room = (
-    λ c. let a = tables-iff (judgedDomain d) room (c .0) .0 (c .1) in
-        let r = judged-routable d (c .0) (a .0) in
-        (r .2, subst (λ x. needed x ≤ room) (sym (r .0)) (a .1)),
-    λ r. (d, tables-iff (judgedDomain d) room d .1 (routable-iff d past .1 (r .0), r .1)),
-  )
+  -- with room, the table call answers counts exactly when the domain is routable
+  counts-routable : (before words : List ℕ) (answer : TablesGiven) → needed d ≤ length before → TablesDone (judgedTables d (length before)) answer before words
+      → ((t w : ℕ) × (answer ≡ Counts t w)) ↔ Routable d
+  counts-routable before words answer h o =
+      let c = counts-iff (judgedTables d (length before)) answer before words o in (
+        λ g. let x = c .0 g in tables-same d (x .0) (length before) (x .1) .1,
+        λ r. c .1 (d, tables-iff (judgedDomain d) (length before) d .1 (routable-iff d past .1 r, h)),
+      )
 
   -- a request over the tables given
-  module _ (q : Request) (e : End) (lent after : List ℕ) (o : OverTables d called (judgedRequest d) q e lent after) where
+  module _ (q : Request) (e : End) (lent after : List ℕ) (o : OverTables d (judgedTables d) (judgedRequest d) q e lent after) where
     abbrev rest : List ℕ
     rest = drop (needed d) (o .before)
 
     -- the words are the tables, and the words lent after them
     words-are : o .words ≡ tables d ++ rest
-    words-are =
-        let g = counts-given (called (length (o .before))) (o .tableCount) (o .wordCount) (o .before) (o .words) (o .given) in
-        let a = tables-iff (judgedDomain d) (length (o .before)) (g .domain) .0 (g .given) in
-        subst (λ x. o .words ≡ tables x ++ drop (needed x) (o .before)) (sym (judged-routable d (g .domain) (a .0) .0)) (g .left)
+    words-are = tables-of d (o .tableCount) (o .wordCount) (o .before) (o .words) (o .given) .left
 
     a : Answer (tables d ++ rest) q e lent after
     a = subst (λ l. Answer l q e lent after) words-are (answer (o .words) q e lent after (o .over))
@@ -148,15 +149,9 @@ module _ (d : Domain) (past : wiredDomain d ≡ good d) (w : Wired d) where
         a .outcome
         ∙ ends-nowhere d w (a .routable) (tables d ++ rest) (tables-given d rest) (q .address) (a .asks .nonzero) (q .start) (q .arrival) (a .asks .start) b
 
-  -- over a domain past causes 1 to 10
-  pub demand3-domain : Demand3 d (λ room. then (judgedDomain d) (tablesFor room)) (judgedRequest d)
-  demand3-domain = record {
-    given = λ before words answer h o.
-        let c = counts-iff (called (length before)) answer before words o in (
-          λ g. let r = call-iff (length before) .0 (c .0 g) .0 in (r .linked .noLoop, r .linked .chained, r .linked .noTables, r .fits),
-          λ g. let r : Routable d = record { linked = record { noLoop = g .0; chained = g .1; noTables = g .2 }; fits = g .3 } in
-              c .1 (call-iff (length before) .1 (r, h)),
-        );
+  pub demand3 : Demand3 d (judgedTables d) (judgedRequest d)
+  demand3 = record {
+    given = counts-routable;
     arrives = arrives-iff;
     along = delivered;
     otherwise = nobody-bears;
@@ -165,11 +160,14 @@ module _ (d : Domain) (past : wiredDomain d ≡ good d) (w : Wired d) where
     itself = λ words q e lent after o. told-bad words q e lent after (answer words q e lent after o);
   }
 
+-- of what `give_tables` and `trace` promise of a file that reads as this
+abbrev FromFile : Domain → Result Domain → Type 0
+FromFile d x =
+    Demand3 d (λ room. then (then x judgedDomain) (tablesFor room)) (λ words bytes q. then (then x judgedDomain) (λ y. tracedRequest y words bytes q))
+
 -- over a file past causes 1 to 10, of what `give_tables` and `trace` promise
-pub demand3 : (file : List ℕ) (d : Domain) → wired file ≡ good d → Demand3 d (tableCall file) (traceCall file)
+pub demand3-file : (file : List ℕ) (d : Domain) → wired file ≡ good d → Demand3 d (tableCall file) (traceCall file)
 unfolding tableCall traceCall judgedRequest tracedRequest
-demand3 file d e =
-    subst
-    (λ x. Demand3 d (λ room. then (then x judgedDomain) (tablesFor room))
-    (λ words bytes q. then (then x judgedDomain) (λ y. then (requested q (length words) bytes y) (λ _. good (traced y words q)))))
-    (sym (wired-read file d e)) (demand3-domain d (wired-domain file d e) (wired-wires file d e))
+demand3-file file d e =
+    let r = wired-file file d .0 e in
+    subst (FromFile d) (sym (r .0)) (demand3 limits d (read-good limits file d (r .0)) (omega arith) (r .1))

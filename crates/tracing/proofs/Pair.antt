@@ -151,7 +151,7 @@ pair-rig = record {
   read = refl;
   listing = λ before after answer h o.
       let n = rig-sizes .1 in
-      let e = tableCall-iff (pair 4) (length before) (rig 4) .1 (rig-judged, omega arith) in (
+      let e = tableCall-iff (pair 4) (rig 4) (length before) .1 (rig-judged, omega arith) in (
         o .answers ∙ ap (λ x. then x countsIn) e ∙ ap₂ (λ x y. good (record { tableCount = x; wordCount = y })) (n .1 .0) (n .0),
         o .words ∙ ap (λ x. tablesAfter x before) e ∙ ap₂ (λ x y. x ++ drop y before) (n .1 .1) (n .0),
       );

@@ -5,10 +5,11 @@ use mathlib.Core.Logic.{_⊎_, _≢_, _↔_}
 use mathlib.Core.List.{List, [], _∷_, _++_}
 use lib.ListN.{length, take, drop}
 use lib.Dec.{T}
-use Rattle.tables.specs.Wiring.{Result, Distinct, Below, last, Domain, expanderAt, phyAt, addressOf, routes, toEnd, toExpander, farPhy}
-use Rattle.tables.specs.Wiring.{LoopIn, ChainIn, Home, Borne}
-use Rattle.tables.specs.Tables.{levelList, needed}
+use Rattle.tables.specs.Wiring.{Result, Distinct, Below, last, Domain, expanderAt, phyAt, addressOf, toEnd}
+use Rattle.tables.specs.Wiring.{ChainIn, Home, Borne}
+use Rattle.tables.specs.Tables.{needed}
 use Rattle.tables.specs.Judge.{TablesDone}
+use Rattle.tables.specs.Tested.{Routable}
 use Rattle.tables.specs.declared.TablesGiven.{TablesGiven}
 use Rattle.tables.specs.declared.TablesGiven.the-variants.{Counts}
 use Rattle.tracing.specs.Steps.{Step, here, endDevice, bad, lost, onward, step}
@@ -93,11 +94,7 @@ module _ (d : Domain) (tableCalled : ℕ → Result Domain) (traceCalled : List 
     -- "tables are given exactly when there is no loop, every expander is chained to the first, no link is table at both ends, and no level
     -- list exceeds R": with room, the table call answers with counts exactly then
     pub given : (before words : List ℕ) (answer : TablesGiven) → needed d ≤ length before → TablesDone (tableCalled (length before)) answer before words
-        → ((t w : ℕ) × (answer ≡ Counts t w))
-        ↔ ((¬ (LoopIn d))
-        × ((i : ℕ) → i < length d → (l : List ℕ) × ChainIn d 0 i l)
-        × ((i p : ℕ) → T (toExpander (phyAt d i p)) → T (routes 2 (phyAt d i p)) → T (routes 2 (farPhy d (phyAt d i p))) → ⊥)
-        × ((i p : ℕ) → T (routes 2 (phyAt d i p)) → length (levelList d i p) ≤ expanderAt d i .indexes))
+        → ((t w : ℕ) × (answer ≡ Counts t w)) ↔ Routable d
     -- "over those tables a request arrives exactly when a device bears the address"
     pub arrives : (q : Request) (e : End) (lent after : List ℕ) → OverTables q e lent after → Starts d q → (e .outcome ≡ Arrived) ↔ Borne d (q .address)
     -- "along the one chain, each expander once, and reports them and their number"

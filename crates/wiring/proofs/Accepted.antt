@@ -17,11 +17,11 @@ use Rattle.wiring.specs.Domain.{Expander, Domain, noExpander, expanderAt
 use Rattle.wiring.specs.Read.{ReadPhy, ReadExpander, addresses, Read}
 use Rattle.wiring.specs.File.{limits, domainRead}
 use Rattle.wiring.specs.Causes.{Place, place, places, farPhy, names, unanswered, endAt, claimed, clash, clashing, fixed, firstIn, firstOf, wiredDomain, wired}
-use Rattle.wiring.specs.Tested.{Passed}
+use Rattle.wiring.specs.Tested.{Passed, Linked}
 use Rattle.wiring.specs.Graph.{loopfree}
 use Rattle.wiring.specs.Neighbours.{neighbours}
 use Rattle.wiring.specs.Links.{unlooped, joined, joinedIn, tableToTable, linkedDomain}
-use Rattle.wiring.proofs.Results.{never, good-one, unless-good, good-unless, then-good, good-then}
+use Rattle.wiring.proofs.Results.{never, good-one, unless-good, good-unless, then-good, good-then, then-same}
 use Rattle.wiring.proofs.Read.{read-good}
 use Rattle.wiring.proofs.Members.{tests, or-cases, not-not, is-true, is-false, was-true, eq→eqb, in-cast, all-cons, any-of, of-any, in-getD, getD-in, in-take, take-in, map-in, in-upTo, numbers-below}
 use Rattle.wiring.proofs.Loops.{loopfree-iff}
@@ -114,7 +114,7 @@ fixed-range : (d : Domain) (i p : ℕ) → T (fixed d i p) → p < length (expan
 unfolding fixed
 fixed-range d i p t = routes-range d 2 i p (search tests) (omega arith)
 
-pub wired-passed : (d e : Domain) → wiredDomain d ≡ good e → (d ≡ e) × Passed d
+wired-passed : (d e : Domain) → wiredDomain d ≡ good e → (d ≡ e) × Passed d
 unfolding wiredDomain
 wired-passed d e f =
     let a = then-good (firstOf 7 (unanswered d) d) _ e f in
@@ -130,12 +130,15 @@ wired-passed d e f =
       },
     )
 
-pub passed-wired : (d : Domain) → Passed d → wiredDomain d ≡ good d
+passed-wired : (d : Domain) → Passed d → wiredDomain d ≡ good d
 unfolding wiredDomain
 passed-wired d s =
     good-then (firstOf 7 (unanswered d) d) _ d d (good-firstOf 7 (unanswered d) d (s .seven))
     (good-then (firstOf 8 (claimed d) d) _ d d (good-firstOf 8 (claimed d) d (s .eight))
     (good-then (firstOf 9 (clashing d) d) _ d d (good-firstOf 9 (clashing d) d (s .nine)) (good-firstOf 10 (fixed d) d (s .ten))))
+
+pub passed-iff : (d : Domain) → (wiredDomain d ≡ good d) ↔ Passed d
+passed-iff d = (λ e. wired-passed d d e .1, passed-wired d)
 
 -- a good result is the domain itself
 pub wired-same : (d e : Domain) → wiredDomain d ≡ good e → d ≡ e
@@ -309,26 +312,16 @@ module _ (d : Domain) (w : Wired d) where
   wires-passed = record { seven = answers; eight = unclaimed; nine = unclashing; ten = unfixed }
 
 pub wired-iff : (most : Limits) (d : Domain) → Read most d → most .phys ≤ 255 → (wiredDomain d ≡ good d) ↔ Wired d
-wired-iff most d g m = (λ e. passed-wires most d g (wired-passed d d e .1) m, λ w. passed-wired d (wires-passed d w))
+wired-iff most d g m = (λ e. passed-wires most d g (passed-iff d .0 e) m, λ w. passed-iff d .1 (wires-passed d w))
 
--- a file past causes 1 to 10
-pub wired-read : (file : List ℕ) (d : Domain) → wired file ≡ good d → domainRead limits file ≡ good d
-wired-read file d e = let a = then-good (domainRead limits file) wiredDomain d e in a .1 ∙ ap good (wired-same (a .0) d (a .2))
-
-pub wired-domain : (file : List ℕ) (d : Domain) → wired file ≡ good d → wiredDomain d ≡ good d
-wired-domain file d e =
-    let a = then-good (domainRead limits file) wiredDomain d e in
-    subst (λ x. wiredDomain x ≡ good d) (wired-same (a .0) d (a .2)) (a .2)
+-- a file past causes 1 to 10: it reads as a domain that is past 7 to 10
+pub wired-file : (file : List ℕ) (d : Domain) → (wired file ≡ good d) ↔ ((domainRead limits file ≡ good d) × (wiredDomain d ≡ good d))
+wired-file file d = then-same (domainRead limits file) wiredDomain d (λ a. wired-same a d)
 
 pub wired-wires : (file : List ℕ) (d : Domain) → wired file ≡ good d → Wired d
-wired-wires file d e = wired-iff limits d (read-good limits file d (wired-read file d e)) (omega arith) .0 (wired-domain file d e)
+wired-wires file d e = let r = wired-file file d .0 e in wired-iff limits d (read-good limits file d (r .0)) (omega arith) .0 (r .1)
 
 -- causes 11 to 13
-pub record Linked (d : Domain) : Type 0 where
-  pub noLoop : ¬ (LoopIn d)
-  pub chained : (i : ℕ) → i < length d → (l : List ℕ) × ChainIn d 0 i l
-  pub noTables : (i p : ℕ) → T (toExpander (phyAt d i p)) → T (routes 2 (phyAt d i p)) → T (routes 2 (farPhy d (phyAt d i p))) → ⊥
-
 unlooped-good : (d e : Domain) → unlooped d ≡ good e → ¬ (LoopIn d)
 unfolding unlooped
 unlooped-good d e f =
