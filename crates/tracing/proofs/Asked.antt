@@ -14,9 +14,9 @@ use Rattle.tables.specs.Judge.{judgedDomain}
 use Rattle.tracing.specs.declared.End.{End}
 use Rattle.tracing.specs.declared.TraceAnswer.{TraceAnswer}
 use Rattle.tracing.specs.declared.TraceAnswer.the-variants.{Refused, Ended}
-use Rattle.tracing.specs.Trace.{Request, traced, allowed, requested, traceCall}
+use Rattle.tracing.specs.Trace.{Request, traced, allowed, requested, traceCall, tracedRequest, judgedRequest, TraceDone}
 use Rattle.tracing.specs.Tested.{Asks}
-use Rattle.tracing.specs.Answers.{Walked, tracedRequest, judgedRequest, TraceDone}
+use Rattle.tracing.specs.Answers.{Walked}
 
 pub allowed-by : (d : Domain) (i p : ℕ) {a b c : Bool} → ltb i (length d) ≡ a → eqb p 255 ≡ b → toEnd (phyAt d i p) ≡ c
     → allowed d i p ≡ (a && (b || c))

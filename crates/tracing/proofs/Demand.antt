@@ -19,8 +19,7 @@ use Rattle.tables.proofs.Given.{judged-routable, routable-iff, tables-iff, tabl
 use Rattle.tables.proofs.Exactly.{counts-iff, tables-of}
 use Rattle.tracing.specs.declared.Outcome.the-variants.{Arrived, NoDestination, BadDestination}
 use Rattle.tracing.specs.declared.End.{End}
-use Rattle.tracing.specs.Trace.{Request, endingAt, traced, requested, traceCall, Reported, report, bytesAfter}
-use Rattle.tracing.specs.Answers.{tracedRequest, judgedRequest}
+use Rattle.tracing.specs.Trace.{Request, endingAt, traced, requested, traceCall, Reported, report, bytesAfter, tracedRequest, judgedRequest}
 use Rattle.tracing.specs.Tested.{Asks}
 use Rattle.tracing.specs.Demand.{Starts, ForItself, EndsAt, StepsTaken, Delivered, ToldBad, Over, OverTables, Demand3}
 use Rattle.tracing.proofs.Asked.{requested-iff}
@@ -42,7 +41,8 @@ module _ (most : Limits) (d : Domain) (read : Read most d) (few : most .phys ≤
     count : e .count ≡ length (traced d words q .passed)
     bytes : after ≡ traced d words q .passed ++ drop (length (traced d words q .passed)) lent
 
-  answer : (words : List ℕ) (q : Request) (e : End) (lent after : List ℕ) → Over d (judgedTables d) (judgedRequest d) words q e lent after → Answer words q e lent after
+  answer : (words : List ℕ) (q : Request) (e : End) (lent after : List ℕ) → Over d (judgedTables d) (judgedRequest d) words q e lent after
+      → Answer words q e lent after
   unfolding judgedRequest tracedRequest
   answer words q e lent after o =
       let n : Reported = record { outcome = e .outcome; last = e .last .0; phy = e .phy .0; count = e .count } in
@@ -99,8 +99,8 @@ module _ (most : Limits) (d : Domain) (read : Read most d) (few : most .phys ≤
         }
 
   -- with room, the table call answers counts exactly when the domain is routable
-  counts-routable : (before words : List ℕ) (answer : TablesGiven) → needed d ≤ length before → TablesDone (judgedTables d (length before)) answer before words
-      → ((t w : ℕ) × (answer ≡ Counts t w)) ↔ Routable d
+  counts-routable : (before words : List ℕ) (answer : TablesGiven) → needed d ≤ length before
+      → TablesDone (judgedTables d (length before)) answer before words → ((t w : ℕ) × (answer ≡ Counts t w)) ↔ Routable d
   counts-routable before words answer h o =
       let c = counts-iff (judgedTables d (length before)) answer before words o in (
         λ g. let x = c .0 g in tables-same d (x .0) (length before) (x .1) .1,
@@ -149,6 +149,7 @@ module _ (most : Limits) (d : Domain) (read : Read most d) (few : most .phys ≤
         a .outcome
         ∙ ends-nowhere d w (a .routable) (tables d ++ rest) (tables-given d rest) (q .address) (a .asks .nonzero) (q .start) (q .arrival) (a .asks .start) b
 
+  -- of the table call and the trace call on the domain
   pub demand3 : Demand3 d (judgedTables d) (judgedRequest d)
   demand3 = record {
     given = counts-routable;
@@ -160,14 +161,14 @@ module _ (most : Limits) (d : Domain) (read : Read most d) (few : most .phys ≤
     itself = λ words q e lent after o. told-bad words q e lent after (answer words q e lent after o);
   }
 
--- of what `give_tables` and `trace` promise of a file that reads as this
+-- demand 3 of the table call and the trace call on a file that reads as x
 abbrev FromFile : Domain → Result Domain → Type 0
 FromFile d x =
     Demand3 d (λ room. then (then x judgedDomain) (tablesFor room)) (λ words bytes q. then (then x judgedDomain) (λ y. tracedRequest y words bytes q))
 
--- over a file past causes 1 to 10, of what `give_tables` and `trace` promise
+-- a file past causes 1 to 10: demand 3 of what `give_tables` and `trace` promise of it
 pub demand3-file : (file : List ℕ) (d : Domain) → wired file ≡ good d → Demand3 d (tableCall file) (traceCall file)
-unfolding tableCall traceCall judgedRequest tracedRequest
+unfolding tableCall traceCall judgedRequest
 demand3-file file d e =
     let r = wired-file file d .0 e in
     subst (FromFile d) (sym (r .0)) (demand3 limits d (read-good limits file d (r .0)) (omega arith) (r .1))

@@ -12,8 +12,7 @@ use Rattle.tables.specs.Judge.{judged}
 use Rattle.tables.proofs.Wiring.{then-good, good-then}
 use Rattle.tables.proofs.Exactly.{Numbered, numbered-unless, numbered-then, exactly, judged-numbered, judged-causes, causes-judged}
 use Rattle.tracing.specs.declared.TraceAnswer.{TraceAnswer}
-use Rattle.tracing.specs.Trace.{Traced, Request, traced, allowed, requested, traceCall, Reported, report, traceAnswer}
-use Rattle.tracing.specs.Answers.{TraceDone}
+use Rattle.tracing.specs.Trace.{Traced, Request, traced, allowed, requested, tracedRequest, traceCall, Reported, report, traceAnswer, TraceDone}
 use Rattle.tracing.specs.Tested.{Asks, NoTraceCause, traceNumber}
 use Rattle.tracing.proofs.Asked.{requested-iff}
 
@@ -27,7 +26,7 @@ requested-numbered q words bytes d =
 -- the trace call answers exactly when none of its causes holds, and refuses with no other number
 pub trace-exactly : (file words lent after : List ℕ) (q : Request) (answer : TraceAnswer) → TraceDone (traceCall file words (length lent) q) answer lent after
     → Exactly (traceAnswer answer) (NoTraceCause file q (length words) (length lent)) traceNumber
-unfolding traceCall
+unfolding traceCall tracedRequest
 trace-exactly file words lent after q answer o =
     exactly traceNumber (traceAnswer answer) (then (traceCall file words bytes q) report) (NoTraceCause file q (length words) bytes) (o .answers) numbered from to
   where

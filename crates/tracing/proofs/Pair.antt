@@ -16,8 +16,7 @@ use Rattle.tables.specs.Judge.{overlong, judgedDomain, judged, judgeAnswer, exp
 use Rattle.tables.specs.declared.Judgement.{Judgement}
 use Rattle.tables.specs.declared.TablesGiven.{TablesGiven}
 use Rattle.tracing.specs.Steps.{pick, subtractively, byTable, directly, step}
-use Rattle.tracing.specs.Trace.{Traced, Request, request, afterStep, traceFrom, traced, requested, traceCall, report, traceAnswer, bytesAfter}
-use Rattle.tracing.specs.Answers.{TraceDone}
+use Rattle.tracing.specs.Trace.{Traced, Request, request, afterStep, traceFrom, traced, requested, tracedRequest, traceCall, report, traceAnswer, bytesAfter, TraceDone}
 use Rattle.tracing.specs.Tested.{Asks}
 use Rattle.tracing.specs.declared.Outcome.{Outcome}
 use Rattle.tracing.specs.declared.Outcome.the-variants.{Arrived, NoDestination, BadDestination}
@@ -120,7 +119,7 @@ asks lent i p s h k b z =
 -- the answer is that of the trace
 traces : (lent : List ℕ) (q : Request) (t : Traced) → Asks q (length lent) 2 (rig 4) → traced (rig 4) lent q ≡ t
     → Traces lent q (t .outcome) (t .last) (t .phy) (length (t .passed)) (t .passed)
-unfolding traceCall
+unfolding traceCall tracedRequest
 traces lent q t a e before after answer h o =
     let n = rig-sizes .0 in
     let b : Asks q (length lent) (length before) (rig 4) =

@@ -13,8 +13,7 @@ use Rattle.tables.specs.Tested.{Routable}
 use Rattle.tables.specs.declared.TablesGiven.{TablesGiven}
 use Rattle.tables.specs.declared.TablesGiven.the-variants.{Counts}
 use Rattle.tracing.specs.Steps.{Step, here, endDevice, bad, lost, onward, step}
-use Rattle.tracing.specs.Trace.{Traced, Request}
-use Rattle.tracing.specs.Answers.{TraceDone}
+use Rattle.tracing.specs.Trace.{Traced, Request, TraceDone}
 use Rattle.tracing.specs.declared.Outcome.{Outcome}
 use Rattle.tracing.specs.declared.Outcome.the-variants.{Arrived, NoDestination, BadDestination}
 use Rattle.tracing.specs.declared.End.{End}

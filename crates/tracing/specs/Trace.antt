@@ -1,12 +1,13 @@
 -- The walk of a request from its start, and the trace call.
 use Prim.Native.Nat.{ℕ, zero, suc}
+use mathlib.Core.Path.{_≡_}
 use mathlib.Core.Bool.{Bool, not, _||_, _&&_}
 use mathlib.Core.List.{List, [], _∷_, _++_}
 use lib.ListN.{length, drop}
 use lib.Dec.{eqb, ltb, leb}
 use Rattle.tables.specs.Wiring.{Result, refused, good, unless, then, refusal, Domain, phyAt, toEnd}
 use Rattle.tables.specs.Tables.{needed}
-use Rattle.tables.specs.Judge.{judged}
+use Rattle.tables.specs.Judge.{judgedDomain, judged}
 use Rattle.tracing.specs.Steps.{Step, here, endDevice, bad, lost, onward, step}
 use Rattle.tracing.specs.declared.Outcome.{Outcome}
 use Rattle.tracing.specs.declared.Outcome.the-variants.{Arrived, NoDestination, BadDestination}
@@ -65,12 +66,19 @@ requested q words bytes d =
     (unless (leb (needed d) words && leb (length d) bytes) (refusal 16 0 0)
     (unless (not (eqb (q .address) 0)) (refusal 17 0 0) (good d)))
 
--- the trace call on a file, lent words, so many lent bytes, and a request
-unfoldable pub traceCall : List ℕ → List ℕ → ℕ → Request → Result Traced
-traceCall file words bytes q =
-    then (judged file) (λ d.
+-- causes 15 to 17, then the trace: a request on an accepted domain, with lent words and so many lent bytes
+unfoldable pub tracedRequest : Domain → List ℕ → ℕ → Request → Result Traced
+tracedRequest d words bytes q =
     then (requested q (length words) bytes d) (λ _.
-    good (traced d words q)))
+    good (traced d words q))
+
+-- causes 7 to 17, then the trace: the trace call on a domain that was read
+unfoldable pub judgedRequest : Domain → List ℕ → ℕ → Request → Result Traced
+judgedRequest d words bytes q = then (judgedDomain d) (λ e. tracedRequest e words bytes q)
+
+-- the trace call on a file
+unfoldable pub traceCall : List ℕ → List ℕ → ℕ → Request → Result Traced
+traceCall file words bytes q = then (judged file) (λ d. tracedRequest d words bytes q)
 
 -- what the answer says: outcome, last expander, phy, count
 pub record Reported : Type 0 where
@@ -90,3 +98,8 @@ traceAnswer (Ended e) = good (record { outcome = e .outcome; last = e .last .0; 
 abbrev pub bytesAfter : Result Traced → List ℕ → List ℕ
 bytesAfter (refused r) before = before
 bytesAfter (good t) before = t .passed ++ drop (length (t .passed)) before
+
+-- all that a trace call with this outcome promises: the answer, and the bytes after
+pub record TraceDone (outcome : Result Traced) (answer : TraceAnswer) (before after : List ℕ) : Type 0 where
+  pub answers : traceAnswer answer ≡ then outcome report
+  pub bytes : after ≡ bytesAfter outcome before

@@ -6,8 +6,7 @@ use frames::PhyId;
 use tables::Check;
 use tables::DomainRead;
 ghost use lib.ListN.{length};
-ghost use Rattle.tracing.specs.Trace.{request, traceCall};
-ghost use Rattle.tracing.specs.Answers.{judgedRequest, TraceDone};
+ghost use Rattle.tracing.specs.Trace.{request, traceCall, judgedRequest, TraceDone};
 ghost use Rattle.tables.specs.Prepared.{Lawful};
 ghost use Rattle.tables.specs.Wiring.{domainIn};
 

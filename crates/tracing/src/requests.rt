@@ -11,8 +11,7 @@ ghost use Rattle.tables.specs.Wiring.{domainIn};
 ghost use Rattle.tables.specs.Wiring.{Refused};
 ghost use Rattle.tables.specs.Wiring.{checkAnswer};
 ghost use Rattle.tables.specs.Wiring.{refusal};
-ghost use Rattle.tracing.specs.Trace.{request, allowed, requested};
-ghost use Rattle.tracing.specs.Answers.{tracedRequest, TraceDone};
+ghost use Rattle.tracing.specs.Trace.{request, allowed, requested, tracedRequest, TraceDone};
 
 // Does cause 15 not hold: the start is an expander, and the arrival phy is 255 or attached to an end
 // device?
