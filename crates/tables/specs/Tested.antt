@@ -31,6 +31,7 @@ pub record NoJudgingCause (file : List ℕ) : Type 0 where
 -- none of the causes that the table call tests, with so many words lent: 1 to 14, and 16
 pub record NoTableCause (file : List ℕ) (room : ℕ) : Type 0 where
   pub judging : NoJudgingCause file
+  -- 16: lent buffer shorter than needed
   pub enough : needed (judging .domain) ≤ room
 
 -- 1 to 14; and 16

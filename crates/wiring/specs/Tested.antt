@@ -13,9 +13,13 @@ use Rattle.wiring.specs.Devices.{LoopIn, ChainIn}
 
 -- none of causes 7 to 10 holds of a phy
 pub record Passed (d : Domain) : Type 0 where
+  -- 7: type 2 or 3 on a direct phy, or far end missing or not naming this phy back
   pub seven : (i p : ℕ) → ¬ (T (unanswered d i p))
+  -- 8: type 1 bearing an expander's address, or one also attached as type 1 at an earlier expander
   pub eight : (i p : ℕ) → ¬ (T (claimed d i p))
+  -- 9: an attached phy and a lower attached one of its expander: same address, other attribute; or both subtractive, other address
   pub nine : (i p : ℕ) → ¬ (T (clashing d i p))
+  -- 10: non-vacant table phy, configurable bit 0
   pub ten : (i p : ℕ) → ¬ (T (fixed d i p))
 
 -- none of causes 11 to 13 holds
@@ -32,8 +36,9 @@ pub record NoWiringCause (file : List ℕ) (room : ℕ) : Type 0 where
   pub domain : Domain
   -- 1 to 6, unit by unit
   pub read : domainRead limits file ≡ good domain
+  -- 7 to 10
   pub passed : Passed domain
-  -- 16
+  -- 16: lent buffer shorter than needed
   pub enough : length domain ≤ room
 
 -- 1 to 6: what reading a file tests
