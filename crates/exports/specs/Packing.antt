@@ -39,8 +39,8 @@ abbrev pub packEnd : Outcome → ℕ → ℕ → ℕ → ℕ
 packEnd o last phy count = packOutcome o * 2 ^ 24 + last * 2 ^ 16 + phy * 2 ^ 8 + count
 
 -- outcome, last expander, phy, count
-abbrev pub ended : Reported → ℕ
-ended t = packEnd (t .outcome) (t .last) (t .phy) (t .count)
+abbrev pub endPacked : Reported → ℕ
+endPacked t = packEnd (t .outcome) (t .last) (t .phy) (t .count)
 
 -- the bytes of a request
 abbrev pub forty : List ℕ → ℕ
@@ -51,9 +51,9 @@ abbrev pub route : Route → ℕ
 route q = q .length * 2 ^ 24 + q .phy .0 * 2 ^ 16 + q .index .0
 
 -- the entry, and 0 where refused
-abbrev pub entryOf : Result Route → ℕ
-entryOf (refused r) = 0
-entryOf (good q) = q .entry
+abbrev pub routeEntry : Result Route → ℕ
+routeEntry (refused r) = 0
+routeEntry (good q) = q .entry
 
 -- R, number of phys, configurable bit
 abbrev pub general : General → ℕ

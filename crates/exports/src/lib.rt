@@ -20,16 +20,16 @@ ghost use Rattle.frames.specs.Refusals.{then};
 ghost use Rattle.frames.specs.ReportGeneral.{generalRead};
 ghost use Rattle.frames.specs.Discovery.{discoverRead};
 ghost use Rattle.frames.specs.ConfigureRoute.{routeWritten, routeRead, bufferAfter};
-ghost use Rattle.wiring.specs.Neighbours.{wiringCall, bitsOf, wordsAfter as wiredAfter};
-ghost use Rattle.tables.specs.Judge.{judged, expandersIn, tableCall, countsIn, wordsAfter};
-ghost use Rattle.tracing.specs.Trace.{traceCall, report, bytesAfter};
-ghost use Rattle.exports.specs.Packing.{packed, number, counts, ended, forty, general, discovered, ownAddress, attachedAddress, route, entryOf};
+ghost use Rattle.wiring.specs.Neighbours.{wiringCall, bitsOf, wordsAfter};
+ghost use Rattle.tables.specs.Judge.{judged, expandersIn, tableCall, countsIn, tablesAfter};
+ghost use Rattle.tracing.specs.Trace.{request, traceCall, report, bytesAfter};
+ghost use Rattle.exports.specs.Packing.{packed, number, counts, endPacked, forty, general, discovered, ownAddress, attachedAddress, route, routeEntry};
 
 // The wiring call: how many bits are set in all.
 #[no_mangle]
 pub extern "C" fn metzurgo_wire(file: &[u8], words: &mut [u64]) -> u64
     ensures { λ r. ⌜ (r ≡ packed number (then (wiringCall (now (file .entry)) (length (now (words .entry)))) bitsOf))
-        × (now (words .exit) ≡ wiredAfter (wiringCall (now (file .entry)) (length (now (words .entry)))) (now (words .entry))) ⌝ }
+        × (now (words .exit) ≡ wordsAfter (wiringCall (now (file .entry)) (length (now (words .entry)))) (now (words .entry))) ⌝ }
 {
     let answer = wiring::wire(file, words);
     match answer {
@@ -54,7 +54,7 @@ pub extern "C" fn metzurgo_judge(file: &[u8]) -> u64
 #[no_mangle]
 pub extern "C" fn metzurgo_tables(file: &[u8], words: &mut [u64]) -> u64
     ensures { λ r. ⌜ (r ≡ packed counts (then (tableCall (now (file .entry)) (length (now (words .entry)))) countsIn))
-        × (now (words .exit) ≡ wordsAfter (tableCall (now (file .entry)) (length (now (words .entry)))) (now (words .entry))) ⌝ }
+        × (now (words .exit) ≡ tablesAfter (tableCall (now (file .entry)) (length (now (words .entry)))) (now (words .entry))) ⌝ }
 {
     let answer = tables::give_tables(file, words);
     match answer {
@@ -73,8 +73,8 @@ pub extern "C" fn metzurgo_trace(
     address: u64,
     passed: &mut [u8],
 ) -> u64
-    ensures { λ r. ⌜ (r ≡ packed ended (then (traceCall (now (file .entry)) (now (words .entry)) (length (now (passed .entry))) start arrival address) report))
-        × (now (passed .exit) ≡ bytesAfter (traceCall (now (file .entry)) (now (words .entry)) (length (now (passed .entry))) start arrival address) (now (passed .entry))) ⌝ }
+    ensures { λ r. ⌜ (r ≡ packed endPacked (then (traceCall (now (file .entry)) (now (words .entry)) (length (now (passed .entry))) (request start arrival address)) report))
+        × (now (passed .exit) ≡ bytesAfter (traceCall (now (file .entry)) (now (words .entry)) (length (now (passed .entry))) (request start arrival address)) (now (passed .entry))) ⌝ }
 {
     let answer = tracing::trace(
         file,
@@ -131,7 +131,7 @@ pub extern "C" fn metzurgo_read_route(frame: &[u8]) -> u64
 // The entry of one CONFIGURE ROUTE INFORMATION request, and 0 where it is refused.
 #[no_mangle]
 pub extern "C" fn metzurgo_read_route_entry(frame: &[u8]) -> u64
-    ensures { λ r. ⌜ r ≡ entryOf (routeRead (now (frame .entry))) ⌝ }
+    ensures { λ r. ⌜ r ≡ routeEntry (routeRead (now (frame .entry))) ⌝ }
 {
     let answer = frames::read_route(frame);
     match answer {

@@ -15,7 +15,7 @@ use Rattle.wiring.specs.Domain.{Domain}
 use Rattle.tables.specs.Filling.{Put}
 use Rattle.listing.specs.declared.Cursor.{Cursor}
 use Rattle.listing.specs.Text.{lineOf}
-use Rattle.listing.specs.Lines.{Entry, wordLines, joined, fitting, entriesFrom, linesFrom, cursorAt, cursorAfter, chunkFrom, chunksFrom, ChunkPut}
+use Rattle.listing.specs.Lines.{Entry, wordLines, textOf, fitting, entriesFrom, linesFrom, cursorAt, cursorAfter, chunkFrom, chunksFrom, ChunkPut}
 use Rattle.listing.proofs.Cursors.{entries-after}
 use Rattle.listing.proofs.Puts.{Going, go-start, go-turn, go-end, put-within}
 use Rattle.listing.proofs.Numbers.{line-short}
@@ -46,25 +46,25 @@ fit-rest end (l ∷ ls) = go (leb (end + 80) 65536) (fit-rest (end + length l) l
     go true q = ap (λ (x : List (List ℕ)). l ∷ x) q
     go false q = refl
 
-joined-append : (ls ms : List (List ℕ)) → joined (ls ++ ms) ≡ joined ls ++ joined ms
-unfolding joined
-joined-append [] ms = refl
-joined-append (l ∷ ls) ms = ap (λ (x : List ℕ). l ++ x) (joined-append ls ms) ∙ sym (append-assoc l (joined ls) (joined ms))
+text-append : (ls ms : List (List ℕ)) → textOf (ls ++ ms) ≡ textOf ls ++ textOf ms
+unfolding textOf
+text-append [] ms = refl
+text-append (l ∷ ls) ms = ap (λ (x : List ℕ). l ++ x) (text-append ls ms) ∙ sym (append-assoc l (textOf ls) (textOf ms))
 
-joined-next : (ls : List (List ℕ)) (l : List ℕ) (rest : List (List ℕ)) → ls ≡ l ∷ rest → joined ls ≡ l ++ joined rest
-unfolding joined
-joined-next ls l rest e = ap joined e
+text-next : (ls : List (List ℕ)) (l : List ℕ) (rest : List (List ℕ)) → ls ≡ l ∷ rest → textOf ls ≡ l ++ textOf rest
+unfolding textOf
+text-next ls l rest e = ap textOf e
 
-joined-none : (ls : List (List ℕ)) → ls ≡ [] → joined ls ≡ []
-unfolding joined
-joined-none ls e = ap joined e
+text-none : (ls : List (List ℕ)) → ls ≡ [] → textOf ls ≡ []
+unfolding textOf
+text-none ls e = ap textOf e
 
 no-element : (ls : List (List ℕ)) → length ls ≡ 0 → ls ≡ []
 no-element [] h = refl
 no-element (l ∷ ls) h = absurd (omega arith)
 
-text-some : (ls : List (List ℕ)) → 0 < length (joined ls) → 0 < length ls
-unfolding joined
+text-some : (ls : List (List ℕ)) → 0 < length (textOf ls) → 0 < length ls
+unfolding textOf
 text-some [] h = absurd (omega arith)
 text-some (l ∷ ls) h = omega arith
 
@@ -103,7 +103,7 @@ module _ (ws : List ℕ) where
   pub record Putting (es₀ : List Entry) (w₀ : ℕ) (out₀ : List ℕ) (es : List Entry) (w : ℕ) (out : List ℕ) (end : ℕ) : Type 0 where
     pub entries : drop (length (toPut es w end)) es ≡ drop (length (toPut es₀ w₀ 0)) es₀
     pub word : w + length (toPut es w end) ≡ w₀ + length (toPut es₀ w₀ 0)
-    pub text : Going out₀ 0 (joined (toPut es₀ w₀ 0)) out end (joined (toPut es w end))
+    pub text : Going out₀ 0 (textOf (toPut es₀ w₀ 0)) out end (textOf (toPut es w end))
 
   pub putting-start : {es : List Entry} {w : ℕ} {out : List ℕ} → Putting es w out es w out 0
   putting-start = record { entries = refl; word = refl; text = go-start }
@@ -126,7 +126,7 @@ module _ (ws : List ℕ) where
         record {
           entries = sym (ap₂ (λ (x : List (List ℕ)) (y : List Entry). drop (length x) y) t q) ∙ g .entries;
           word = omega (arith, ap length t, g .word);
-          text = go-turn (g .text) _ u (joined-next _ _ _ t) (omega (arith, line-short (e .expander) (e .phy) (e .index) (getD ws w 0)));
+          text = go-turn (g .text) _ u (text-next _ _ _ t) (omega (arith, line-short (e .expander) (e .phy) (e .index) (getD ws w 0)));
         }
 
 module _ {d : Domain} {ws : List ℕ} {from : Cursor} {out₀ : List ℕ} {es : List Entry} {w : ℕ} {out : List ℕ} {end : ℕ}
@@ -137,7 +137,7 @@ module _ {d : Domain} {ws : List ℕ} {from : Cursor} {out₀ : List ℕ} {es : 
       let n : ℕ = length (chunkFrom d ws from) in
       let a : es ≡ drop n (entriesFrom d from) = sym (ap (λ (x : List (List ℕ)). drop (length x) es) q) ∙ g .entries in
       let b : w ≡ from .word + n = omega (arith, ap length q, g .word) in
-      let t = go-end (g .text) (joined-none _ q) in
+      let t = go-end (g .text) (text-none _ q) in
       record { text = t; counts = put-within t h; place = c ∙ ap₂ (cursorAt d) a b }
 
 -- a chunk that has text moves the cursor on to a later word
@@ -157,12 +157,12 @@ module _ (d : Domain) (ws : List ℕ) (from : Cursor) where
       ∙ ap (wordLines (drop n es)) (sym (drop-drop n (from .word) ws)) ∙ lines-drop n es (drop (from .word) ws)
 
   -- the text of a chunk, and then that of the lines from the cursor after it, is the text of all lines
-  pub chunk-rest : joined (chunkFrom d ws from) ++ joined (linesFrom d ws (cursorAfter d from (length (chunkFrom d ws from))))
-      ≡ joined (linesFrom d ws from)
+  pub chunk-rest : textOf (chunkFrom d ws from) ++ textOf (linesFrom d ws (cursorAfter d from (length (chunkFrom d ws from))))
+      ≡ textOf (linesFrom d ws from)
   chunk-rest =
       let ls : List (List ℕ) = chunkFrom d ws from in
-      ap (λ (x : List (List ℕ)). joined ls ++ joined x) (lines-after (length ls))
-      ∙ sym (joined-append ls (drop (length ls) (linesFrom d ws from))) ∙ ap joined (fit-rest 0 (linesFrom d ws from))
+      ap (λ (x : List (List ℕ)). textOf ls ++ textOf x) (lines-after (length ls))
+      ∙ sym (text-append ls (drop (length ls) (linesFrom d ws from))) ∙ ap textOf (fit-rest 0 (linesFrom d ws from))
 
   -- a chunk has a line where one is left
   pub chunk-some : 0 < length (linesFrom d ws from) → 0 < length (chunkFrom d ws from)
@@ -173,13 +173,13 @@ module _ (d : Domain) (ws : List ℕ) (from : Cursor) where
       some (l ∷ ls) h = omega (arith, ap length (fit-go 0 l ls (omega arith)))
 
 -- as many chunks as there are lines, or more, are the text of all lines
-pub all-chunks : (n : ℕ) (d : Domain) (ws : List ℕ) (c : Cursor) → length (linesFrom d ws c) ≤ n → chunksFrom d ws c n ≡ joined (linesFrom d ws c)
+pub all-chunks : (n : ℕ) (d : Domain) (ws : List ℕ) (c : Cursor) → length (linesFrom d ws c) ≤ n → chunksFrom d ws c n ≡ textOf (linesFrom d ws c)
 unfolding chunksFrom
-all-chunks zero d ws c h = sym (joined-none (linesFrom d ws c) (no-element (linesFrom d ws c) (omega arith)))
+all-chunks zero d ws c h = sym (text-none (linesFrom d ws c) (no-element (linesFrom d ws c) (omega arith)))
 all-chunks (suc n) d ws c h =
     let k : ℕ = length (chunkFrom d ws c) in
     let l = ap length (lines-after d ws c k) ∙ length-drop k (linesFrom d ws c) in
     let s : 0 < length (linesFrom d ws c) → 0 < k = chunk-some d ws c in
     let f : length (linesFrom d ws (cursorAfter d c k)) ≤ n =
     by-cases (decLt 0 (length (linesFrom d ws c))) (λ g. omega (arith, s g)) (λ g. omega arith) in
-    ap (λ (x : List ℕ). joined (chunkFrom d ws c) ++ x) (all-chunks n d ws (cursorAfter d c k) f) ∙ chunk-rest d ws c
+    ap (λ (x : List ℕ). textOf (chunkFrom d ws c) ++ x) (all-chunks n d ws (cursorAfter d c k) f) ∙ chunk-rest d ws c

@@ -12,16 +12,15 @@ use Rattle.wiring.specs.Domain.{Domain, expanderAt, phyAt, routes}
 use Rattle.wiring.specs.Causes.{Place, places}
 use Rattle.wiring.specs.Rows.{domainIn, RowsRead}
 use Rattle.wiring.proofs.Results.{good-one, then-good}
-use Rattle.wiring.proofs.Accepted.{wired-read}
 use Rattle.wiring.proofs.Opening.{opened}
 use Rattle.tables.specs.Tables.{table, tablePlaces, tables, size, needed}
 use Rattle.tables.specs.Filling.{withTables}
-use Rattle.tables.specs.Judge.{judged, tableCall, Counted, countsIn, wordsAfter, TablesDone}
+use Rattle.tables.specs.Judge.{judged, tableCall, Counted, countsIn, tablesAfter, TablesDone}
 use Rattle.tables.specs.declared.TablesGiven.the-variants.{Counts}
 use Rattle.tables.proofs.Tables.{table-length, tables-length}
-use Rattle.tables.proofs.Given.{judged-wired, tableCall-iff}
+use Rattle.tables.proofs.Given.{judged-file, tableCall-iff}
 use Rattle.listing.specs.Text.{lineOf, totalsOf}
-use Rattle.listing.specs.Lines.{Entry, tableEntries, placeEntries, wordLines, linesFrom, cursor, tableLines, joined, chunksFrom, entryLines, listingOf}
+use Rattle.listing.specs.Lines.{Entry, tableEntries, placeEntries, wordLines, linesFrom, cursor, tableLines, textOf, chunksFrom, entryLines, listingOf}
 use Rattle.listing.proofs.Chunks.{all-chunks}
 use Rattle.listing.proofs.Cursors.{expander-on}
 
@@ -94,7 +93,7 @@ pub record Listed (file : List ℕ) (t w : ℕ) (rows words : List ℕ) : Type 0
   pub domain : Domain
   pub accepted : judged file ≡ good domain
   pub lines : linesFrom (domainIn rows) words (cursor 0 0 0 0) ≡ entryLines domain
-  pub text : joined (linesFrom (domainIn rows) words (cursor 0 0 0 0)) ++ totalsOf t w ≡ listingOf domain
+  pub text : textOf (linesFrom (domainIn rows) words (cursor 0 0 0 0)) ++ totalsOf t w ≡ listingOf domain
   pub chunks : (n : ℕ) → needed domain ≤ n → chunksFrom (domainIn rows) words (cursor 0 0 0 0) n ++ totalsOf t w ≡ listingOf domain
 
 -- from what `read_domain` and `give_tables` promise
@@ -105,15 +104,15 @@ unfolding listingOf
 listed file before after lent words n t w eb el r g =
     let a = then-good (tableCall file (length lent)) countsIn (record { tableCount = t; wordCount = w }) (sym (g .answers)) in
     let d : Domain = a .0 in
-    let c = tableCall-iff file (length lent) d .0 (a .1) in
+    let c = tableCall-iff file d (length lent) .0 (a .1) in
     let o = opened file before after eb (Expanders n) r in
-    let e : domainIn (take (258 * n) after) ≡ d = good-one _ _ (sym (o .0) ∙ wired-read file d (judged-wired file d (c .0))) in
+    let e : domainIn (take (258 * n) after) ≡ d = good-one _ _ (sym (o .0) ∙ judged-file file d .0 (c .0) .0) in
     let f = good-one _ _ (a .2) in
-    let q : words ≡ tables d ++ drop (needed d) lent = g .words ∙ ap (λ (x : Result Domain). wordsAfter x lent) (a .1) in
+    let q : words ≡ tables d ++ drop (needed d) lent = g .words ∙ ap (λ (x : Result Domain). tablesAfter x lent) (a .1) in
     let l : linesFrom (domainIn (take (258 * n) after)) words (cursor 0 0 0 0) ≡ entryLines d =
     ap₂ (λ (x : Domain) (y : List ℕ). linesFrom x y (cursor 0 0 0 0)) e q ∙ tables-lines d (drop (needed d) lent) in
-    let x : joined (linesFrom (domainIn (take (258 * n) after)) words (cursor 0 0 0 0)) ++ totalsOf t w ≡ listingOf d =
-    ap₂ (λ (ls : List (List ℕ)) (y : Counted). joined ls ++ totalsOf (y .tableCount) (y .wordCount)) l (sym f) in
+    let x : textOf (linesFrom (domainIn (take (258 * n) after)) words (cursor 0 0 0 0)) ++ totalsOf t w ≡ listingOf d =
+    ap₂ (λ (ls : List (List ℕ)) (y : Counted). textOf ls ++ totalsOf (y .tableCount) (y .wordCount)) l (sym f) in
     record {
       domain = d;
       accepted = c .0;

@@ -73,9 +73,9 @@ abbrev pub cursorAfter : Domain → Cursor → ℕ → Cursor
 cursorAfter d c n = cursorAt d (drop n (entriesFrom d c)) (c .word + n)
 
 -- lines as one text
-unfoldable pub joined : List (List ℕ) → List ℕ
-joined [] = []
-joined (l ∷ ls) = l ++ joined ls
+unfoldable pub textOf : List (List ℕ) → List ℕ
+textOf [] = []
+textOf (l ∷ ls) = l ++ textOf ls
 
 -- the lines that are put after `end` bytes, up to the first for which no 80 of the 65,536 bytes are left
 unfoldable pub fitting : ℕ → List (List ℕ) → List (List ℕ)
@@ -89,11 +89,11 @@ chunkFrom d ws c = fitting 0 (linesFrom d ws c)
 -- the text of so many chunks, each from the cursor after the one before
 unfoldable pub chunksFrom : Domain → List ℕ → Cursor → ℕ → List ℕ
 chunksFrom d ws c zero = []
-chunksFrom d ws c (suc n) = joined (chunkFrom d ws c) ++ chunksFrom d ws (cursorAfter d c (length (chunkFrom d ws c))) n
+chunksFrom d ws c (suc n) = textOf (chunkFrom d ws c) ++ chunksFrom d ws (cursorAfter d c (length (chunkFrom d ws c))) n
 
 -- a chunk of lines was put: its text, which lies within the buffer, and the cursor after its lines
 pub record ChunkPut (d : Domain) (ws : List ℕ) (from : Cursor) (before after : List ℕ) (next : Cursor) (end : ℕ) : Type 0 where
-  pub text : Put before after 0 end (joined (chunkFrom d ws from))
+  pub text : Put before after 0 end (textOf (chunkFrom d ws from))
   pub counts : Counts end after
   pub place : next ≡ cursorAfter d from (length (chunkFrom d ws from))
 
@@ -108,4 +108,4 @@ entryLines d = flatMap (λ q. tableLines (q .expander) (q .phy) 0 (table d (q .e
 
 -- the whole listing: a line for each word of each table, then the totals
 unfoldable pub listingOf : Domain → List ℕ
-listingOf d = joined (entryLines d) ++ totalsOf (length (tablePlaces d)) (needed d)
+listingOf d = textOf (entryLines d) ++ totalsOf (length (tablePlaces d)) (needed d)

@@ -1,10 +1,11 @@
 -- The levels of a table phy are the expanders beyond it: those to which a chain leads that begins by that phy.
 use mathlib.Core.Path.{_≡_, refl, sym, ap, subst, subst₂, _∙_}
-use mathlib.Core.Logic.{_⊎_, inl, inr, _↔_, ⊎-elim}
+use mathlib.Core.Logic.{_⊎_, inl, inr, _↔_, ⊎-elim, by-cases}
 use mathlib.Core.List.{List, [], _∷_, _++_, flatMap, map}
 use mathlib.Core.Bool.{Bool, true, false, cond, not}
 use Prim.Native.Nat.{ℕ, zero, suc, _+_, _≤_, _<_}
 use native.Mathlib.Omega.{arith}
+use native.Mathlib.Decide.{decLt}
 use lib.ListN.{length, length-append}
 use lib.Dec.{T, not-T}
 use Rattle.wiring.specs.declared.Phy.the-variants.{Vacant}
@@ -16,7 +17,7 @@ use Rattle.wiring.specs.Neighbours.{neighbours}
 use Rattle.wiring.proofs.Members.{tests, and-both, keep-more, in-cast, all-cons, in-append, in-left, in-right, in-getD, getD-in, keeps, kept, in-map, map-in, in-flatMap, flatMap-in, of-isIn, last-in, distinct-append, at-most}
 use Rattle.wiring.proofs.Walks.{NoBack, noback, repeats-nothing, same-rest}
 use Rattle.wiring.proofs.Wires.{Way, To, Wired, expander-attached, in-range, far-below, far-is, to-start, to-back, to-number, adj-to, to-adj, adj-symmetric, differ, alike}
-use Rattle.wiring.proofs.Accepted.{Linked}
+use Rattle.wiring.specs.Tested.{Linked}
 use Rattle.tables.specs.Levels.{once, down, belowPhys, below, nextLevel, levelsFrom, levels}
 use Rattle.tables.proofs.Once.{in-once, once-in, once-distinct}
 
@@ -351,9 +352,6 @@ module _ (d : Domain) (w : Wired d) where
       settle (suc k) j before level f h =
           ap (λ l. level ++ l) (settle k (suc j) level (nextLevel d before level) (next-deep j before level f) (omega arith))
 
-      pub levels-enough : (k : ℕ) → length d ≤ suc k → levelsFrom (suc k) d (x ∷ []) (n ∷ []) ≡ levelsFrom k d (x ∷ []) (n ∷ [])
-      levels-enough k h = settle k 0 (x ∷ []) (n ∷ []) top (omega arith)
-
       -- the levels of n, seen from x
       from-x : (m : ℕ) → In m (levelsFrom (length d) d (x ∷ []) (n ∷ [])) ↔ ((l : List ℕ) × Way d x m (n ∷ l) × Clear d n l)
       from-x m = (
@@ -374,6 +372,18 @@ module _ (d : Domain) (w : Wired d) where
     first-level x p n h t u v =
         rw (keep-more (down d) (phyAt d x p) [] (leads-down x p (record { expander = t .expander; routed = u; single = v })))
         (ap (λ k. k ∷ []) (to-number d w x p n h t))
+
+    -- as many levels as there are expanders are enough: those after them have no expander
+    pub levels-enough : (x p n : ℕ) → n < length d → To d x p n → T (routes 2 (phyAt d x p)) → ¬ (FarTable d x p)
+        → (count : ℕ) → length d ≤ count → levelsFrom count d (x ∷ []) (belowPhys d (phyAt d x p ∷ [])) ≡ levels d x p
+    unfolding levels
+    levels-enough x p n h t u s zero k = absurd (omega arith)
+    levels-enough x p n h t u s (suc c) k =
+        let a : Table d x n = record { phy = p; to = t; routed = u; end = h; single = s } in
+        by-cases (decLt (length d) (suc c))
+        (λ l. subst (λ v. levelsFrom (suc c) d (x ∷ []) v ≡ levelsFrom c d (x ∷ []) v) (sym (first-level x p n h t u s))
+        (settle x n a c 0 (x ∷ []) (n ∷ []) (top x n a) (omega arith)) ∙ levels-enough x p n h t u s c (omega arith))
+        (λ l. ap (λ (m : ℕ). levelsFrom m d (x ∷ []) (belowPhys d (phyAt d x p ∷ []))) (omega arith))
 
     -- the levels hold different expanders, and not x
     pub levels-few : (x p n : ℕ) → n < length d → To d x p n → T (routes 2 (phyAt d x p)) → ¬ (FarTable d x p)

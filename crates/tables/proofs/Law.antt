@@ -13,7 +13,7 @@ use Rattle.wiring.specs.Lists.{any, isIn, In, Distinct, last}
 use Rattle.wiring.specs.Domain.{Domain, expanderAt, phyAt, addressOf, attributeOf, routes, attached, toExpander, bears, numberOf}
 use Rattle.wiring.proofs.Members.{tests, or-cases, or-left, or-right, T?, is-true, is-false, same-test, in-cast, in-append, in-left, in-right, getD-in, isIn-of, of-isIn, last-in}
 use Rattle.wiring.proofs.Wires.{Wired, expander-attached, attached-cases, routes-one, plain-attribute, in-range, differ, far-below, far-is, to-adj, adj-symmetric}
-use Rattle.wiring.proofs.Accepted.{Linked}
+use Rattle.wiring.specs.Tested.{Linked}
 use Rattle.tables.specs.Levels.{down, nextLevel, levelsFrom, levels}
 use Rattle.tables.specs.Tables.{word, heldBy, gives, give, giveAll, levelList}
 use Rattle.tables.specs.Own.{owns, ownFrom, own, ownList}

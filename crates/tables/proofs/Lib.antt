@@ -5,6 +5,8 @@ pub mod Beyond
 pub mod Listed
 pub mod Tables
 pub mod Given
+pub mod Exactly
+pub mod Stretches
 pub mod Growing
 pub mod Cells
 pub mod Owns

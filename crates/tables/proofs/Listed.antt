@@ -13,7 +13,7 @@ use Rattle.wiring.specs.Lists.{any, isIn, In, last}
 use Rattle.wiring.specs.Domain.{Domain, expanderAt, phyAt, addressOf, routes, attached, toEnd, toExpander, bears, numberOf}
 use Rattle.wiring.proofs.Members.{tests, or-cases, or-left, or-right, is-true, was-true, not-not, eq→eqb, any-of, of-any, in-cast, in-append, in-left, in-right, in-getD, getD-in, in-flatMap, flatMap-in, of-isIn, last-in}
 use Rattle.wiring.proofs.Wires.{Way, To, Wired, Home, end-attached, expander-attached, attached-cases, routes-one, in-range, far-below, far-is}
-use Rattle.wiring.proofs.Accepted.{Linked}
+use Rattle.wiring.specs.Tested.{Linked}
 use Rattle.tables.specs.Levels.{levels}
 use Rattle.tables.specs.Tables.{word, heldBy, gives, give, giveAll, levelList}
 use Rattle.tables.specs.Filling.{physOf}

@@ -13,7 +13,7 @@ use Rattle.wiring.specs.Lists.{any, keep, isIn, In, Distinct}
 use Rattle.wiring.specs.Domain.{Domain, phyAt, addressOf, numberOf}
 use Rattle.wiring.proofs.Members.{T?, is-true, is-false, keep-more, in-flatMap, of-isIn}
 use Rattle.wiring.proofs.Wires.{Wired, far-below, far-is}
-use Rattle.wiring.proofs.Accepted.{Linked}
+use Rattle.wiring.specs.Tested.{Linked}
 use Rattle.tables.specs.Levels.{once, down, belowPhys, below, nextLevel, levelsFrom, levels}
 use Rattle.tables.specs.Filling.{Grown}
 use Rattle.tables.specs.Prepared.{belowOnce, queue, orderOf, oneLink}

@@ -1,16 +1,16 @@
 -- Cause 14, the judging call and the table call.
-use Prim.Native.Nat.{ℕ}
+use Prim.Native.Nat.{ℕ, _+_, _≤_, _<_}
 use mathlib.Core.Path.{_≡_}
 use mathlib.Core.Bool.{Bool, _&&_}
 use mathlib.Core.List.{List, _++_}
-use lib.ListN.{length, drop}
-use lib.Dec.{ltb, leb}
+use lib.ListN.{length, getD, drop}
+use lib.Dec.{T, ltb, leb}
 use Rattle.wiring.specs.Frames.{Result, refused, good, unless, then, refusal}
 use Rattle.wiring.specs.Domain.{Domain, expanderAt, phyAt, routes}
 use Rattle.wiring.specs.File.{limits, domainRead}
 use Rattle.wiring.specs.Causes.{firstOf, wiredDomain}
 use Rattle.wiring.specs.Links.{linkedDomain}
-use Rattle.tables.specs.Tables.{levelList, tablePlaces, tables, needed}
+use Rattle.tables.specs.Tables.{levelList, tablePlaces, tables, needed, offset}
 use Rattle.tables.specs.declared.Judgement.{Judgement}
 use Rattle.tables.specs.declared.Judgement.the-variants.{Refused, Expanders}
 use Rattle.tables.specs.declared.TablesGiven.{TablesGiven}
@@ -43,6 +43,10 @@ expandersIn d = good (length d)
 abbrev pub tablesFor : ℕ → Domain → Result Domain
 tablesFor room d = unless (leb (needed d) room) (refusal 16 0 0) (good d)
 
+-- causes 7 to 14, and 16: the table call on a domain that was read, with room for so many words
+abbrev pub judgedTables : Domain → ℕ → Result Domain
+judgedTables d room = then (judgedDomain d) (tablesFor room)
+
 -- the table call on a file, with room for so many words
 unfoldable pub tableCall : List ℕ → ℕ → Result Domain
 tableCall file room = then (judged file) (tablesFor room)
@@ -61,11 +65,27 @@ tablesAnswer (NotGiven r) = refused r
 tablesAnswer (Counts t w) = good (record { tableCount = t; wordCount = w })
 
 -- the words after the call: the tables, and the words after them as they were; all as they were where refused
-abbrev pub wordsAfter : Result Domain → List ℕ → List ℕ
-wordsAfter (refused r) before = before
-wordsAfter (good d) before = tables d ++ drop (needed d) before
+abbrev pub tablesAfter : Result Domain → List ℕ → List ℕ
+tablesAfter (refused r) before = before
+tablesAfter (good d) before = tables d ++ drop (needed d) before
 
 -- all that a table call with this outcome promises: the answer, and the words after
 pub record TablesDone (outcome : Result Domain) (answer : TablesGiven) (before after : List ℕ) : Type 0 where
   pub answers : tablesAnswer answer ≡ then outcome countsIn
-  pub words : after ≡ wordsAfter outcome before
+  pub words : after ≡ tablesAfter outcome before
+
+-- demand 2's equation in the lent words: index for index, every table is the level list of its phy
+pub record IndexForIndex (d : Domain) (before after : List ℕ) : Type 0 where
+  pub size : length after ≡ length before
+  -- the stretch of a non-vacant table phy lies within the words that the tables need, and they were lent
+  pub within : (i p : ℕ) → T (routes 2 (phyAt d i p)) → offset d i p + expanderAt d i .indexes ≤ needed d
+  pub lent : needed d ≤ length before
+  -- its list has at most R words, and index k of the stretch is word k of the list
+  pub fits : (i p : ℕ) → T (routes 2 (phyAt d i p)) → length (levelList d i p) ≤ expanderAt d i .indexes
+  pub listed : (i p k : ℕ) → T (routes 2 (phyAt d i p)) → k < length (levelList d i p)
+      → getD after (offset d i p + k) 0 ≡ getD (levelList d i p) k 0
+  -- after the list, up to index R - 1, the entries are 0
+  pub disabled : (i p k : ℕ) → T (routes 2 (phyAt d i p)) → length (levelList d i p) ≤ k → k < expanderAt d i .indexes
+      → getD after (offset d i p + k) 0 ≡ 0
+  -- words after all tables stay
+  pub stay : (k : ℕ) → needed d ≤ k → getD after k 0 ≡ getD before k 0

@@ -33,6 +33,7 @@ unfoldable pub levelsFrom : ℕ → Domain → List ℕ → List ℕ → List �
 levelsFrom zero d last level = []
 levelsFrom (suc count) d last level = level ++ levelsFrom count d level (nextLevel d last level)
 
--- the expanders of the levels of phy p of expander x; none where it is attached to no expander
+-- the expanders of the levels of phy p of expander x; none where it is attached to no expander. As many levels as there are expanders
+-- are enough: `levels-enough` (proofs/Beyond)
 unfoldable pub levels : Domain → ℕ → ℕ → List ℕ
 levels d x p = levelsFrom (length d) d (x ∷ []) (belowPhys d (phyAt d x p ∷ []))

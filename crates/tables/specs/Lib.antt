@@ -4,4 +4,5 @@ pub mod Tables
 pub mod Own
 pub mod Prepared
 pub mod Judge
+pub mod Tested
 pub mod Filling

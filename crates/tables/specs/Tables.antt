@@ -2,7 +2,7 @@
 use Prim.Native.Nat.{ℕ, _+_}
 use mathlib.Core.Bool.{Bool, cond, not, _||_, _&&_}
 use mathlib.Core.List.{List, [], _∷_, _++_, flatMap}
-use lib.ListN.{take, replicate}
+use lib.ListN.{take, drop, replicate}
 use lib.Dec.{eqb}
 use Rattle.wiring.specs.declared.Phy.{Phy}
 use Rattle.wiring.specs.Lists.{any, keep, isIn}
@@ -59,3 +59,16 @@ sizes d (q ∷ qs) = size d q + sizes d qs
 -- the sum of R over non-vacant table phys
 abbrev pub needed : Domain → ℕ
 needed d = sizes d (places d)
+
+-- how many words stand before the table of phy p of expander i, where the tables at these places stand one after the other
+unfoldable pub offsetIn : Domain → ℕ → ℕ → List Place → ℕ
+offsetIn d i p [] = 0
+offsetIn d i p (q ∷ qs) = cond (eqb (q .expander) i && eqb (q .phy) p) 0 (size d q + offsetIn d i p qs)
+
+-- the offset of the table of phy p of expander i among all tables
+abbrev pub offset : Domain → ℕ → ℕ → ℕ
+offset d i p = offsetIn d i p (places d)
+
+-- "its own stretch": the R words of the table of phy p of expander i
+unfoldable pub stretch : Domain → List ℕ → ℕ → ℕ → List ℕ
+stretch d words i p = take (expanderAt d i .indexes) (drop (offset d i p) words)

@@ -6,27 +6,20 @@ use Prim.Native.Nat.{ℕ, zero, suc, _<_}
 use native.Mathlib.Omega.{arith}
 use lib.ListN.{length}
 use lib.Dec.{T, eqb}
-use Rattle.tables.specs.Wiring.{In, Domain, expanderAt, phyAt, addressOf, farOf, routes, attached, toEnd, toExpander, numberOf, self, neighbours}
-use Rattle.tables.specs.Tables.{heldBy, levelList, table, tables}
-use Rattle.tables.proofs.Wiring.{is-true, eq→eqb, neqb, in-cast, all-cons, last-in, at-most, same-rest, same-chain, rest-of, Joined, prepend, ChainIn, Way, Wired, Home, end-attached, expander-attached, attached-cases, in-range, differ, far-below, far-is, to-adj, adj-symmetric}
+use Rattle.tables.specs.Wiring.{In, Domain, expanderAt, phyAt, addressOf, farOf, routes, attached, toEnd, toExpander, numberOf, self, neighbours, ChainIn, Home, Borne}
+use Rattle.tables.specs.Tables.{heldBy, levelList, table, tables, stretch}
+use Rattle.tables.proofs.Wiring.{is-true, eq→eqb, neqb, in-cast, all-cons, last-in, at-most, same-rest, same-chain, rest-of, Joined, prepend, Way, Wired, end-attached, expander-attached, attached-cases, in-range, differ, far-below, far-is, to-adj, adj-symmetric}
 use Rattle.tables.proofs.Beyond.{Table, Sub, Clear, adj-cases, one-sub}
 use Rattle.tables.proofs.Listed.{held-cases, held-self, held-phy, list-beyond, beyond-list}
 use Rattle.tables.proofs.Tables.{in-table}
-use Rattle.tables.proofs.Given.{Routable}
+use Rattle.tables.proofs.Stretches.{stretch-is}
+use Rattle.tables.specs.Tested.{Routable}
 use Rattle.tracing.specs.declared.Outcome.the-variants.{Arrived, NoDestination}
-use Rattle.tracing.specs.Steps.{Step, onward, cameFrom, step, stretch}
-use Rattle.tracing.specs.Trace.{Traced, after, afterStep, traceFrom, traced}
+use Rattle.tracing.specs.Steps.{Step, onward, cameFrom, step}
+use Rattle.tracing.specs.Trace.{Traced, after, afterStep, traceFrom, request, traced}
+use Rattle.tracing.specs.Demand.{Starts, EndsAt}
 use Rattle.tracing.proofs.Stepping.{NoWayUp, Chosen, atOnce, listed, upward, Stepped, isHere, isEnd, isBad, isLost, isMove, stepped}
 use Rattle.tracing.proofs.Passing.{Fresh, came-far}
-use Rattle.tracing.proofs.OwnStretch.{stretch-is}
-
--- a device of the domain bears s
-abbrev pub Borne : Domain → ℕ → Type 0
-Borne d s = (m : ℕ) × (m < length d) × Home d s m
-
--- from the expander itself, or from an end device that does not bear s
-abbrev pub Starts : Domain → ℕ → ℕ → ℕ → Type 0
-Starts d i arrival s = (arrival ≡ 255) ⊎ (T (toEnd (phyAt d i arrival)) × (addressOf (phyAt d i arrival) ≢ s))
 
 -- words in which each table stands in its own stretch
 abbrev pub Given : Domain → List ℕ → Type 0
@@ -34,10 +27,6 @@ Given d words = (i p : ℕ) → T (routes 2 (phyAt d i p)) → stretch d words i
 
 pub tables-given : (d : Domain) (after : List ℕ) → Given d (tables d ++ after)
 tables-given d after i p t = stretch-is d i p t after
-
--- the phy at which a trace ends at expander m, for address s: 255 where m bears it, else the phy of an end device that does
-abbrev pub EndsAt : Domain → ℕ → ℕ → ℕ → Type 0
-EndsAt d s m p = ((expanderAt d m .address ≡ s) × (p ≡ 255)) ⊎ (T (toEnd (phyAt d m p)) × (addressOf (phyAt d m p) ≡ s))
 
 -- a trace that arrives at expander m, where the device is, having passed these
 pub record Reaches (d : Domain) (s m : ℕ) (t : Traced) (chain : List ℕ) : Type 0 where
@@ -88,12 +77,12 @@ module _ (d : Domain) (w : Wired d) where
       go : (st : Step) → Stepped d words i s (cameFrom d i arrival) st → ((j q : ℕ) → j < length d → traceFrom k d words j q s .outcome ≡ Arrived → Borne d s)
           → afterStep i (λ j q. traceFrom k d words j q s) st .outcome ≡ Arrived → Borne d s
       go st (isHere f) r o = (i, h, inl f)
-      go st (isEnd p t f) r o = (i, h, inr (p, t, f))
+      go st (isEnd p t f n) r o = (i, h, inr (p, t, f))
       go st (isBad p t f g) r o = let z : _≡_ {A = ℕ} 0 1 = cc in absurd (omega arith)
       go st (isLost n a u g) r o = let z : _≡_ {A = ℕ} 0 1 = cc in absurd (omega arith)
       go st (isMove p n x f c) r o = r (farEnd d i p) (farOf (phyAt d i p)) (far-below d w i p x) o
 
-  pub traced-borne : (words : List ℕ) (s i arrival : ℕ) → i < length d → traced d words i arrival s .outcome ≡ Arrived → Borne d s
+  pub traced-borne : (words : List ℕ) (s i arrival : ℕ) → i < length d → traced d words (request i arrival s) .outcome ≡ Arrived → Borne d s
   unfolding traced
   traced-borne words s i arrival h = arrived-borne words s (length d) i arrival h
 
@@ -151,13 +140,13 @@ module _ (d : Domain) (w : Wired d) where
               → ((j q : ℕ) → j < length d → traceFrom k d words j q s .outcome ≡ NoDestination)
               → afterStep i (λ j q. traceFrom k d words j q s) st .outcome ≡ NoDestination
           go st (isHere f) o = absurd (b (i, h, inl f))
-          go st (isEnd p t f) o = absurd (b (i, h, inr (p, t, f)))
+          go st (isEnd p t f n) o = absurd (b (i, h, inr (p, t, f)))
           go st (isBad p t f (inl g)) o = absurd (b (attached-borne s i p t g))
           go st (isBad p t f (inr g)) o = absurd (unlisted p (g .0) (g .1) (g .2))
           go st (isLost n a u g) o = refl
           go st (isMove p n x f c) o = o (farEnd d i p) (farOf (phyAt d i p)) (far-below d w i p x)
 
-      pub ends-nowhere : (i arrival : ℕ) → i < length d → ¬ (Borne d s) → traced d words i arrival s .outcome ≡ NoDestination
+      pub ends-nowhere : (i arrival : ℕ) → i < length d → ¬ (Borne d s) → traced d words (request i arrival s) .outcome ≡ NoDestination
       unfolding traced
       ends-nowhere i arrival h b = nobody b (length d) i arrival h
 
@@ -219,7 +208,7 @@ module _ (d : Domain) (w : Wired d) where
         along : (i j came : ℕ) (l : List ℕ) → Way d i m (j ∷ l) → Clear d i (j ∷ l) → expanderAt d j .address ≢ came → s ≢ came
             → (st : Step) → Stepped d words i s came st → (q : ℕ) × (st ≡ onward j q) × (cameFrom d j q ≡ expanderAt d i .address)
         along i j came l c cl k y st (isHere e) = absurd (not-home i j l c (inl e))
-        along i j came l c cl k y st (isEnd p t e) = absurd (not-home i j l c (inr (p, t, e)))
+        along i j came l c cl k y st (isEnd p t e n) = absurd (not-home i j l c (inr (p, t, e)))
         along i j came l c cl k y st (isBad p t e (inl f)) = absurd (y (sym f ∙ e))
         along i j came l c cl k y st (isBad p t e (inr f)) =
             let q = leads i p j l c (f .0) (f .1) (f .2) in
@@ -237,7 +226,7 @@ module _ (d : Domain) (w : Wired d) where
         unfolding afterStep
         at-home i came q y go st (isHere e) =
             record { outcome = refl; last = q; phy = inl (subst (λ v. expanderAt d v .address ≡ s) q e, refl); passed = refl }
-        at-home i came q y go st (isEnd p t e) =
+        at-home i came q y go st (isEnd p t e n) =
             let phy = subst (λ v. T (toEnd (phyAt d v p)) × (addressOf (phyAt d v p) ≡ s)) q (t, e) in
             record { outcome = refl; last = q; phy = inr phy; passed = refl }
         at-home i came q y go st (isBad p t e (inl f)) = absurd (y (sym f ∙ e))
@@ -273,7 +262,7 @@ module _ (d : Domain) (w : Wired d) where
             (go-on (traceFrom k d words j (e .0) s) i j l rest)
 
       -- where a request comes from is neither the address nor an expander
-      starts-fresh : (i arrival : ℕ) → Starts d i arrival s
+      starts-fresh : (i arrival : ℕ) → Starts d (request i arrival s)
           → (s ≢ cameFrom d i arrival) × ((j : ℕ) → j < length d → expanderAt d j .address ≢ cameFrom d i arrival)
       starts-fresh i arrival (inl e) = rw (is-true (eqb arrival 255) (eq→eqb arrival 255 e)) (z, w .borne)
       starts-fresh i arrival (inr e) =
@@ -285,8 +274,8 @@ module _ (d : Domain) (w : Wired d) where
       fresh-all i came m (j ∷ l) c f = f j (c .below j (inr (inl refl)))
 
       -- a request whose chain is clear arrives along it
-      pub traced-arrives : (i arrival m : ℕ) → i < length d → Starts d i arrival s → m < length d → Home d s m → (l : List ℕ) → ChainIn d i m l → ClearChain d l
-          → Reaches d s m (traced d words i arrival s) l
+      pub traced-arrives : (i arrival m : ℕ) → i < length d → Starts d (request i arrival s) → m < length d → Home d s m → (l : List ℕ) → ChainIn d i m l → ClearChain d l
+          → Reaches d s m (traced d words (request i arrival s)) l
       unfolding traced
       traced-arrives i arrival m h st k home [] c cl = absurd c
       traced-arrives i arrival m h st k home (x ∷ l) c cl =
@@ -294,5 +283,5 @@ module _ (d : Domain) (w : Wired d) where
           let way = subst (λ v. Way d v m l) (c .0) (c .1) in
           let size = at-most (length d) (i ∷ l) (way .below) (way .diff) in
           let clear = subst (λ v. Clear d v l) (c .0) cl in
-          subst (λ v. Reaches d s m (traced d words i arrival s) (v ∷ l)) (sym (c .0))
+          subst (λ v. Reaches d s m (traced d words (request i arrival s)) (v ∷ l)) (sym (c .0))
           (arrives m k home l (length d) i arrival way clear (omega arith) (f .0) (fresh-all i (cameFrom d i arrival) m l way (f .1)))

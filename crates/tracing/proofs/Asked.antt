@@ -1,79 +1,104 @@
 -- Causes 15 to 17, and what a request that passes them has.
 use Prim.Native.Nat.{ℕ, _≤_}
-use mathlib.Core.Path.{_≡_, refl, sym}
-use mathlib.Core.Bool.{Bool, true, false, not, _||_, _&&_}
+use mathlib.Core.Path.{_≡_, refl, sym, _∙_}
+use mathlib.Core.Logic.{inl, inr, _↔_, ⊎-elim}
+use mathlib.Core.Bool.{Bool, not, _||_, _&&_}
 use mathlib.Core.List.{List}
-use native.Mathlib.Omega.{arith}
 use lib.ListN.{length}
-use lib.Dec.{eqb, ltb, leb}
-use borrow.Author.Tests.{leb-true}
+use lib.Dec.{T, eqb, ltb, leb, eqb→eq, ltb→lt, lt→ltb, leb→le, le→leb, not-T, T-not}
 use Rattle.frames.specs.declared.Refusal.{Refusal}
-use Rattle.tables.specs.Wiring.{refused, good, unless, then, refusal, Domain, phyAt, toEnd, limits, domainRead}
+use Rattle.tables.specs.Wiring.{refused, good, unless, refusal, Domain, phyAt, toEnd, limits, domainRead}
 use Rattle.tables.specs.Tables.{needed}
-use Rattle.tables.specs.Judge.{judgedDomain, judged}
+use Rattle.tables.proofs.Wiring.{tests, or-cases, or-left, or-right, eq→eqb, unless-good, good-unless}
+use Rattle.tables.specs.Judge.{judgedDomain}
 use Rattle.tracing.specs.declared.End.{End}
 use Rattle.tracing.specs.declared.TraceAnswer.{TraceAnswer}
 use Rattle.tracing.specs.declared.TraceAnswer.the-variants.{Refused, Ended}
-use Rattle.tracing.specs.Trace.{traced, allowed, requested, traceCall}
-use Rattle.tracing.specs.Answers.{Walked, tracedRequest, judgedRequest, Answered}
+use Rattle.tracing.specs.Trace.{Request, traced, allowed, requested, traceCall, tracedRequest, judgedRequest, TraceDone}
+use Rattle.tracing.specs.Tested.{Asks}
+use Rattle.tracing.specs.Answers.{Walked}
 
 pub allowed-by : (d : Domain) (i p : ℕ) {a b c : Bool} → ltb i (length d) ≡ a → eqb p 255 ≡ b → toEnd (phyAt d i p) ≡ c
     → allowed d i p ≡ (a && (b || c))
 unfolding allowed
 allowed-by d i p e f g = rw (e, f, g)
 
-module _ (words bytes i p s : ℕ) (d : Domain) where
-  pub requested-by : {a b c e : Bool} → allowed d i p ≡ a → leb (needed d) words ≡ b → leb (length d) bytes ≡ c → eqb s 0 ≡ e
-      → requested words bytes i p s d ≡ unless a (refusal 15 0 0) (unless (b && c) (refusal 16 0 0) (unless (not e) (refusal 17 0 0) (good d)))
+module _ (words bytes : ℕ) (q : Request) (d : Domain) where
+  pub requested-by : {a b c e : Bool} → allowed d (q .start) (q .arrival) ≡ a → leb (needed d) words ≡ b → leb (length d) bytes ≡ c → eqb (q .address) 0 ≡ e
+      → requested q words bytes d ≡ unless a (refusal 15 0 0) (unless (b && c) (refusal 16 0 0) (unless (not e) (refusal 17 0 0) (good d)))
   unfolding requested
   requested-by e f g h = rw (e, f, g, h)
 
-  -- there is a byte for each expander
-  pub room : {x : Domain} → good x ≡ requested words bytes i p s d → length d ≤ bytes
-  unfolding requested
-  room {x} q = go (allowed d i p) (leb (needed d) words) (leb (length d) bytes) (eqb s 0) refl q
-    where
-      go : (a b c e : Bool) → leb (length d) bytes ≡ c
-          → good x ≡ unless a (refusal 15 0 0) (unless (b && c) (refusal 16 0 0) (unless (not e) (refusal 17 0 0) (good d))) → length d ≤ bytes
-      go true true true e r h = leb-true (length d) bytes r
-      go true true false e r h = let z : _≡_ {A = ℕ} 0 1 = cc in absurd (omega arith)
-      go true false c e r h = let z : _≡_ {A = ℕ} 0 1 = cc in absurd (omega arith)
-      go false b c e r h = let z : _≡_ {A = ℕ} 0 1 = cc in absurd (omega arith)
+  -- a request passes causes 15 to 17 exactly when none of them holds
+  asked : (x : Domain) → requested q words bytes d ≡ good x → Asks q words bytes d
+  unfolding requested allowed
+  asked x e =
+      let i = q .start in
+      let p = q .arrival in
+      let a = unless-good (allowed d i p) (refusal 15 0 0) _ x e in
+      let b = unless-good (leb (needed d) words && leb (length d) bytes) (refusal 16 0 0) _ x (a .1) in
+      let c = unless-good (not (eqb (q .address) 0)) (refusal 17 0 0) (good d) x (b .1) in
+      let t = a .0 in
+      let u = b .0 in
+      record {
+        start = ltb→lt i (length d) (search tests);
+        arrivesBy = ⊎-elim (λ v. inl (eqb→eq p 255 v)) inr (or-cases (eqb p 255) (toEnd (phyAt d i p)) (search tests));
+        enoughWords = leb→le (needed d) words (search tests);
+        enoughBytes = leb→le (length d) bytes (search tests);
+        nonzero = λ f. T-not (eqb (q .address) 0) (c .0) (eq→eqb (q .address) 0 f);
+      }
 
-module _ (d : Domain) (words : List ℕ) (i p s : ℕ) (before : List ℕ) where
-  pub answer-no : {r : Refusal} → refused r ≡ requested (length words) (length before) i p s d
-      → Answered (tracedRequest d words (length before) i p s) (Refused r) before before
+  passes : Asks q words bytes d → requested q words bytes d ≡ good d
+  unfolding requested allowed
+  passes a =
+      let i = q .start in
+      let p = q .arrival in
+      let s = lt→ltb i (length d) (a .start) in
+      let b : T (eqb p 255 || toEnd (phyAt d i p)) =
+      ⊎-elim (λ e. or-left (eqb p 255) (toEnd (phyAt d i p)) (eq→eqb p 255 e)) (or-right (eqb p 255) (toEnd (phyAt d i p))) (a .arrivesBy) in
+      let n = le→leb (needed d) words (a .enoughWords) in
+      let m = le→leb (length d) bytes (a .enoughBytes) in
+      let z = not-T (eqb (q .address) 0) (λ t. a .nonzero (eqb→eq (q .address) 0 t)) in
+      good-unless (allowed d i p) (refusal 15 0 0) _ (search tests)
+      ∙ good-unless (leb (needed d) words && leb (length d) bytes) (refusal 16 0 0) _ (search tests)
+      ∙ good-unless (not (eqb (q .address) 0)) (refusal 17 0 0) (good d) z
+
+  pub requested-iff : ((x : Domain) × (requested q words bytes d ≡ good x)) ↔ Asks q words bytes d
+  requested-iff = (λ o. asked (o .0) (o .1), λ a. (d, passes a))
+
+  -- there is a byte for each expander
+  pub room : {x : Domain} → good x ≡ requested q words bytes d → length d ≤ bytes
+  room {x} o = asked x (sym o) .enoughBytes
+
+module _ (d : Domain) (words : List ℕ) (q : Request) (before : List ℕ) where
+  pub answer-no : {r : Refusal} → refused r ≡ requested q (length words) (length before) d
+      → TraceDone (tracedRequest d words (length before) q) (Refused r) before before
   unfolding tracedRequest
   answer-no {r} e = rw (sym e) (record { answers = refl; bytes = refl })
 
-  pub answer-yes : {x : Domain} {end : End} {now : List ℕ} → good x ≡ requested (length words) (length before) i p s d
-      → Walked (traced d words i p s) end before now → Answered (tracedRequest d words (length before) i p s) (Ended end) before now
+  pub answer-yes : {x : Domain} {end : End} {now : List ℕ} → good x ≡ requested q (length words) (length before) d
+      → Walked (traced d words q) end before now → TraceDone (tracedRequest d words (length before) q) (Ended end) before now
   unfolding tracedRequest
   answer-yes e w = rw (sym e) (record { answers = w .ends; bytes = w .bytes })
 
--- the trace call is a request over the domain of an accepted file
-pub call-is : (file words : List ℕ) (bytes i p s : ℕ) → traceCall file words bytes i p s ≡ then (judged file) (λ d. tracedRequest d words bytes i p s)
-unfolding traceCall tracedRequest
-call-is file words bytes i p s = refl
-
 -- the trace call past causes 1 to 6
-module _ (d : Domain) (words before : List ℕ) (i p s : ℕ) where
-  pub rows-refused : (r : Refusal) → judgedDomain d ≡ refused r → Answered (judgedRequest d words (length before) i p s) (Refused r) before before
+module _ (d : Domain) (words before : List ℕ) (q : Request) where
+  pub rows-refused : (r : Refusal) → judgedDomain d ≡ refused r → TraceDone (judgedRequest d words (length before) q) (Refused r) before before
   unfolding judgedRequest
   rows-refused r e = rw e (record { answers = refl; bytes = refl })
 
   pub rows-done : (answer : TraceAnswer) (after : List ℕ) → judgedDomain d ≡ good d
-      → Answered (tracedRequest d words (length before) i p s) answer before after → Answered (judgedRequest d words (length before) i p s) answer before after
+      → TraceDone (tracedRequest d words (length before) q) answer before after → TraceDone (judgedRequest d words (length before) q) answer before after
   unfolding judgedRequest
   rows-done answer after e a = rw e a
 
 -- the trace call on a file
-module _ (file words before : List ℕ) (i p s : ℕ) where
-  pub call-refused : (r : Refusal) → domainRead limits file ≡ refused r → Answered (traceCall file words (length before) i p s) (Refused r) before before
+module _ (file words before : List ℕ) (q : Request) where
+  pub call-refused : (r : Refusal) → domainRead limits file ≡ refused r → TraceDone (traceCall file words (length before) q) (Refused r) before before
   unfolding traceCall
   call-refused r e = rw e (record { answers = refl; bytes = refl })
 
   pub call-done : (d : Domain) (answer : TraceAnswer) (after : List ℕ) → domainRead limits file ≡ good d
-      → Answered (judgedRequest d words (length before) i p s) answer before after → Answered (traceCall file words (length before) i p s) answer before after
+      → TraceDone (judgedRequest d words (length before) q) answer before after → TraceDone (traceCall file words (length before) q) answer before after
   unfolding traceCall judgedRequest tracedRequest
   call-done d answer after e a = rw e a

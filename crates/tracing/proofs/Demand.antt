@@ -1,215 +1,174 @@
--- Demand 3, whole: when tables are given, how requests over them end, and that no request passes an expander twice.
+-- Demand 3, whole: over a domain that is read, under any limits, and past causes 7 to 10; and over a domain file.
 use mathlib.Core.Path.{_≡_, refl, sym, ap, subst, _∙_}
-use mathlib.Core.Logic.{_⊎_, inl, inr, _≢_, _↔_, ⊎-elim}
+use mathlib.Core.Logic.{_↔_}
 use mathlib.Core.List.{List, _∷_, _++_}
-use mathlib.Core.Bool.{not, _&&_}
-use Prim.Native.Nat.{ℕ, suc, _≤_, _<_}
+use Prim.Native.Nat.{ℕ, _≤_, _<_}
 use native.Mathlib.Omega.{arith}
-use lib.ListN.{length, drop}
-use lib.Dec.{T, eqb, leb, eqb→eq, ltb→lt, leb→le, T-not}
-use Rattle.tables.specs.Wiring.{good, refusal, Distinct, Domain, expanderAt, phyAt, routes, toEnd, toExpander, farPhy, wired, Loop, Chain, neighbours}
-use Rattle.tables.specs.Tables.{levelList, tables, needed}
-use Rattle.tables.specs.Judge.{judged, tableCall, wordsAfter}
-use Rattle.tables.proofs.Wiring.{tests, or-cases, eq→eqb, good-one, unless-good, then-good, ChainIn, Wired, Home, wired-wires}
+use lib.ListN.{length, take, drop}
+use lib.Seq.{take-at}
+use Rattle.tables.specs.Wiring.{Result, good, then, Distinct, Below, Limits, limits, Domain, Read, wiredDomain, wired}
+use Rattle.tables.specs.Wiring.{Home, Borne}
+use Rattle.tables.specs.Tables.{tables, needed}
+use Rattle.tables.specs.Judge.{judgedDomain, tablesFor, judgedTables, tableCall, TablesDone}
+use Rattle.tables.specs.Tested.{Routable}
+use Rattle.tables.specs.declared.TablesGiven.{TablesGiven}
+use Rattle.tables.specs.declared.TablesGiven.the-variants.{Counts}
+use Rattle.tables.proofs.Wiring.{good-one, then-good, Wired, read-good, wired-iff, wired-file}
 use Rattle.tables.proofs.Beyond.{linked-clear}
-use Rattle.tables.proofs.Given.{Routable, judged-iff, judged-wires, tableCall-iff, given-iff}
-use Rattle.tracing.specs.declared.Outcome.{Outcome}
+use Rattle.tables.proofs.Given.{judged-routable, routable-iff, tables-iff, tables-same}
+use Rattle.tables.proofs.Exactly.{counts-iff, tables-of}
 use Rattle.tracing.specs.declared.Outcome.the-variants.{Arrived, NoDestination, BadDestination}
-use Rattle.tracing.specs.Trace.{Traced, traceFrom, traced, allowed, requested, traceCall}
-use Rattle.tracing.proofs.Passing.{passes-once, passes-few, enough}
-use Rattle.tracing.proofs.Arrives.{Borne, Starts, EndsAt, tables-given, home-once, traced-borne, joined-all, one-chain, traced-arrives, ends-nowhere}
+use Rattle.tracing.specs.declared.End.{End}
+use Rattle.tracing.specs.Trace.{Request, endingAt, traced, requested, traceCall, Reported, report, bytesAfter, tracedRequest, judgedRequest}
+use Rattle.tracing.specs.Tested.{Asks}
+use Rattle.tracing.specs.Demand.{Starts, ForItself, EndsAt, StepsTaken, Delivered, ToldBad, Over, OverTables, Demand3}
+use Rattle.tracing.proofs.Asked.{requested-iff}
+use Rattle.tracing.proofs.Passing.{passes-once, passes-below, steps-taken, bad-itself}
+use Rattle.tracing.proofs.Arrives.{tables-given, traced-borne, joined-all, one-chain, traced-arrives, ends-nowhere}
 
--- trace t, from expander i, comes to expander m, which bears s or has it at a phy attached to an end device; the expanders passed are
--- the chain from i to m, each once, and there is no other chain
-pub record Delivered (d : Domain) (s i m : ℕ) (t : Traced) : Type 0 where
-  pub outcome : t .outcome ≡ Arrived
-  pub last : t .last ≡ m
-  pub phy : EndsAt d s m (t .phy)
-  pub chain : ChainIn d i m (t .passed)
-  pub only : (l : List ℕ) → ChainIn d i m l → l ≡ t .passed
+-- every phy identifier is below 255: arrival phy 255 is the expander itself
+module _ (most : Limits) (d : Domain) (read : Read most d) (few : most .phys ≤ 255) (past : wiredDomain d ≡ good d) where
+  w : Wired d
+  w = wired-iff most d read few .0 past
 
--- trace t, from expander i for address s, ends as demand 3 says; it never ends in BAD DESTINATION
-pub record Answered (d : Domain) (s i : ℕ) (t : Traced) : Type 0 where
-  pub arrives : (t .outcome ≡ Arrived) ↔ Borne d s
-  pub delivers : (m : ℕ) → m < length d → Home d s m → Delivered d s i m t
-  pub nobody : ¬ (Borne d s) → t .outcome ≡ NoDestination
-  pub either : ((t .outcome ≡ Arrived) × Borne d s) ⊎ ((t .outcome ≡ NoDestination) × (¬ (Borne d s)))
+  -- a request over words: the domain is accepted, the request passes causes 15 to 17, and the answer and the bytes are those of its trace
+  record Answer (words : List ℕ) (q : Request) (e : End) (lent after : List ℕ) : Type 0 where
+    routable : Routable d
+    asks : Asks q (length words) (length lent) d
+    outcome : e .outcome ≡ traced d words q .outcome
+    end : e .last .0 ≡ traced d words q .last
+    phy : e .phy .0 ≡ traced d words q .phy
+    count : e .count ≡ length (traced d words q .passed)
+    bytes : after ≡ traced d words q .passed ++ drop (length (traced d words q .passed)) lent
 
--- requests over the tables given, whatever words stand after them; and over any words
-pub record Requests (d : Domain) (after : List ℕ) : Type 0 where
-  pub answers : (s i arrival : ℕ) → s ≢ 0 → i < length d → Starts d i arrival s → Answered d s i (traced d (tables d ++ after) i arrival s)
-  -- with any arrival phy
-  pub nobody : (s i arrival : ℕ) → s ≢ 0 → i < length d → ¬ (Borne d s) → traced d (tables d ++ after) i arrival s .outcome ≡ NoDestination
-  -- one address is one device
-  pub oneHome : (s m n : ℕ) → m < length d → n < length d → Home d s m → Home d s n → m ≡ n
-  pub once : (words : List ℕ) (s i arrival : ℕ) → i < length d → Distinct (traced d words i arrival s .passed)
-  -- as many steps as there are expanders are enough
-  pub enough : (words : List ℕ) (s k i arrival : ℕ) → i < length d → length d ≤ k → traceFrom (suc k) d words i arrival s ≡ traceFrom k d words i arrival s
-
-module _ (d : Domain) (w : Wired d) (r : Routable d) where
-  delivered : (after : List ℕ) (s i arrival m : ℕ) → s ≢ 0 → i < length d → Starts d i arrival s → m < length d → Home d s m
-      → Delivered d s i m (traced d (tables d ++ after) i arrival s)
-  delivered after s i arrival m z h st k home =
-      let c = joined-all d w r i m h k in
-      let clear = linked-clear d (r .linked) i (c .0) in
-      let o = traced-arrives d w r (tables d ++ after) (tables-given d after) s z i arrival m h st k home (i ∷ c .0) (refl, c .1) clear in
+  answer : (words : List ℕ) (q : Request) (e : End) (lent after : List ℕ) → Over d (judgedTables d) (judgedRequest d) words q e lent after
+      → Answer words q e lent after
+  unfolding judgedRequest tracedRequest
+  answer words q e lent after o =
+      let n : Reported = record { outcome = e .outcome; last = e .last .0; phy = e .phy .0; count = e .count } in
+      let a = then-good (judgedRequest d words (length lent) q) report n (sym (o .answers)) in
+      let b = then-good (judgedDomain d) _ (a .0) (a .1) in
+      let r = judged-routable d (b .0) (b .1) in
+      let c = then-good (requested q (length words) (length lent) (b .0)) _ (a .0) (b .2) in
+      let t = traced d words q in
+      let f : requested q (length words) (length lent) d ≡ good (c .0) = ap (requested q (length words) (length lent)) (r .0) ∙ c .1 in
+      let g : a .0 ≡ t = sym (good-one (traced (b .0) words q) (a .0) (c .2)) ∙ ap (λ x. traced x words q) (sym (r .0)) in
+      let m : record { outcome = t .outcome; last = t .last; phy = t .phy; count = length (t .passed) } ≡ n =
+      good-one _ n (ap report (sym g) ∙ a .2) in
       record {
-        outcome = o .outcome;
-        last = o .last;
-        phy = o .phy;
-        chain = subst (ChainIn d i m) (sym (o .passed)) (refl, c .1);
-        only = λ l e. one-chain d w r i m l (i ∷ c .0) e (refl, c .1) ∙ sym (o .passed);
+        routable = r .2;
+        asks = requested-iff (length words) (length lent) q d .0 (c .0, f);
+        outcome = sym (ap (λ x. x .outcome) m);
+        end = sym (ap (λ x. x .last) m);
+        phy = sym (ap (λ x. x .phy) m);
+        count = sym (ap (λ x. x .count) m);
+        bytes = o .bytes ∙ ap (λ x. bytesAfter x lent) (a .1 ∙ ap good g);
       }
 
-  lost-here : (after : List ℕ) (s i arrival : ℕ) → s ≢ 0 → i < length d → ¬ (Borne d s) → traced d (tables d ++ after) i arrival s .outcome ≡ NoDestination
-  lost-here after s i arrival z h b = ends-nowhere d w r (tables d ++ after) (tables-given d after) s z i arrival h b
+  module _ (words : List ℕ) (q : Request) (e : End) (lent after : List ℕ) (a : Answer words q e lent after) where
+    -- the bytes counted are the expanders passed
+    counted : take (e .count) after ≡ traced d words q .passed
+    counted =
+        let l = traced d words q .passed in
+        ap (take (e .count)) (a .bytes) ∙ take-at l (drop (length l) lent) (e .count) (sym (a .count))
 
-  answered : (after : List ℕ) (s i arrival : ℕ) → s ≢ 0 → i < length d → Starts d i arrival s → Answered d s i (traced d (tables d ++ after) i arrival s)
-  answered after s i arrival z h st = record {
-    arrives = both;
-    delivers = λ m k home. delivered after s i arrival m z h st k home;
-    nobody = lost-here after s i arrival z h;
-    either = go (t .outcome) refl;
+    passes-different : (length (take (e .count) after) ≡ e .count) × (Distinct (take (e .count) after) × Below (length d) (take (e .count) after))
+    passes-different =
+        let nl = a .routable .linked .noLoop in
+        let h = a .asks .start in
+        let k = ap length counted ∙ sym (a .count) in (
+          k,
+          subst (λ l. Distinct l × Below (length d) l) (sym counted)
+              (passes-once d w words (q .address) nl (q .start) (q .arrival) h, passes-below d w words (q .address) nl (q .start) (q .arrival) h),
+        )
+
+    takes-steps : StepsTaken d words q (take (e .count) after) (e .outcome) (e .last .0) (e .phy .0)
+    takes-steps =
+        let s = steps-taken d w words (q .address) (a .routable .linked .noLoop) (q .start) (q .arrival) (a .asks .start) in
+        rw (counted, a .outcome, a .end, a .phy) s
+
+    told-bad : ForItself d q → ToldBad q e lent after
+    told-bad s =
+        let t : traced d words q ≡ endingAt BadDestination (q .start) 255 = bad-itself d w words (q .address) (q .start) (q .arrival) (s .0) (s .1) in
+        record {
+          outcome = a .outcome ∙ ap (λ x. x .outcome) t;
+          end = a .end ∙ ap (λ x. x .last) t;
+          phy = a .phy ∙ ap (λ x. x .phy) t;
+          count = a .count ∙ ap (λ x. length (x .passed)) t;
+          bytes = a .bytes ∙ ap (λ x. x .passed ++ drop (length (x .passed)) lent) t;
+        }
+
+  -- with room, the table call answers counts exactly when the domain is routable
+  counts-routable : (before words : List ℕ) (answer : TablesGiven) → needed d ≤ length before
+      → TablesDone (judgedTables d (length before)) answer before words → ((t w : ℕ) × (answer ≡ Counts t w)) ↔ Routable d
+  counts-routable before words answer h o =
+      let c = counts-iff (judgedTables d (length before)) answer before words o in (
+        λ g. let x = c .0 g in tables-same d (x .0) (length before) (x .1) .1,
+        λ r. c .1 (d, tables-iff (judgedDomain d) (length before) d .1 (routable-iff d past .1 r, h)),
+      )
+
+  -- a request over the tables given
+  module _ (q : Request) (e : End) (lent after : List ℕ) (o : OverTables d (judgedTables d) (judgedRequest d) q e lent after) where
+    abbrev rest : List ℕ
+    rest = drop (needed d) (o .before)
+
+    -- the words are the tables, and the words lent after them
+    words-are : o .words ≡ tables d ++ rest
+    words-are = tables-of d (o .tableCount) (o .wordCount) (o .before) (o .words) (o .given) .left
+
+    a : Answer (tables d ++ rest) q e lent after
+    a = subst (λ l. Answer l q e lent after) words-are (answer (o .words) q e lent after (o .over))
+
+    delivered : Starts d q → (m : ℕ) → m < length d → Home d (q .address) m → Delivered d q m e lent after
+    delivered st m k home =
+        let r = a .routable in
+        let i = q .start in
+        let c = joined-all d w r i m (a .asks .start) k in
+        let clear = linked-clear d (r .linked) i (c .0) in
+        let u = traced-arrives d w r (tables d ++ rest) (tables-given d rest) (q .address) (a .asks .nonzero) i (q .arrival) m (a .asks .start) st k home
+        (i ∷ c .0) (refl, c .1) clear in
+        record {
+          outcome = a .outcome ∙ u .outcome;
+          end = a .end ∙ u .last;
+          phy = subst (EndsAt d (q .address) m) (sym (a .phy)) (u .phy);
+          passed = i ∷ c .0;
+          chain = (refl, c .1);
+          only = λ l f. one-chain d w r i m l (i ∷ c .0) f (refl, c .1);
+          count = a .count ∙ ap length (u .passed);
+          bytes = a .bytes ∙ ap (λ l. l ++ drop (length l) lent) (u .passed);
+        }
+
+    arrives-iff : Starts d q → (e .outcome ≡ Arrived) ↔ Borne d (q .address)
+    arrives-iff st = (
+      λ f. traced-borne d w (tables d ++ rest) (q .address) (q .start) (q .arrival) (a .asks .start) (sym (a .outcome) ∙ f),
+      λ b. delivered st (b .0) (b .1) (b .2) .outcome,
+    )
+
+    nobody-bears : ¬ (Borne d (q .address)) → e .outcome ≡ NoDestination
+    nobody-bears b =
+        a .outcome
+        ∙ ends-nowhere d w (a .routable) (tables d ++ rest) (tables-given d rest) (q .address) (a .asks .nonzero) (q .start) (q .arrival) (a .asks .start) b
+
+  -- of the table call and the trace call on the domain
+  pub demand3 : Demand3 d (judgedTables d) (judgedRequest d)
+  demand3 = record {
+    given = counts-routable;
+    arrives = arrives-iff;
+    along = delivered;
+    otherwise = nobody-bears;
+    once = λ words q e lent after o. passes-different words q e lent after (answer words q e lent after o);
+    steps = λ words q e lent after o. takes-steps words q e lent after (answer words q e lent after o);
+    itself = λ words q e lent after o. told-bad words q e lent after (answer words q e lent after o);
   }
-    where
-      t : Traced
-      t = traced d (tables d ++ after) i arrival s
 
-      both : (t .outcome ≡ Arrived) ↔ Borne d s
-      both = (traced-borne d w (tables d ++ after) s i arrival h, λ b. delivered after s i arrival (b .0) z h st (b .1) (b .2) .outcome)
+-- demand 3 of the table call and the trace call on a file that reads as x
+abbrev FromFile : Domain → Result Domain → Type 0
+FromFile d x =
+    Demand3 d (λ room. then (then x judgedDomain) (tablesFor room)) (λ words bytes q. then (then x judgedDomain) (λ y. tracedRequest y words bytes q))
 
-      unborne : t .outcome ≢ Arrived → ((t .outcome ≡ NoDestination) × (¬ (Borne d s)))
-      unborne n = let b : ¬ (Borne d s) = λ o. n (both .1 o) in (lost-here after s i arrival z h b, b)
-
-      go : (o : Outcome) → t .outcome ≡ o → ((t .outcome ≡ Arrived) × Borne d s) ⊎ ((t .outcome ≡ NoDestination) × (¬ (Borne d s)))
-      go Arrived e = inl (e, both .0 e)
-      go NoDestination e = inr (unborne (λ f. let z : _≡_ {A = ℕ} 0 1 = cc in omega arith))
-      go BadDestination e = inr (unborne (λ f. let z : _≡_ {A = ℕ} 0 1 = cc in omega arith))
-
-  requests : (after : List ℕ) → Requests d after
-  requests after = record {
-    answers = answered after;
-    nobody = lost-here after;
-    oneHome = home-once d w;
-    once = λ words s i arrival h. passes-once d w words s (r .linked .noLoop) i arrival h;
-    enough = λ words s k i arrival h m. enough d w words s (r .linked .noLoop) k i arrival h m;
-  }
-
--- over a file past causes 1 to 10: it is accepted exactly when its domain is routable, and then requests end as demand 3 says
-pub demand3 : (file : List ℕ) (d : Domain) → wired file ≡ good d
-    → ((judged file ≡ good d) ↔ Routable d) × (judged file ≡ good d → (after : List ℕ) → Requests d after)
-demand3 file d e = (judged-iff file d e, λ j after. requests d (wired-wires file d e) (judged-iff file d e .0 j) after)
-
--- what a trace that is not refused says: the file is accepted, the start is allowed, and the buffers are long enough
-pub record Called (file words : List ℕ) (bytes i arrival s : ℕ) (t : Traced) : Type 0 where
-  pub domain : Domain
-  pub accepted : judged file ≡ good domain
-  pub start : i < length domain
-  pub arrivesBy : (arrival ≡ 255) ⊎ T (toEnd (phyAt domain i arrival))
-  pub enoughWords : needed domain ≤ length words
-  pub enoughBytes : length domain ≤ bytes
-  pub borne : s ≢ 0
-  pub trace : t ≡ traced domain words i arrival s
-
-pub called : (file words : List ℕ) (bytes i arrival s : ℕ) (t : Traced) → traceCall file words bytes i arrival s ≡ good t
-    → Called file words bytes i arrival s t
-unfolding traceCall requested allowed
-called file words bytes i arrival s t e =
-    let a = then-good (judged file) _ t e in
-    let d = a .0 in
-    let b = then-good (requested (length words) bytes i arrival s d) _ t (a .2) in
-    let x = unless-good (allowed d i arrival) (refusal 15 0 0) _ (b .0) (b .1) in
-    let y = unless-good (leb (needed d) (length words) && leb (length d) bytes) (refusal 16 0 0) _ (b .0) (x .1) in
-    let z = unless-good (not (eqb s 0)) (refusal 17 0 0) (good d) (b .0) (y .1) in
-    let o = x .0 in
-    let q = y .0 in
-    record {
-      domain = d;
-      accepted = a .1;
-      start = ltb→lt i (length d) (search tests);
-      arrivesBy = ⊎-elim (λ u. inl (eqb→eq arrival 255 u)) inr (or-cases (eqb arrival 255) (toEnd (phyAt d i arrival)) (search tests));
-      enoughWords = leb→le (needed d) (length words) (search tests);
-      enoughBytes = leb→le (length d) bytes (search tests);
-      borne = λ f. T-not (eqb s 0) (z .0) (eq→eqb s 0 f);
-      trace = good-one t (traced d words i arrival s) (sym (b .2));
-    }
-
--- a trace that is not refused, over any words: it is that of an accepted domain
-module _ (file words : List ℕ) (bytes i arrival s : ℕ) (t : Traced) (e : traceCall file words bytes i arrival s ≡ good t) where
-  abbrev c : Called file words bytes i arrival s t
-  c = called file words bytes i arrival s t e
-
-  -- no expander is passed twice
-  pub call-once : Distinct (t .passed)
-  call-once =
-      let g = judged-wires file (c .domain) (c .accepted) in
-      subst (λ u. Distinct (u .passed)) (sym (c .trace)) (passes-once (c .domain) (g .0) words s (g .1 .linked .noLoop) i arrival (c .start))
-
-  -- the expanders passed fit in the bytes
-  pub call-fits : length (t .passed) ≤ bytes
-  unfolding traced
-  call-fits =
-      let d = c .domain in
-      let g = judged-wires file d (c .accepted) in
-      let few = passes-few d (g .0) words s (g .1 .linked .noLoop) (length d) i arrival (c .start) in
-      let e : length (t .passed) ≡ length (traced d words i arrival s .passed) = ap (λ u. length (u .passed)) (c .trace) in
-      omega (arith, c .enoughBytes)
-
--- a trace that is not refused, over the words as the table call left them for the same file, where `before` was lent
-module _ (file before : List ℕ) (d : Domain) (g : tableCall file (length before) ≡ good d) where
-  left : wordsAfter (tableCall file (length before)) before ≡ tables d ++ drop (needed d) before
-  left = ap (λ r. wordsAfter r before) g
-
-  accepted : judged file ≡ good d
-  accepted = tableCall-iff file (length before) d .0 g .0
-
-  module _ (bytes i arrival s : ℕ) (t : Traced) (e : traceCall file (wordsAfter (tableCall file (length before)) before) bytes i arrival s ≡ good t) where
-    o : Called file (wordsAfter (tableCall file (length before)) before) bytes i arrival s t
-    o = called file (wordsAfter (tableCall file (length before)) before) bytes i arrival s t e
-
-    same : o .domain ≡ d
-    same = good-one (o .domain) d (sym (o .accepted) ∙ accepted)
-
-    trace-is : t ≡ traced d (tables d ++ drop (needed d) before) i arrival s
-    trace-is = o .trace ∙ ap (λ x. traced x (wordsAfter (tableCall file (length before)) before) i arrival s) same ∙ ap (λ l. traced d l i arrival s) left
-
-    starts-at : i < length d
-    starts-at = subst (λ x. i < length x) same (o .start)
-
-    pub call-answered : Starts d i arrival s → Answered d s i t
-    call-answered st =
-        let w = judged-wires file d accepted in
-        subst (Answered d s i) (sym trace-is) (answered d (w .0) (w .1) (drop (needed d) before) s i arrival (o .borne) starts-at st)
-
-    pub call-nobody : ¬ (Borne d s) → t .outcome ≡ NoDestination
-    call-nobody b =
-        let w = judged-wires file d accepted in
-        subst (λ u. u .outcome ≡ NoDestination) (sym trace-is) (lost-here d (w .0) (w .1) (drop (needed d) before) s i arrival (o .borne) starts-at b)
-
--- demand 3 over the two calls themselves, for a file past causes 1 to 10
-pub record Calls (file : List ℕ) (d : Domain) : Type 0 where
-  -- with room, tables are given exactly when there is no loop, a chain joins the first expander to each, no table phy is attached to a
-  -- table phy, and every level list has at most R words
-  pub given : (room : ℕ) → needed d ≤ room
-      → (tableCall file room ≡ good d)
-      ↔ ((¬ (Loop (length d) (neighbours d)))
-      × ((i : ℕ) → i < length d → (l : List ℕ) × Chain (length d) (neighbours d) 0 i l)
-      × ((i p : ℕ) → T (toExpander (phyAt d i p)) → T (routes 2 (phyAt d i p)) → T (routes 2 (farPhy d (phyAt d i p))) → ⊥)
-      × ((i p : ℕ) → T (routes 2 (phyAt d i p)) → length (levelList d i p) ≤ expanderAt d i .indexes))
-  -- a request over the tables given arrives exactly when a device bears the address, along the one chain to it; else NO DESTINATION
-  pub answers : (before words : List ℕ) → tableCall file (length before) ≡ good d → words ≡ wordsAfter (tableCall file (length before)) before
-      → (bytes i arrival s : ℕ) (t : Traced) → traceCall file words bytes i arrival s ≡ good t → Starts d i arrival s → Answered d s i t
-  pub nobody : (before words : List ℕ) → tableCall file (length before) ≡ good d → words ≡ wordsAfter (tableCall file (length before)) before
-      → (bytes i arrival s : ℕ) (t : Traced) → traceCall file words bytes i arrival s ≡ good t → ¬ (Borne d s) → t .outcome ≡ NoDestination
-  -- over any words, no request passes an expander twice
-  pub once : (words : List ℕ) (bytes i arrival s : ℕ) (t : Traced) → traceCall file words bytes i arrival s ≡ good t → Distinct (t .passed)
-
-pub demand3-calls : (file : List ℕ) (d : Domain) → wired file ≡ good d → Calls file d
-demand3-calls file d e = record {
-  given = λ room. given-iff file room d e;
-  answers = λ before words g q bytes i arrival s t f.
-      call-answered file before d g bytes i arrival s t (subst (λ l. traceCall file l bytes i arrival s ≡ good t) q f);
-  nobody = λ before words g q bytes i arrival s t f.
-      call-nobody file before d g bytes i arrival s t (subst (λ l. traceCall file l bytes i arrival s ≡ good t) q f);
-  once = call-once file;
-}
+-- a file past causes 1 to 10: demand 3 of what `give_tables` and `trace` promise of it
+pub demand3-file : (file : List ℕ) (d : Domain) → wired file ≡ good d → Demand3 d (tableCall file) (traceCall file)
+unfolding tableCall traceCall judgedRequest
+demand3-file file d e =
+    let r = wired-file file d .0 e in
+    subst (FromFile d) (sym (r .0)) (demand3 limits d (read-good limits file d (r .0)) (omega arith) (r .1))

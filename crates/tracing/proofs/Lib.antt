@@ -4,7 +4,7 @@ pub mod Turns
 pub mod Asked
 pub mod Stepping
 pub mod Passing
-pub mod OwnStretch
 pub mod Arrives
 pub mod Demand
+pub mod Exactly
 pub mod Pair

@@ -14,9 +14,8 @@ use lib.Dec.{eqb}
 use borrow.Author.Tests.{eq-eqb, ne-eqb}
 use Rattle.tables.specs.Wiring.{Domain, Expander, noExpander, expanderAt, phyAt, attributeOf}
 use Rattle.tables.specs.Wiring.{any, isIn}
-use Rattle.tables.specs.Wiring.{Place, place, places, phyPlaces, placesFrom}
-use Rattle.tables.specs.Tables.{size, sizes}
-use Rattle.tracing.specs.Steps.{offset}
+use Rattle.tables.specs.Wiring.{Place, place, phyPlaces, placesFrom}
+use Rattle.tables.specs.Tables.{size, sizes, offsetIn, offset}
 use Rattle.tracing.specs.Answers.{wordsBefore}
 
 pub size-by : (d : Domain) (i p : ℕ) {b : Bool} → eqb (attributeOf (phyAt d i p)) 2 ≡ b
@@ -48,12 +47,12 @@ phys-none d i = refl
 -- the offset of the table of phy p of expander i
 module _ (d : Domain) (i p : ℕ) where
   offset-by : (q : Place) (l : List Place) {a b : Bool} → eqb (q .expander) i ≡ a → eqb (q .phy) p ≡ b
-      → offset d i p (q ∷ l) ≡ cond (a && b) 0 (size d q + offset d i p l)
-  unfolding offset
+      → offsetIn d i p (q ∷ l) ≡ cond (a && b) 0 (size d q + offsetIn d i p l)
+  unfolding offsetIn
   offset-by q l e f = rw (e, f)
 
   -- the phys of another expander
-  offset-past : (k q n : ℕ) (l : List Place) → (k ≡ i → ⊥) → offset d i p (phyPlaces k q n ++ l) ≡ sizes d (phyPlaces k q n) + offset d i p l
+  offset-past : (k q n : ℕ) (l : List Place) → (k ≡ i → ⊥) → offsetIn d i p (phyPlaces k q n ++ l) ≡ sizes d (phyPlaces k q n) + offsetIn d i p l
   unfolding sizes phyPlaces
   offset-past k q zero l f = omega arith
   offset-past k q (suc n) l f =
@@ -62,24 +61,24 @@ module _ (d : Domain) (i p : ℕ) where
       omega arith
 
   -- its own expander's phys, from q on
-  offset-among : (q n : ℕ) (l : List Place) → q ≤ p → p < q + n → offset d i p (phyPlaces i q n ++ l) ≡ sizes d (phyPlaces i q (p - q))
+  offset-among : (q n : ℕ) (l : List Place) → q ≤ p → p < q + n → offsetIn d i p (phyPlaces i q n ++ l) ≡ sizes d (phyPlaces i q (p - q))
   unfolding sizes phyPlaces
   offset-among q zero l h k = absurd (omega arith)
   offset-among q (suc n) l h k = by-cases (ℕ-discrete q p) found (λ f. further f (offset-among (q + 1) n l (omega arith) (omega arith)))
     where
-      found : q ≡ p → offset d i p (phyPlaces i q (suc n) ++ l) ≡ sizes d (phyPlaces i q (p - q))
+      found : q ≡ p → offsetIn d i p (phyPlaces i q (suc n) ++ l) ≡ sizes d (phyPlaces i q (p - q))
       found e =
           let z : p - q ≡ 0 = omega arith in
           offset-by (place i q) (phyPlaces i (q + 1) n ++ l) (eq-eqb i i refl) (eq-eqb q p e) ∙ rw z
 
-      further : (q ≡ p → ⊥) → offset d i p (phyPlaces i (q + 1) n ++ l) ≡ sizes d (phyPlaces i (q + 1) (p - (q + 1)))
-          → offset d i p (phyPlaces i q (suc n) ++ l) ≡ sizes d (phyPlaces i q (p - q))
+      further : (q ≡ p → ⊥) → offsetIn d i p (phyPlaces i (q + 1) n ++ l) ≡ sizes d (phyPlaces i (q + 1) (p - (q + 1)))
+          → offsetIn d i p (phyPlaces i q (suc n) ++ l) ≡ sizes d (phyPlaces i q (p - q))
       further f r =
           let z : p - q ≡ suc (p - (q + 1)) = omega arith in
           offset-by (place i q) (phyPlaces i (q + 1) n ++ l) (eq-eqb i i refl) (ne-eqb q p f) ∙ ap (λ (x : ℕ). size d (place i q) + x) r ∙ rw z
 
   offset-from : (k : ℕ) (l : List Expander) (j : ℕ) → k + j ≡ i → p < length (getD l j noExpander .phys)
-      → offset d i p (placesFrom k l) ≡ sizes d (placesFrom k (take j l)) + sizes d (phyPlaces i 0 p)
+      → offsetIn d i p (placesFrom k l) ≡ sizes d (placesFrom k (take j l)) + sizes d (phyPlaces i 0 p)
   unfolding sizes placesFrom
   offset-from k [] zero e h = absurd (omega arith)
   offset-from k [] (suc j) e h = absurd (omega arith)
@@ -97,7 +96,7 @@ module _ (d : Domain) (i p : ℕ) where
       let c = sizes-append d m (placesFrom (k + 1) (take j l)) in
       omega arith
 
-  pub offset-is : p < length (expanderAt d i .phys) → offset d i p (places d) ≡ wordsBefore d i + sizes d (phyPlaces i 0 p)
+  pub offset-is : p < length (expanderAt d i .phys) → offset d i p ≡ wordsBefore d i + sizes d (phyPlaces i 0 p)
   offset-is h = offset-from 0 d i (zero-add i) h
 
 -- is s among so many words from k on: `inv` is the loop's invariant

@@ -1,17 +1,27 @@
--- The pair rig: the definitions yield what document 01 says of it.
-use Prim.Native.Nat.{ℕ, _+_, _*_}
-use mathlib.Core.Path.{_≡_, refl}
+-- The pair rig: what document 01 says of it, as instances of the calls' contracts.
+use Prim.Native.Nat.{ℕ, _+_, _*_, _≤_, _<_}
+use mathlib.Core.Path.{_≡_, refl, ap, ap₂, _∙_}
+use mathlib.Core.Logic.{_⊎_, inl, inr, _≢_}
 use mathlib.Core.List.{List, [], _∷_, _++_, flatMap}
-use lib.ListN.{length, drop, replicate, set}
-use Rattle.tables.specs.Wiring.{Result, refused, good, then, refusal}
+use native.Mathlib.Omega.{arith}
+use lib.ListN.{length, drop, replicate, set, length-append}
+use lib.Dec.{T}
+use Rattle.tables.specs.Wiring.{Phy, Present, Result, refused, good, then, refusal, Domain, phyAt, toEnd, limits}
 use Rattle.tables.proofs.Opened.{numberAt, bytesOf, generalFixed, generalRead, discoverFixed, discoverRead, numbers, any, keep, isIn, numberOf, phyUnit, phyUnits, expanderUnit, expanders, domainRead, unanswered, endAt, claimed, clash, clashing, fixed, phyPlaces, placesFrom, firstIn, wiredDomain, strip, reach, cabled, neighbours, unlooped, joined, joinedIn, tableToTable, linkedDomain}
+use Rattle.tables.proofs.Wiring.{good-then}
+use Rattle.tables.proofs.Given.{tableCall-iff}
 use Rattle.tables.specs.Levels.{once, belowPhys, below, nextLevel, levelsFrom, levels}
-use Rattle.tables.specs.Tables.{heldBy, gives, give, giveAll, levelList, table, tablePlaces, tables, size, sizes}
-use Rattle.tables.specs.Judge.{overlong, judgedDomain, judged, expandersIn, tableCall, countsIn, wordsAfter}
-use Rattle.tracing.specs.Steps.{pick, offset, stretch, subtractively, byTable, directly, step}
-use Rattle.tracing.specs.Trace.{Traced, afterStep, traceFrom, traced, allowed, requested, traceCall}
+use Rattle.tables.specs.Tables.{heldBy, gives, give, giveAll, levelList, table, tablePlaces, tables, size, sizes, needed, offsetIn, stretch}
+use Rattle.tables.specs.Judge.{overlong, judgedDomain, judged, judgeAnswer, expandersIn, tableCall, countsIn, tablesAnswer, tablesAfter, TablesDone}
+use Rattle.tables.specs.declared.Judgement.{Judgement}
+use Rattle.tables.specs.declared.TablesGiven.{TablesGiven}
+use Rattle.tracing.specs.Steps.{pick, subtractively, byTable, directly, step}
+use Rattle.tracing.specs.Trace.{Traced, Request, request, afterStep, traceFrom, traced, requested, tracedRequest, traceCall, report, traceAnswer, bytesAfter, TraceDone}
+use Rattle.tracing.specs.Tested.{Asks}
 use Rattle.tracing.specs.declared.Outcome.{Outcome}
 use Rattle.tracing.specs.declared.Outcome.the-variants.{Arrived, NoDestination, BadDestination}
+use Rattle.tracing.specs.declared.TraceAnswer.{TraceAnswer}
+use Rattle.tracing.proofs.Asked.{requested-iff}
 
 -- a REPORT GENERAL response: R, number of phys, configurable bit
 unfoldable pub general : ℕ → ℕ → ℕ → List ℕ
@@ -39,56 +49,126 @@ pair indexes =
     ++ (discover 1 1 (at 0x20) (at 0xb1) 0 0
     ++ discover 2 0 (at 0x20) 0 0 0))))))))
 
+-- attached device type, routing attribute, attached address; the attached phy is 0
+abbrev pub phy : ℕ → ℕ → ℕ → Phy
+phy type attribute address = Present (record { device = type; attribute = attribute; address = address; far = record { 0 = 0 } })
+
+-- the domain that it reads as
+unfoldable pub rig : ℕ → Domain
+rig indexes =
+    record { address = at 0x10; indexes = indexes; configurable = 1; phys = phy 2 2 (at 0x20) ∷ phy 1 0 (at 0xa1) ∷ [] }
+    ∷ record { address = at 0x20; indexes = 0; configurable = 0; phys = phy 2 1 (at 0x10) ∷ phy 1 0 (at 0xb1) ∷ phy 0 0 0 ∷ [] }
+    ∷ []
+
 -- the listing's words
 unfoldable pub words : List ℕ
 words = at 0xb1 ∷ 0 ∷ 0 ∷ 0 ∷ []
 
--- a trace over these words, with two bytes lent
-unfoldable pub trace : List ℕ → ℕ → ℕ → ℕ → Result Traced
-trace lent i arrival s = traceCall (pair 4) lent 2 i arrival s
+-- what the judging call answers of a file
+abbrev pub Judges : List ℕ → Result ℕ → Type 0
+Judges file said = (answer : Judgement) → judgeAnswer answer ≡ then (judged file) expandersIn → judgeAnswer answer ≡ said
 
--- how it ends: outcome, last expander, phy, and the expanders passed
-abbrev pub ends : Outcome → ℕ → ℕ → List ℕ → Result Traced
-ends outcome last phy passed = good (record { outcome = outcome; last = last; phy = phy; passed = passed })
+-- what the trace call over the rig and these words answers a request, with a byte lent for each expander: outcome, last expander, phy and
+-- count, and the lent bytes after
+abbrev pub Traces : List ℕ → Request → Outcome → ℕ → ℕ → ℕ → List ℕ → Type 0
+Traces lent q outcome last phy count passed =
+    (before after : List ℕ) (answer : TraceAnswer) → 2 ≤ length before → TraceDone (traceCall (pair 4) lent (length before) q) answer before after
+    → (traceAnswer answer ≡ good (record { outcome = outcome; last = last; phy = phy; count = count })) × (after ≡ passed ++ drop count before)
 
+-- the calls' contracts on the rig, each with what it gives; `rest` are words lent after the tables
 pub record PairRig : Type 0 where
   pub bytes : length (pair 4) ≡ 334
-  pub listing : (before : List ℕ) → wordsAfter (tableCall (pair 4) 8192) before ≡ words ++ drop 4 before
-  pub counts : then (tableCall (pair 4) 8192) countsIn ≡ good (record { tableCount = 1; wordCount = 4 })
-  pub accepted : then (judged (pair 4)) expandersIn ≡ good 2
-  pub indexes2 : then (judged (pair 2)) expandersIn ≡ good 2
-  pub indexes1 : judged (pair 1) ≡ refused (refusal 14 0 0)
-  pub empty : judged [] ≡ refused (refusal 1 0 0)
-  pub longer : judged (pair 4 ++ (0 ∷ [])) ≡ refused (refusal 1 2 0)
-  pub trace0-b1 : trace words 0 255 (at 0xb1) ≡ ends Arrived 1 1 (0 ∷ 1 ∷ [])
-  pub traceB1-a1 : trace words 1 1 (at 0xa1) ≡ ends Arrived 0 1 (1 ∷ 0 ∷ [])
-  pub trace1-10 : trace words 1 255 (at 0x10) ≡ ends Arrived 0 255 (1 ∷ 0 ∷ [])
-  pub trace1-ff : trace words 1 255 (at 0xff) ≡ ends NoDestination 0 255 (1 ∷ 0 ∷ [])
-  pub traceB1-b1 : trace words 1 1 (at 0xb1) ≡ ends BadDestination 1 255 (1 ∷ [])
-  pub zeroed : trace (set words 0 0) 0 255 (at 0xb1) ≡ ends NoDestination 0 255 (0 ∷ [])
+  pub read : domainRead limits (pair 4) ≡ good (rig 4)
+  pub listing : (before after : List ℕ) (answer : TablesGiven) → 4 ≤ length before → TablesDone (tableCall (pair 4) (length before)) answer before after
+      → (tablesAnswer answer ≡ good (record { tableCount = 1; wordCount = 4 })) × (after ≡ words ++ drop 4 before)
+  pub accepted : Judges (pair 4) (good 2)
+  pub indexes2 : Judges (pair 2) (good 2)
+  pub indexes1 : Judges (pair 1) (refused (refusal 14 0 0))
+  pub empty : Judges [] (refused (refusal 1 0 0))
+  pub longer : Judges (pair 4 ++ (0 ∷ [])) (refused (refusal 1 2 0))
+  pub trace0-b1 : (rest : List ℕ) → Traces (words ++ rest) (request 0 255 (at 0xb1)) Arrived 1 1 2 (0 ∷ 1 ∷ [])
+  pub traceB1-a1 : (rest : List ℕ) → Traces (words ++ rest) (request 1 1 (at 0xa1)) Arrived 0 1 2 (1 ∷ 0 ∷ [])
+  pub trace1-10 : (rest : List ℕ) → Traces (words ++ rest) (request 1 255 (at 0x10)) Arrived 0 255 2 (1 ∷ 0 ∷ [])
+  pub trace1-ff : (rest : List ℕ) → Traces (words ++ rest) (request 1 255 (at 0xff)) NoDestination 0 255 2 (1 ∷ 0 ∷ [])
+  pub traceB1-b1 : (rest : List ℕ) → Traces (words ++ rest) (request 1 1 (at 0xb1)) BadDestination 1 255 1 (1 ∷ [])
+  pub zeroed : (rest : List ℕ) → Traces (set words 0 0 ++ rest) (request 0 255 (at 0xb1)) NoDestination 0 255 1 (0 ∷ [])
 
-pub pair-rig : PairRig
-unfolding general discover pair words trace
+-- the file is accepted, and its domain has one table, of four words
+rig-judged : judged (pair 4) ≡ good (rig 4)
+unfolding general discover pair rig
     numberAt bytesOf generalFixed generalRead discoverFixed discoverRead
     numbers any keep isIn numberOf phyUnit phyUnits expanderUnit expanders domainRead
     unanswered endAt claimed clash clashing fixed phyPlaces placesFrom firstIn wiredDomain
     strip reach cabled neighbours unlooped joined joinedIn tableToTable linkedDomain
     once belowPhys below nextLevel levelsFrom levels flatMap
-    heldBy gives give giveAll levelList table tablePlaces tables size sizes overlong judgedDomain tableCall
-    pick offset stretch subtractively byTable directly step afterStep traceFrom traced allowed requested traceCall
+    heldBy gives give giveAll levelList overlong judgedDomain
+rig-judged = refl
+
+rig-sizes : (length (rig 4) ≡ 2) × ((needed (rig 4) ≡ 4) × ((length (tablePlaces (rig 4)) ≡ 1) × (tables (rig 4) ≡ words)))
+unfolding rig words numbers any keep isIn numberOf phyPlaces placesFrom once belowPhys below nextLevel levelsFrom levels flatMap
+    heldBy gives give giveAll levelList table tablePlaces tables size sizes
+rig-sizes = (refl, (refl, (refl, refl)))
+
+-- no cause from 15 to 17 holds of these requests
+asks : (lent : List ℕ) (i p s : ℕ) → 4 ≤ length lent → i < 2 → (p ≡ 255) ⊎ T (toEnd (phyAt (rig 4) i p)) → s ≢ 0 → Asks (request i p s) (length lent) 2 (rig 4)
+asks lent i p s h k b z =
+    let n = rig-sizes .0 in
+    let m = rig-sizes .1 .0 in
+    record { start = omega arith; arrivesBy = b; enoughWords = omega arith; enoughBytes = omega arith; nonzero = z }
+
+-- the answer is that of the trace
+traces : (lent : List ℕ) (q : Request) (t : Traced) → Asks q (length lent) 2 (rig 4) → traced (rig 4) lent q ≡ t
+    → Traces lent q (t .outcome) (t .last) (t .phy) (length (t .passed)) (t .passed)
+unfolding traceCall tracedRequest
+traces lent q t a e before after answer h o =
+    let n = rig-sizes .0 in
+    let b : Asks q (length lent) (length before) (rig 4) =
+    record { start = a .start; arrivesBy = a .arrivesBy; enoughWords = a .enoughWords; enoughBytes = omega arith; nonzero = a .nonzero } in
+    let r = requested-iff (length lent) (length before) q (rig 4) .1 b in
+    let c : traceCall (pair 4) lent (length before) q ≡ good t =
+    good-then (judged (pair 4)) _ (rig 4) t rig-judged
+    (good-then (requested q (length lent) (length before) (rig 4)) _ (r .0) t (r .1) (ap good e)) in
+    (o .answers ∙ ap (λ x. then x report) c, o .bytes ∙ ap (λ x. bytesAfter x before) c)
+
+enough : (l rest : List ℕ) → length l ≡ 4 → 4 ≤ length (l ++ rest)
+enough l rest h = let n = length-append l rest in omega arith
+
+ending : Outcome → ℕ → ℕ → List ℕ → Traced
+ending outcome last phy passed = record { outcome = outcome; last = last; phy = phy; passed = passed }
+
+pub pair-rig : PairRig
+unfolding general discover pair rig words ending
+    numberAt bytesOf generalFixed generalRead discoverFixed discoverRead
+    numbers any keep isIn numberOf phyUnit phyUnits expanderUnit expanders domainRead
+    unanswered endAt claimed clash clashing fixed phyPlaces placesFrom firstIn wiredDomain
+    strip reach cabled neighbours unlooped joined joinedIn tableToTable linkedDomain
+    once belowPhys below nextLevel levelsFrom levels flatMap
+    heldBy gives give giveAll levelList overlong judgedDomain
+    pick offsetIn size stretch subtractively byTable directly step afterStep traceFrom traced
 pair-rig = record {
   bytes = refl;
-  listing = λ before. refl;
-  counts = refl;
-  accepted = refl;
-  indexes2 = refl;
-  indexes1 = refl;
-  empty = refl;
-  longer = refl;
-  trace0-b1 = refl;
-  traceB1-a1 = refl;
-  trace1-10 = refl;
-  trace1-ff = refl;
-  traceB1-b1 = refl;
-  zeroed = refl;
+  read = refl;
+  listing = λ before after answer h o.
+      let n = rig-sizes .1 in
+      let e = tableCall-iff (pair 4) (rig 4) (length before) .1 (rig-judged, omega arith) in (
+        o .answers ∙ ap (λ x. then x countsIn) e ∙ ap₂ (λ x y. good (record { tableCount = x; wordCount = y })) (n .1 .0) (n .0),
+        o .words ∙ ap (λ x. tablesAfter x before) e ∙ ap₂ (λ x y. x ++ drop y before) (n .1 .1) (n .0),
+      );
+  accepted = λ answer e. e;
+  indexes2 = λ answer e. e;
+  indexes1 = λ answer e. e;
+  empty = λ answer e. e;
+  longer = λ answer e. e;
+  trace0-b1 = λ rest. traces (words ++ rest) (request 0 255 (at 0xb1)) (ending Arrived 1 1 (0 ∷ 1 ∷ []))
+      (asks (words ++ rest) 0 255 (at 0xb1) (enough words rest refl) (omega arith) (inl refl) (λ e. omega arith)) refl;
+  traceB1-a1 = λ rest. traces (words ++ rest) (request 1 1 (at 0xa1)) (ending Arrived 0 1 (1 ∷ 0 ∷ []))
+      (asks (words ++ rest) 1 1 (at 0xa1) (enough words rest refl) (omega arith) (inr tt) (λ e. omega arith)) refl;
+  trace1-10 = λ rest. traces (words ++ rest) (request 1 255 (at 0x10)) (ending Arrived 0 255 (1 ∷ 0 ∷ []))
+      (asks (words ++ rest) 1 255 (at 0x10) (enough words rest refl) (omega arith) (inl refl) (λ e. omega arith)) refl;
+  trace1-ff = λ rest. traces (words ++ rest) (request 1 255 (at 0xff)) (ending NoDestination 0 255 (1 ∷ 0 ∷ []))
+      (asks (words ++ rest) 1 255 (at 0xff) (enough words rest refl) (omega arith) (inl refl) (λ e. omega arith)) refl;
+  traceB1-b1 = λ rest. traces (words ++ rest) (request 1 1 (at 0xb1)) (ending BadDestination 1 255 (1 ∷ []))
+      (asks (words ++ rest) 1 1 (at 0xb1) (enough words rest refl) (omega arith) (inr tt) (λ e. omega arith)) refl;
+  zeroed = λ rest. traces (set words 0 0 ++ rest) (request 0 255 (at 0xb1)) (ending NoDestination 0 255 (0 ∷ []))
+      (asks (set words 0 0 ++ rest) 0 255 (at 0xb1) (enough (set words 0 0) rest refl) (omega arith) (inl refl) (λ e. omega arith)) refl;
 }

@@ -9,8 +9,9 @@ use lib.Dec.{eqb}
 use borrow.Author.Tests.{eq-eqb, ne-eqb}
 use Rattle.tables.specs.Wiring.{numbers}
 use Rattle.tables.specs.Wiring.{Phy}
-use Rattle.tables.specs.Wiring.{Domain, expanderAt, phyAt, addressOf, farOf, numberOf, toEnd, places, isIn}
-use Rattle.tracing.specs.Steps.{Step, here, endDevice, bad, lost, onward, Pick, at, nowhere, pick, offset, stretch}
+use Rattle.tables.specs.Wiring.{Domain, expanderAt, phyAt, addressOf, farOf, numberOf, toEnd, isIn}
+use Rattle.tracing.specs.Steps.{Step, here, endDevice, bad, lost, onward, Pick, at, nowhere, pick}
+use Rattle.tables.specs.Tables.{offset, stretch}
 use Rattle.tracing.specs.Steps.{cameFrom, subtractively, byTable, directly, step}
 use Rattle.tracing.specs.Answers.{moveOver, directStep}
 
@@ -30,7 +31,7 @@ module _ (test : ℕ → Bool) (n p : ℕ) {v : Pick} (inv : pick test (numbers 
   pick-end h = let e : n - p ≡ 0 = omega arith in sym (rw e) ∙ inv
 
 -- the words from the offset on are the stretch
-pub in-stretch : (d : Domain) (words : List ℕ) (i p s : ℕ) {n from : ℕ} → n ≡ expanderAt d i .indexes → from ≡ offset d i p (places d)
+pub in-stretch : (d : Domain) (words : List ℕ) (i p s : ℕ) {n from : ℕ} → n ≡ expanderAt d i .indexes → from ≡ offset d i p
     → isIn s (take n (drop from words)) ≡ isIn s (stretch d words i p)
 unfolding stretch
 in-stretch d words i p s e f = rw (e, f)

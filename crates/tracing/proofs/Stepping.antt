@@ -8,8 +8,9 @@ use native.Mathlib.Omega.{arith}
 use lib.ListN.{length}
 use lib.Dec.{T, eqb, eqb→eq}
 use Rattle.tables.specs.Wiring.{In, Domain, expanderAt, phyAt, addressOf, farOf, routes, attached, toEnd, toExpander, numberOf}
+use Rattle.tables.specs.Tables.{stretch}
 use Rattle.tables.proofs.Wiring.{tests, was-true, eq→eqb, in-upTo, expander-attached, attached-cases, in-range}
-use Rattle.tracing.specs.Steps.{Step, here, endDevice, bad, lost, onward, Pick, at, nowhere, pick, phyNumbers, stretch, cameFrom, moveBy, subtractively, byTable, directly, bearing, listing, subtracting, step}
+use Rattle.tracing.specs.Steps.{Step, here, endDevice, bad, lost, onward, Pick, at, nowhere, pick, phyNumbers, cameFrom, moveBy, subtractively, byTable, directly, bearing, listing, subtracting, step}
 
 -- what was picked passes the test, and where none is picked none passes
 module _ (test : ℕ → Bool) where
@@ -59,7 +60,7 @@ module _ (d : Domain) (words : List ℕ) (i s : ℕ) where
   -- why a step is what it is, where the request came from this address
   pub data Stepped (came : ℕ) : Step → Type 0 where
     isHere : expanderAt d i .address ≡ s → Stepped came here
-    isEnd : (p : ℕ) → T (toEnd (phyAt d i p)) → addressOf (phyAt d i p) ≡ s → Stepped came (endDevice p)
+    isEnd : (p : ℕ) → T (toEnd (phyAt d i p)) → addressOf (phyAt d i p) ≡ s → addressOf (phyAt d i p) ≢ came → Stepped came (endDevice p)
     isBad : (p : ℕ) → T (attached (phyAt d i p)) → addressOf (phyAt d i p) ≡ came → (addressOf (phyAt d i p) ≡ s) ⊎ Listing p → Stepped came bad
     isLost : expanderAt d i .address ≢ s → Absent → Unlisted → NoWayUp came → Stepped came lost
     isMove : (p : ℕ) → expanderAt d i .address ≢ s → T (toExpander (phyAt d i p)) → addressOf (phyAt d i p) ≢ came → Chosen p
@@ -133,7 +134,7 @@ module _ (d : Domain) (words : List ℕ) (i s : ℕ) where
         go : (b : Bool) → eqb (addressOf (phyAt d i p)) came ≡ b → (c : Bool) → toEnd (phyAt d i p) ≡ c
             → Stepped came (cond b bad (cond c (endDevice p) (moveBy d i p)))
         go true q c r = isBad p x (search tests) (inl y)
-        go false q true r = isEnd p (was-true (toEnd (phyAt d i p)) r) y
+        go false q true r = isEnd p (was-true (toEnd (phyAt d i p)) r) y (differs p q)
         go false q false r =
             let k : T (toExpander (phyAt d i p)) = ⊎-elim (λ k. absurd (subst T r k)) (λ k. k) (attached-cases (phyAt d i p) x) in
             isMove p n k (differs p q) (atOnce y)

@@ -10,7 +10,7 @@ use Rattle.tables.specs.Wiring.{Result, good, Domain}
 use Rattle.tracing.specs.declared.Outcome.{Outcome}
 use Rattle.tracing.specs.declared.Outcome.the-variants.{NoDestination}
 use Rattle.tracing.specs.Steps.{Step, onward, step}
-use Rattle.tracing.specs.Trace.{Traced, ended, after, afterStep, traceFrom, Reported}
+use Rattle.tracing.specs.Trace.{Traced, endingAt, after, afterStep, traceFrom, Reported}
 use Rattle.tracing.specs.Answers.{endOf, Walked}
 
 abbrev reported : Outcome → ℕ → ℕ → ℕ → Result Reported
@@ -54,10 +54,10 @@ module _ (d : Domain) (words : List ℕ) (s n k i q : ℕ) (bytes bytes₀ : Lis
 
   -- it ends at this expander
   pub walk-stop : {t : Step} (o : Outcome) (p : ℕ) → t ≡ step d words i q s
-      → afterStep i (λ j p. traceFrom (n - (k + 1)) d words j p s) t ≡ ended o i p → k < n → k < length bytes
+      → afterStep i (λ j p. traceFrom (n - (k + 1)) d words j p s) t ≡ endingAt o i p → k < n → k < length bytes
       → Walked v (endOf o i p (k + 1)) bytes₀ (set bytes k i)
   walk-stop o p e f h g =
-      let u : after (take k bytes) (ended o i p) ≡ v = ap (after (take k bytes)) (sym f) ∙ turn e h in
+      let u : after (take k bytes) (endingAt o i p) ≡ v = ap (after (take k bytes)) (sym f) ∙ turn e h in
       let m : length (take k bytes ++ (i ∷ [])) ≡ k + 1 =
       length-append (take k bytes) (i ∷ []) ∙ omega (arith, length-take-le k bytes (omega arith)) in
       subst (λ (x : Traced). Walked x (endOf o i p (k + 1)) bytes₀ (set bytes k i)) u

@@ -5,19 +5,17 @@ use mathlib.Core.List.{List, _++_}
 use lib.ListN.{length, take, drop}
 use Rattle.tables.specs.Wiring.{Phy}
 use Rattle.tables.specs.Wiring.{placesFrom}
-use Rattle.tables.specs.Wiring.{Result, good, then, Domain, addressOf, farOf, numberOf}
+use Rattle.tables.specs.Wiring.{Domain, addressOf, farOf, numberOf}
 use Rattle.tables.specs.Tables.{sizes}
-use Rattle.tables.specs.Judge.{judgedDomain}
 use Rattle.tracing.specs.Steps.{Step as Stepped, here, endDevice, bad, lost, onward, Pick as Picked, at, nowhere, pick, phyNumbers}
 use Rattle.tracing.specs.Steps.{bearing, listing, subtracting, subtractively, byTable, directly}
-use Rattle.tracing.specs.Trace.{Traced, traced, requested, report, traceAnswer, bytesAfter}
+use Rattle.tracing.specs.Trace.{Traced, report, traceAnswer}
 use Rattle.tracing.specs.declared.Step.{Step}
 use Rattle.tracing.specs.declared.Step.the-variants.{Here, EndDevice, Bad, Lost, Onward}
 use Rattle.tracing.specs.declared.steps.Pick.{Pick}
 use Rattle.tracing.specs.declared.steps.Pick.the-variants.{At, Nowhere}
 use Rattle.tracing.specs.declared.Outcome.{Outcome}
 use Rattle.tracing.specs.declared.End.{End}
-use Rattle.tracing.specs.declared.TraceAnswer.{TraceAnswer}
 use Rattle.tracing.specs.declared.TraceAnswer.the-variants.{Ended}
 
 -- what a step says in document 01's terms
@@ -68,18 +66,3 @@ endOf o i p count = record { outcome = o; last = record { 0 = i }; phy = record 
 pub record Walked (t : Traced) (end : End) (before after : List ℕ) : Type 0 where
   pub ends : traceAnswer (Ended end) ≡ report t
   pub bytes : after ≡ t .passed ++ drop (length (t .passed)) before
-
--- a request over a domain: causes 15 to 17, then the trace
-unfoldable pub tracedRequest : Domain → List ℕ → ℕ → ℕ → ℕ → ℕ → Result Traced
-tracedRequest d words bytes i arrival s =
-    then (requested (length words) bytes i arrival s d) (λ _.
-    good (traced d words i arrival s))
-
--- causes 7 to 17, then the trace
-unfoldable pub judgedRequest : Domain → List ℕ → ℕ → ℕ → ℕ → ℕ → Result Traced
-judgedRequest d words bytes i arrival s = then (judgedDomain d) (λ e. tracedRequest e words bytes i arrival s)
-
--- what a request answers, and its bytes
-pub record Answered (result : Result Traced) (answer : TraceAnswer) (before after : List ℕ) : Type 0 where
-  pub answers : traceAnswer answer ≡ then result report
-  pub bytes : after ≡ bytesAfter result before

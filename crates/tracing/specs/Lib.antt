@@ -1,3 +1,5 @@
 pub mod Steps
 pub mod Trace
 pub mod Answers
+pub mod Tested
+pub mod Demand

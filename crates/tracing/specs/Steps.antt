@@ -1,11 +1,11 @@
 -- Steps (i) to (v): what an expander does with a request.
-use Prim.Native.Nat.{ℕ, _+_}
+use Prim.Native.Nat.{ℕ}
 use mathlib.Core.Bool.{Bool, cond, _&&_}
 use mathlib.Core.List.{List, [], _∷_}
-use lib.ListN.{length, take, drop}
+use lib.ListN.{length}
 use lib.Dec.{eqb}
-use Rattle.tables.specs.Wiring.{Domain, expanderAt, phyAt, addressOf, farOf, routes, toEnd, toExpander, bears, numberOf, Place, places, upTo, isIn}
-use Rattle.tables.specs.Tables.{size}
+use Rattle.tables.specs.Wiring.{Domain, expanderAt, phyAt, addressOf, farOf, routes, toEnd, toExpander, bears, numberOf, upTo, isIn}
+use Rattle.tables.specs.Tables.{stretch}
 
 -- arrived here; arrived at the end device of a phy; BAD DESTINATION; NO DESTINATION; on to an expander with its arrival phy
 pub data Step : Type 0 where
@@ -28,15 +28,6 @@ pick test (p ∷ ps) = cond (test p) (at p) (pick test ps)
 -- the phys of expander i, lowest first
 abbrev pub phyNumbers : Domain → ℕ → List ℕ
 phyNumbers d i = upTo (length (expanderAt d i .phys))
-
--- how many words stand before the table of phy p of expander i, where the tables at these places stand one after the other
-unfoldable pub offset : Domain → ℕ → ℕ → List Place → ℕ
-offset d i p [] = 0
-offset d i p (q ∷ qs) = cond (eqb (q .expander) i && eqb (q .phy) p) 0 (size d q + offset d i p qs)
-
--- "its own stretch": the R words of the table of phy p of expander i
-unfoldable pub stretch : Domain → List ℕ → ℕ → ℕ → List ℕ
-stretch d words i p = take (expanderAt d i .indexes) (drop (offset d i p (places d)) words)
 
 -- the address at the arrival phy; with arrival phy 255 there is none, and no device bears 0
 abbrev pub cameFrom : Domain → ℕ → ℕ → ℕ

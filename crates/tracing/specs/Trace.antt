@@ -1,12 +1,13 @@
 -- The walk of a request from its start, and the trace call.
 use Prim.Native.Nat.{ℕ, zero, suc}
+use mathlib.Core.Path.{_≡_}
 use mathlib.Core.Bool.{Bool, not, _||_, _&&_}
 use mathlib.Core.List.{List, [], _∷_, _++_}
 use lib.ListN.{length, drop}
 use lib.Dec.{eqb, ltb, leb}
 use Rattle.tables.specs.Wiring.{Result, refused, good, unless, then, refusal, Domain, phyAt, toEnd}
 use Rattle.tables.specs.Tables.{needed}
-use Rattle.tables.specs.Judge.{judged}
+use Rattle.tables.specs.Judge.{judgedDomain, judged}
 use Rattle.tracing.specs.Steps.{Step, here, endDevice, bad, lost, onward, step}
 use Rattle.tracing.specs.declared.Outcome.{Outcome}
 use Rattle.tracing.specs.declared.Outcome.the-variants.{Arrived, NoDestination, BadDestination}
@@ -21,8 +22,8 @@ pub record Traced : Type 0 where
   pub passed : List ℕ
 
 -- a trace that ends at expander i, which is the only one passed
-abbrev pub ended : Outcome → ℕ → ℕ → Traced
-ended o i p = record { outcome = o; last = i; phy = p; passed = i ∷ [] }
+abbrev pub endingAt : Outcome → ℕ → ℕ → Traced
+endingAt o i p = record { outcome = o; last = i; phy = p; passed = i ∷ [] }
 
 -- a trace, after these expanders
 abbrev pub after : List ℕ → Traced → Traced
@@ -30,10 +31,10 @@ after l t = record { outcome = t .outcome; last = t .last; phy = t .phy; passed 
 
 -- the trace from expander i, by its step; `go` is the trace from the next expander
 unfoldable pub afterStep : ℕ → (ℕ → ℕ → Traced) → Step → Traced
-afterStep i go here = ended Arrived i 255
-afterStep i go (endDevice p) = ended Arrived i p
-afterStep i go bad = ended BadDestination i 255
-afterStep i go lost = ended NoDestination i 255
+afterStep i go here = endingAt Arrived i 255
+afterStep i go (endDevice p) = endingAt Arrived i p
+afterStep i go bad = endingAt BadDestination i 255
+afterStep i go lost = endingAt NoDestination i 255
 afterStep i go (onward j q) = after (i ∷ []) (go j q)
 
 -- at most so many steps
@@ -41,27 +42,43 @@ unfoldable pub traceFrom : ℕ → Domain → List ℕ → ℕ → ℕ → ℕ �
 traceFrom zero d words i arrival s = record { outcome = NoDestination; last = i; phy = 255; passed = [] }
 traceFrom (suc steps) d words i arrival s = afterStep i (λ j q. traceFrom steps d words j q s) (step d words i arrival s)
 
--- a request for address s, from expander i with this arrival phy
-unfoldable pub traced : Domain → List ℕ → ℕ → ℕ → ℕ → Traced
-traced d words i arrival s = traceFrom (length d) d words i arrival s
+-- a request: start expander, arrival phy (255: the expander itself), and the address asked for
+pub record Request : Type 0 where
+  pub start : ℕ
+  pub arrival : ℕ
+  pub address : ℕ
+
+abbrev pub request : ℕ → ℕ → ℕ → Request
+request i arrival s = record { start = i; arrival = arrival; address = s }
+
+-- its trace; as many steps as there are expanders are enough (`Demand3.steps` in specs/Demand)
+unfoldable pub traced : Domain → List ℕ → Request → Traced
+traced d words q = traceFrom (length d) d words (q .start) (q .arrival) (q .address)
 
 -- 15: a start expander, with arrival phy 255 or a phy attached to an end device
 unfoldable pub allowed : Domain → ℕ → ℕ → Bool
 allowed d i arrival = ltb i (length d) && (eqb arrival 255 || toEnd (phyAt d i arrival))
 
--- causes 15 to 17 in order, with so many table words and bytes lent
-unfoldable pub requested : ℕ → ℕ → ℕ → ℕ → ℕ → Domain → Result Domain
-requested words bytes i arrival s d =
-    unless (allowed d i arrival) (refusal 15 0 0)
+-- causes 15 to 17 of a request in order, with so many table words and bytes lent
+unfoldable pub requested : Request → ℕ → ℕ → Domain → Result Domain
+requested q words bytes d =
+    unless (allowed d (q .start) (q .arrival)) (refusal 15 0 0)
     (unless (leb (needed d) words && leb (length d) bytes) (refusal 16 0 0)
-    (unless (not (eqb s 0)) (refusal 17 0 0) (good d)))
+    (unless (not (eqb (q .address) 0)) (refusal 17 0 0) (good d)))
 
--- the trace call on a file, lent words and so many lent bytes
-unfoldable pub traceCall : List ℕ → List ℕ → ℕ → ℕ → ℕ → ℕ → Result Traced
-traceCall file words bytes i arrival s =
-    then (judged file) (λ d.
-    then (requested (length words) bytes i arrival s d) (λ _.
-    good (traced d words i arrival s)))
+-- causes 15 to 17, then the trace: a request on an accepted domain, with lent words and so many lent bytes
+unfoldable pub tracedRequest : Domain → List ℕ → ℕ → Request → Result Traced
+tracedRequest d words bytes q =
+    then (requested q (length words) bytes d) (λ _.
+    good (traced d words q))
+
+-- causes 7 to 17, then the trace: the trace call on a domain that was read
+unfoldable pub judgedRequest : Domain → List ℕ → ℕ → Request → Result Traced
+judgedRequest d words bytes q = then (judgedDomain d) (λ e. tracedRequest e words bytes q)
+
+-- the trace call on a file
+unfoldable pub traceCall : List ℕ → List ℕ → ℕ → Request → Result Traced
+traceCall file words bytes q = then (judged file) (λ d. tracedRequest d words bytes q)
 
 -- what the answer says: outcome, last expander, phy, count
 pub record Reported : Type 0 where
@@ -81,3 +98,8 @@ traceAnswer (Ended e) = good (record { outcome = e .outcome; last = e .last .0; 
 abbrev pub bytesAfter : Result Traced → List ℕ → List ℕ
 bytesAfter (refused r) before = before
 bytesAfter (good t) before = t .passed ++ drop (length (t .passed)) before
+
+-- all that a trace call with this outcome promises: the answer, and the bytes after
+pub record TraceDone (outcome : Result Traced) (answer : TraceAnswer) (before after : List ℕ) : Type 0 where
+  pub answers : traceAnswer answer ≡ then outcome report
+  pub bytes : after ≡ bytesAfter outcome before

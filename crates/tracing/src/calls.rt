@@ -6,8 +6,7 @@ use frames::PhyId;
 use tables::Check;
 use tables::DomainRead;
 ghost use lib.ListN.{length};
-ghost use Rattle.tracing.specs.Trace.{traceCall};
-ghost use Rattle.tracing.specs.Answers.{judgedRequest, Answered};
+ghost use Rattle.tracing.specs.Trace.{request, traceCall, judgedRequest, TraceDone};
 ghost use Rattle.tables.specs.Prepared.{Lawful};
 ghost use Rattle.tables.specs.Wiring.{domainIn};
 
@@ -21,8 +20,8 @@ fn request_rows(
     passed: &mut [u8],
 ) -> TraceAnswer
     requires { ⌜ Lawful (domainIn (now rows)) ⌝ }
-    ensures { λ r. ⌜ Answered
-        (judgedRequest (domainIn (now (rows .entry))) (now (words .entry)) (length (now (passed .entry))) (start .0) (arrival .0) s)
+    ensures { λ r. ⌜ TraceDone
+        (judgedRequest (domainIn (now (rows .entry))) (now (words .entry)) (length (now (passed .entry))) (request (start .0) (arrival .0) s))
         r (now (passed .entry)) (now (passed .exit)) ⌝ }
 {
     let verdict = tables::judge_rows(rows);
@@ -42,8 +41,8 @@ pub fn trace(
     s: u64,
     passed: &mut [u8],
 ) -> TraceAnswer
-    ensures { λ r. ⌜ Answered
-        (traceCall (now (file .entry)) (now (words .entry)) (length (now (passed .entry))) (start .0) (arrival .0) s)
+    ensures { λ r. ⌜ TraceDone
+        (traceCall (now (file .entry)) (now (words .entry)) (length (now (passed .entry))) (request (start .0) (arrival .0) s))
         r (now (passed .entry)) (now (passed .exit)) ⌝ }
 {
     let mut rows = [0u64; 16512];

@@ -11,8 +11,7 @@ ghost use Rattle.tables.specs.Wiring.{domainIn};
 ghost use Rattle.tables.specs.Wiring.{Refused};
 ghost use Rattle.tables.specs.Wiring.{checkAnswer};
 ghost use Rattle.tables.specs.Wiring.{refusal};
-ghost use Rattle.tracing.specs.Trace.{allowed, requested};
-ghost use Rattle.tracing.specs.Answers.{tracedRequest, Answered};
+ghost use Rattle.tracing.specs.Trace.{request, allowed, requested, tracedRequest, TraceDone};
 
 // Does cause 15 not hold: the start is an expander, and the arrival phy is 255 or attached to an end
 // device?
@@ -48,7 +47,7 @@ fn check_request(
     arrival: PhyId,
     s: u64,
 ) -> Check
-    ensures { λ r. ⌜ checkAnswer (domainIn (now (rows .entry))) r ≡ requested words bytes (start .0) (arrival .0) s (domainIn (now (rows .entry))) ⌝ }
+    ensures { λ r. ⌜ checkAnswer (domainIn (now (rows .entry))) r ≡ requested (request (start .0) (arrival .0) s) words bytes (domainIn (now (rows .entry))) ⌝ }
 {
     if !is_allowed(rows, start, arrival) {
         return refuse(15);
@@ -74,8 +73,8 @@ pub(crate) fn trace_rows(
     s: u64,
     passed: &mut [u8],
 ) -> TraceAnswer
-    ensures { λ r. ⌜ Answered
-        (tracedRequest (domainIn (now (rows .entry))) (now (words .entry)) (length (now (passed .entry))) (start .0) (arrival .0) s)
+    ensures { λ r. ⌜ TraceDone
+        (tracedRequest (domainIn (now (rows .entry))) (now (words .entry)) (length (now (passed .entry))) (request (start .0) (arrival .0) s))
         r (now (passed .entry)) (now (passed .exit)) ⌝ }
 {
     match check_request(rows, words.len(), passed.len(), start, arrival, s) {

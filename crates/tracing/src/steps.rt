@@ -10,8 +10,9 @@ ghost use mathlib.Core.Path.{_≡_};
 ghost use mathlib.Core.Bool.{cond, _&&_};
 ghost use lib.Dec.{eqb};
 ghost use Rattle.tables.specs.Wiring.{domainIn};
-ghost use Rattle.tables.specs.Wiring.{addressOf, bears, routes, toEnd, toExpander, places};
-ghost use Rattle.tracing.specs.Steps.{bad, endDevice, offset, listing, cameFrom, step};
+ghost use Rattle.tables.specs.Wiring.{addressOf, bears, routes, toEnd, toExpander};
+ghost use Rattle.tables.specs.Tables.{offset};
+ghost use Rattle.tracing.specs.Steps.{bad, endDevice, listing, cameFrom, step};
 ghost use Rattle.tracing.specs.Answers.{stepAnswer, pickAnswer, bearingPick, listingPick, subtractingPick};
 ghost use Rattle.tracing.specs.Answers.{moveOver, subtractiveStep, tableStep, directStep};
 
@@ -43,7 +44,7 @@ fn is_subtracting(f: Phy) -> bool
 
 // Is phy p of expander i a table phy attached to an expander, with s in its stretch, which starts at `at`?
 fn is_listing(rows: &[u64], words: &[u64], i: ExpanderNumber, p: PhyId, at: usize, s: u64) -> bool
-    requires { ⌜ at ≡ offset (domainIn (now rows)) (i .0) (p .0) (places (domainIn (now rows))) ⌝ }
+    requires { ⌜ at ≡ offset (domainIn (now rows)) (i .0) (p .0) ⌝ }
     ensures { λ r. ⌜ r ≡ listing (domainIn (now (rows .entry))) (now (words .entry)) (i .0) s (p .0) ⌝ }
 {
     let f = tables::phy_at(rows, i, p);

@@ -9,7 +9,7 @@ ghost use mathlib.Core.Path.{_≡_};
 ghost use Prim.Native.Nat.{_≤_};
 ghost use lib.ListN.{length};
 ghost use Rattle.tables.specs.Wiring.{domainIn};
-ghost use Rattle.tracing.specs.Trace.{traced};
+ghost use Rattle.tracing.specs.Trace.{request, traced};
 ghost use Rattle.tracing.specs.Answers.{endOf, Walked};
 
 // How a walk ends.
@@ -35,7 +35,7 @@ pub(crate) fn walk(
 ) -> End
     requires { ⌜ length (domainIn (now rows)) ≤ length (now passed) ⌝ }
     ensures { λ r. ⌜ Walked
-        (traced (domainIn (now (rows .entry))) (now (words .entry)) (start .0) (arrival .0) s)
+        (traced (domainIn (now (rows .entry))) (now (words .entry)) (request (start .0) (arrival .0) s))
         r (now (passed .entry)) (now (passed .exit)) ⌝ }
 {
     let n = tables::expander_count(rows);

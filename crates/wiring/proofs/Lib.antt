@@ -1,9 +1,8 @@
 pub mod Members
 pub mod Results
 pub mod Reading
-pub mod Ranges
+pub mod Read
 pub mod Filling
-pub mod Again
 pub mod Back
 pub mod RowsRead
 pub mod InRows
@@ -22,5 +21,6 @@ pub mod EndDevices
 pub mod LowerPhys
 pub mod Cables
 pub mod Calls
+pub mod Exactly
 pub mod Opened
 pub mod Worked

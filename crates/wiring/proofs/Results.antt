@@ -1,35 +1,25 @@
--- What holds of all that a call yields, where it is not refused.
+-- What holds of all that a call yields, and with which numbers it refuses.
 use Prim.Native.Nat.{ℕ}
-use mathlib.Core.Path.{_≡_, refl, sym, subst}
+use mathlib.Core.Path.{_≡_, refl, sym, ap, subst, _∙_}
+use mathlib.Core.Logic.{_↔_}
 use mathlib.Core.Bool.{Bool, true, false, _&&_}
 use native.Mathlib.Omega.{arith}
 use lib.Dec.{T}
 use Rattle.frames.specs.Refusals.{Result, refused, good, unless, then}
 use Rattle.frames.specs.declared.Refusal.{Refusal}
+use Rattle.frames.proofs.Exactly.{Holds}
 
 -- nothing is both refused and good
 pub never : {A B : Type 0} (r : Refusal) (a : A) → refused r ≡ good a → B
 never r a q = let z : _≡_ {A = ℕ} 0 1 = cc in absurd (omega arith)
 
-module _ {A : Type 0} where
-  abbrev pub Holds : (A → Type 0) → Result A → Type 0
-  Holds P (refused r) = Unit {0}
-  Holds P (good a) = P a
+module _ {A : Type 0} (N : ℕ → Type 0) where
+  pub held : (P : A → Type 0) (x : Result A) (a : A) → Holds N P x → x ≡ good a → P a
+  held P x a h q = subst (Holds N P) q h
 
-  pub held : (P : A → Type 0) (x : Result A) (a : A) → Holds P x → x ≡ good a → P a
-  held P x a h q = subst (Holds P) q h
-
-  pub yields : (P : A → Type 0) (x : Result A) → ((a : A) → x ≡ good a → P a) → Holds P x
-  yields P (refused r) h = tt
-  yields P (good a) h = h a refl
-
-  pub unless-holds : (P : A → Type 0) (b : Bool) (r : Refusal) (x : Result A) → (b ≡ true → Holds P x) → Holds P (unless b r x)
-  unless-holds P true r x h = h refl
-  unless-holds P false r x h = tt
-
-pub then-holds : {A B : Type 0} (P : B → Type 0) (x : Result A) (k : A → Result B) → ((a : A) → x ≡ good a → Holds P (k a)) → Holds P (then x k)
-then-holds P (refused r) k h = tt
-then-holds P (good a) k h = h a refl
+  pub weaker : (M : ℕ → Type 0) (P Q : A → Type 0) (x : Result A) → Holds N P x → ((n : ℕ) → N n → M n) → ((a : A) → P a → Q a) → Holds M Q x
+  weaker M P Q (refused r) h f g = f (r .number) h
+  weaker M P Q (good a) h f g = g a h
 
 -- what is good came of something good
 module _ {A : Type 0} where
@@ -51,6 +41,15 @@ module _ {A B : Type 0} where
 
   pub good-then : (x : Result A) (k : A → Result B) (a : A) (b : B) → x ≡ good a → k a ≡ good b → then x k ≡ good b
   good-then x k a b e f = subst (λ y. then y k ≡ good b) (sym e) f
+
+-- where what comes after leaves it as it is
+pub then-same : {A : Type 0} (x : Result A) (k : A → Result A) (b : A) → ((a : A) → k a ≡ good b → a ≡ b) → (then x k ≡ good b) ↔ ((x ≡ good b) × (k b ≡ good b))
+then-same x k b same = (
+  λ e. let a = then-good x k b e in
+      let q = same (a .0) (a .2) in
+      (a .1 ∙ ap good q, subst (λ y. k y ≡ good b) q (a .2)),
+  λ h. good-then x k b b (h .0) (h .1),
+)
 
 -- both tests hold
 pub both : (a b : Bool) → (a && b) ≡ true → (a ≡ true) × (b ≡ true)

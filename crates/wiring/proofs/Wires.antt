@@ -13,17 +13,12 @@ use Rattle.wiring.specs.declared.Phy.the-variants.{Vacant, Present}
 use Rattle.wiring.specs.Lists.{In}
 use Rattle.wiring.specs.Domain.{Expander, Domain, noExpander, expanderAt, phyAt, typeOf, addressOf, farOf, attributeOf, routes, attached, toEnd, toExpander, numberOf}
 use Rattle.wiring.specs.Causes.{farPhy, place, phyPlaces, placesFrom, places}
-use Rattle.wiring.specs.Graph.{Loop, Chain, Tail, Symmetric}
+use Rattle.wiring.specs.Graph.{Tail, Symmetric}
+pub use Rattle.wiring.specs.Devices.{LoopIn, ChainIn, Home}
 use Rattle.wiring.specs.Neighbours.{cabled, neighbours}
 use Rattle.wiring.proofs.Members.{tests, or-cases, or-left, or-right, any-of, of-any, in-getD, getD-in, in-left, in-right, eq→eqb}
 
--- loops and chains of expanders; a way is a chain without its first
-abbrev pub LoopIn : Domain → Type 0
-LoopIn d = Loop (length d) (neighbours d)
-
-abbrev pub ChainIn : Domain → ℕ → ℕ → List ℕ → Type 0
-ChainIn d = Chain (length d) (neighbours d)
-
+-- a way is a chain without its first
 abbrev pub Way : Domain → ℕ → ℕ → List ℕ → Type 0
 Way d = Tail (length d) (neighbours d)
 
@@ -61,10 +56,6 @@ pub record Wired (d : Domain) : Type 0 where
   -- 10
   pub configured : (i p : ℕ) → T (routes 2 (phyAt d i p)) → expanderAt d i .configurable ≢ 0
 
--- expander m bears s, or an end device with s is attached to it
-abbrev pub Home : Domain → ℕ → ℕ → Type 0
-Home d s m = (expanderAt d m .address ≡ s) ⊎ ((p : ℕ) × T (toEnd (phyAt d m p)) × (addressOf (phyAt d m p) ≡ s))
-
 -- types and attributes
 pub end-attached : (φ : Phy) → T (toEnd φ) → T (attached φ)
 end-attached φ t = not-T (eqb (typeOf φ) 0) (λ u. let e = eqb→eq (typeOf φ) 1 t in let f = eqb→eq (typeOf φ) 0 u in omega arith)
@@ -80,15 +71,8 @@ attached-cases φ t =
     go : (m : ℕ) → m ≢ 1 → m ≢ 0 → 2 ≤ m
     go m a b = omega arith
 
-pub end-no-expander : (φ : Phy) → T (toEnd φ) → T (toExpander φ) → ⊥
-end-no-expander φ t u = let e = eqb→eq (typeOf φ) 1 t in let f = leb→le 2 (typeOf φ) u in omega arith
-
 pub routes-one : (a b : ℕ) (φ : Phy) → T (routes a φ) → T (routes b φ) → a ≡ b
 routes-one a b φ t u = sym (eqb→eq (attributeOf φ) a t) ∙ eqb→eq (attributeOf φ) b u
-
-pub plain-type : (φ : Phy) → Plain φ → typeOf φ ≤ 3
-plain-type (Vacant r) h = omega arith
-plain-type (Present f) h = h .0
 
 pub plain-attribute : (φ : Phy) → Plain φ → T (attached φ) → attributeOf φ ≤ 2
 plain-attribute (Vacant r) h t = absurd t

@@ -2,6 +2,7 @@ pub mod Frames
 pub mod Lists
 pub mod Domain
 pub mod File
+pub mod Read
 pub mod Units
 pub mod Rows
 pub mod Fill
@@ -15,3 +16,5 @@ pub mod Claims
 pub mod Clashes
 pub mod Cables
 pub mod Links
+pub mod Devices
+pub mod Tested

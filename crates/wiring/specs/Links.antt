@@ -10,11 +10,11 @@ use Rattle.wiring.specs.Causes.{farPhy, firstOf, wiredDomain}
 use Rattle.wiring.specs.Graph.{loopfree, reached}
 use Rattle.wiring.specs.Neighbours.{neighbours}
 
--- 11: loop
+-- 11: loop. `loopfree` says exactly that there is none: `loopfree-iff` (proofs/Loops)
 unfoldable pub unlooped : Domain → Result Domain
 unlooped d = unless (loopfree (length d) (neighbours d)) (refusal 11 0 0) (good d)
 
--- a chain joins expander 0 to expander i
+-- a chain joins expander 0 to expander i. `reached` says exactly that there is one: `reached-iff` (proofs/Reach)
 unfoldable pub joined : Domain → ℕ → Bool
 joined d i = reached (length d) (neighbours d) 0 i
 

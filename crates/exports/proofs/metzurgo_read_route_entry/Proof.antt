@@ -1,6 +1,6 @@
 use mathlib.Core.Path.{sym, _∙_, ap}
 use borrow.Author.Needs.{needs}
-use Rattle.exports.specs.Packing.{entryOf}
+use Rattle.exports.specs.Packing.{routeEntry}
 use Rattle.frames.specs.ConfigureRoute.{routeAnswer}
 use Rattle.exports.proofs.metzurgo_read_route_entry.Statement.{statement}
 use Rattle.exports.proofs.metzurgo_read_route_entry.Tie as tie
@@ -17,12 +17,12 @@ enum-known-answer c = search needs
 returns : tie.Need-returns
 returns c =
     let e = sym (c .before .before .read-route .ensures) ∙ ap (routeAnswer) (c .enum-told .given .1) in
-    sym (ap (entryOf) e)
+    sym (ap (routeEntry) e)
 
 returns-2 : tie.Need-returns-2
 returns-2 c =
     let e = sym (c .before .before .before .read-route .ensures) ∙ ap (routeAnswer) (c .before .answer .given .1) in
-    sym (ap (entryOf) e)
+    sym (ap (routeEntry) e)
 
 pub metzurgo-read-route-entry-spec : {M : Type 1} → statement M
 metzurgo-read-route-entry-spec =

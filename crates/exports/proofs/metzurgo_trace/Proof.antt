@@ -1,6 +1,6 @@
 use mathlib.Core.Path.{sym, _∙_, ap}
 use borrow.Author.Needs.{needs}
-use Rattle.exports.specs.Packing.{packed, ended}
+use Rattle.exports.specs.Packing.{packed, endPacked}
 use Rattle.tracing.specs.Trace.{traceAnswer}
 use Rattle.exports.proofs.metzurgo_trace.Statement.{statement}
 use Rattle.exports.proofs.metzurgo_trace.Tie as tie
@@ -26,7 +26,7 @@ same-length c = search needs
 returns : tie.Need-returns
 returns c =
     let e = sym (c .before .before .before .before .before .before .trace .ensures .answers) ∙ ap (traceAnswer) (c .before .before .answer .given .1) in
-    (c .refusal .ensures ∙ sym (ap (packed ended) e), c .before .before .before .before .before .before .trace .ensures .bytes)
+    (c .refusal .ensures ∙ sym (ap (packed endPacked) e), c .before .before .before .before .before .before .trace .ensures .bytes)
 
 same-length-2 : tie.Need-same-length-2
 same-length-2 c = search needs
@@ -34,7 +34,7 @@ same-length-2 c = search needs
 returns-2 : tie.Need-returns-2
 returns-2 c =
     let e = sym (c .before .before .before .before .before .before .trace .ensures .answers) ∙ ap (traceAnswer) (c .before .before .answer2 .given .1) in
-    (c .end .ensures ∙ sym (ap (packed ended) e), c .before .before .before .before .before .before .trace .ensures .bytes)
+    (c .end .ensures ∙ sym (ap (packed endPacked) e), c .before .before .before .before .before .before .trace .ensures .bytes)
 
 pub metzurgo-trace-spec : {M : Type 1} → statement M
 metzurgo-trace-spec =

@@ -19,7 +19,7 @@ trace-rows-requires : tie.Need-trace-rows-requires
 trace-rows-requires c κs = search needs
 
 returns : tie.Need-returns
-returns c = rows-refused _ _ _ _ _ _ _ (sym (judged-own _ (c .before .before .before .before .before .before .before .pre)) ∙ sym (c .before .before .before .judge-rows .ensures) ∙ ap (checkAnswer _) (c .before .verdict .given .1))
+returns c = rows-refused _ _ _ _ _ (sym (judged-own _ (c .before .before .before .before .before .before .before .pre)) ∙ sym (c .before .before .before .judge-rows .ensures) ∙ ap (checkAnswer _) (c .before .verdict .given .1))
 
 same-length : tie.Need-same-length
 same-length c = search needs
@@ -27,7 +27,7 @@ same-length c = search needs
 returns-2 : tie.Need-returns-2
 returns-2 c =
     let f = c .before .before .before .before in
-    rows-done _ _ _ _ _ _ _ _ (sym (judged-own _ (c .before .before .before .before .before .before .before .before .before .before .pre)) ∙ sym (f .before .before .judge-rows .ensures) ∙ ap (checkAnswer _) (f .enum-told .given .1)) (c .before .before .trace-rows .ensures)
+    rows-done _ _ _ _ _ _ (sym (judged-own _ (c .before .before .before .before .before .before .before .before .before .before .pre)) ∙ sym (f .before .before .judge-rows .ensures) ∙ ap (checkAnswer _) (f .enum-told .given .1)) (c .before .before .trace-rows .ensures)
 
 pub request-rows-spec : {M : Type 1} → statement M
 request-rows-spec =

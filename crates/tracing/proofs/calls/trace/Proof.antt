@@ -47,7 +47,7 @@ request-rows-requires c κs =
 returns : tie.Need-returns
 returns c =
     let r = c .before .before .before .before .read-domain in
-    call-refused _ _ _ _ _ _ _ (opened-as _ _ _ _ _ (length-replicate {A = ℕ} 16512 0) (r .ensures) (c .before .read .given .1))
+    call-refused _ _ _ _ _ (opened-as _ _ _ _ _ (length-replicate {A = ℕ} 16512 0) (r .ensures) (c .before .read .given .1))
 
 same-length : tie.Need-same-length
 same-length c = search needs
@@ -57,7 +57,7 @@ returns-2 c =
     let f = c .before .before .before .before .before .before in
     let r = f .before .before .before .read-domain in
     let o = opened-as _ _ _ _ _ (length-replicate {A = ℕ} 16512 0) (r .ensures) (f .read2 .given .1) in
-    call-done _ _ _ _ _ _ _ _ _ (o .0) (c .before .before .request-rows .ensures)
+    call-done _ _ _ _ _ _ _ (o .0) (c .before .before .request-rows .ensures)
 
 pub trace-spec : {M : Type 1} → statement M
 trace-spec =

@@ -6,6 +6,7 @@ use Rattle.tables.specs.Wiring.{Domain}
 use Rattle.tables.specs.Wiring.{domainIn}
 use Rattle.tables.specs.Wiring.{checkAnswer}
 use Rattle.tables.specs.Tables.{needed}
+use Rattle.tracing.specs.Trace.{request}
 use Rattle.tracing.proofs.Asked.{requested-by}
 use borrow.Author.Needs.{needs}
 use Rattle.tracing.proofs.requests.check_request.Statement.{statement}
@@ -23,7 +24,7 @@ returns c =
     let d : Domain = domainIn (a .rows .now) in
     let e = sym (c .before .before .is-allowed .ensures) ∙ not-true _ (c .before .if1 .taken) in
     ap (checkAnswer d) (c .refuse .ensures)
-    ∙ sym (requested-by (a .words) (a .bytes) (a .start .0) (a .arrival .0) (a .s) d e refl refl refl)
+    ∙ sym (requested-by (a .words) (a .bytes) (request (a .start .0) (a .arrival .0) (a .s)) d e refl refl refl)
 
 needed-words-requires : tie.Need-needed-words-requires
 needed-words-requires c κs = search needs
@@ -37,7 +38,7 @@ returns-2 c =
     let d : Domain = domainIn (a .rows .now) in
     let e = sym (c .before .before .before .before .is-allowed .ensures) ∙ not-false _ (c .before .before .before .if1 .left) in
     ap (checkAnswer d) (c .refuse2 .ensures)
-    ∙ sym (requested-by (a .words) (a .bytes) (a .start .0) (a .arrival .0) (a .s) d e (lt-leb (needed d) (a .words) (omega arith)) refl refl)
+    ∙ sym (requested-by (a .words) (a .bytes) (request (a .start .0) (a .arrival .0) (a .s)) d e (lt-leb (needed d) (a .words) (omega arith)) refl refl)
 
 expander-count-requires : tie.Need-expander-count-requires
 expander-count-requires c κs = search needs
@@ -55,7 +56,7 @@ returns-3 c =
     let e = sym (c .before .before .before .before .before .before .is-allowed .ensures)
     ∙ not-false _ (c .before .before .before .before .before .if1 .left) in
     ap (checkAnswer d) (c .refuse3 .ensures)
-    ∙ sym (requested-by (a .words) (a .bytes) (a .start .0) (a .arrival .0) (a .s) d e
+    ∙ sym (requested-by (a .words) (a .bytes) (request (a .start .0) (a .arrival .0) (a .s)) d e
     (le-leb (needed d) (a .words) (omega arith)) (lt-leb (length d) (a .bytes) (omega arith)) refl)
 
 refuse-requires-4 : tie.Need-refuse-requires-4
@@ -68,7 +69,7 @@ returns-4 c =
     let e = sym (c .before .before .before .before .before .before .before .is-allowed .ensures)
     ∙ not-false _ (c .before .before .before .before .before .before .if1 .left) in
     ap (checkAnswer d) (c .refuse4 .ensures)
-    ∙ sym (requested-by (a .words) (a .bytes) (a .start .0) (a .arrival .0) (a .s) d e
+    ∙ sym (requested-by (a .words) (a .bytes) (request (a .start .0) (a .arrival .0) (a .s)) d e
     (le-leb (needed d) (a .words) (omega arith)) (le-leb (length d) (a .bytes) (omega arith)) (eq-eqb (a .s) 0 (omega arith)))
 
 returns-5 : tie.Need-returns-5
@@ -77,7 +78,7 @@ returns-5 c =
     let d : Domain = domainIn (a .rows .now) in
     let e = sym (c .before .before .before .before .before .before .is-allowed .ensures)
     ∙ not-false _ (c .before .before .before .before .before .if1 .left) in
-    sym (requested-by (a .words) (a .bytes) (a .start .0) (a .arrival .0) (a .s) d e
+    sym (requested-by (a .words) (a .bytes) (request (a .start .0) (a .arrival .0) (a .s)) d e
     (le-leb (needed d) (a .words) (omega arith)) (le-leb (length d) (a .bytes) (omega arith)) (ne-eqb (a .s) 0 (λ e. omega arith)))
 
 pub check-request-spec : {M : Type 1} → statement M

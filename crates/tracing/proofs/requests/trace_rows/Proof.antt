@@ -3,6 +3,7 @@ use lib.ListN.{length}
 use Rattle.tables.specs.Wiring.{Domain}
 use Rattle.tables.specs.Wiring.{domainIn}
 use Rattle.tables.specs.Wiring.{checkAnswer}
+use Rattle.tracing.specs.Trace.{request}
 use Rattle.tracing.proofs.Asked.{room, answer-no, answer-yes}
 use borrow.Author.Needs.{needs}
 use Rattle.tracing.proofs.requests.trace_rows.Statement.{statement}
@@ -21,14 +22,14 @@ walk-requires : tie.Need-walk-requires
 walk-requires c κs =
     let a = c .before .before .before .before .before .before .before .args in
     let d : Domain = domainIn (a .rows .now) in
-    room (length (a .words .now)) (length (a .passed .now)) (a .start .0) (a .arrival .0) (a .s) d
+    room (length (a .words .now)) (length (a .passed .now)) (request (a .start .0) (a .arrival .0) (a .s)) d
     (ap (checkAnswer d) (sym (c .before .enum-told .given .1)) ∙ c .before .before .before .check-request .ensures)
 
 returns : tie.Need-returns
 returns c =
     let a = c .before .before .before .before .before .before .before .args in
     let d : Domain = domainIn (a .rows .now) in
-    answer-no d (a .words .now) (a .start .0) (a .arrival .0) (a .s) (a .passed .now)
+    answer-no d (a .words .now) (request (a .start .0) (a .arrival .0) (a .s)) (a .passed .now)
     (ap (checkAnswer d) (sym (c .before .r .given .1)) ∙ c .before .before .before .check-request .ensures)
 
 same-length : tie.Need-same-length
@@ -39,7 +40,7 @@ returns-2 c =
     let a = c .before .before .before .before .before .before .before .before .before .before .args in
     let d : Domain = domainIn (a .rows .now) in
     let e = c .before .before .before .before .before .before .check-request .ensures in
-    answer-yes d (a .words .now) (a .start .0) (a .arrival .0) (a .s) (a .passed .now)
+    answer-yes d (a .words .now) (request (a .start .0) (a .arrival .0) (a .s)) (a .passed .now)
     (ap (checkAnswer d) (sym (c .before .before .before .before .enum-told .given .1)) ∙ e) (c .before .before .walk .ensures)
 
 pub trace-rows-spec : {M : Type 1} → statement M

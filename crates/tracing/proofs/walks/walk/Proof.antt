@@ -6,7 +6,7 @@ use lib.ListN.{length, take, drop, length-set}
 use Rattle.tables.specs.Wiring.{Domain}
 use Rattle.tables.specs.Wiring.{domainIn}
 use Rattle.tracing.specs.declared.Outcome.the-variants.{Arrived, NoDestination, BadDestination}
-use Rattle.tracing.specs.Trace.{after, afterStep, traceFrom, traced}
+use Rattle.tracing.specs.Trace.{after, afterStep, traceFrom, request, traced}
 use Rattle.tracing.specs.Answers.{stepAnswer}
 use Rattle.tracing.proofs.Turns.{kept, walk-stop, walk-go, walk-end}
 use borrow.Author.Needs.{needs}
@@ -18,7 +18,7 @@ Inv-loop rows words s passed₀ n i₀ q₀ k₀ passed i q k =
     (k ≤ n)
     × (length passed ≡ length passed₀)
     × (drop k passed ≡ drop k passed₀)
-    × (after (take k passed) (traceFrom (n - k) (domainIn rows) words (i .0) (q .0) s) ≡ traced (domainIn rows) words (i₀ .0) (q₀ .0) s)
+    × (after (take k passed) (traceFrom (n - k) (domainIn rows) words (i .0) (q .0) s) ≡ traced (domainIn rows) words (request (i₀ .0) (q₀ .0) s))
 
 abbrev μ-loop : tie.MeasureT-loop
 μ-loop rows words s passed₀ n i₀ q₀ k₀ passed i q k = n - k

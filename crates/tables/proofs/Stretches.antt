@@ -1,0 +1,124 @@
+-- Each table stands in its own stretch of the tables, in any domain; and in the words that the table call left, index for index.
+use mathlib.Core.Path.{_≡_, refl, sym, ap, ap₂, subst, _∙_}
+use mathlib.Core.Logic.{inl, inr, ⊎-elim}
+use mathlib.Core.List.{List, [], _∷_, _++_, append-assoc}
+use mathlib.Core.Bool.{Bool, true, false, cond, _&&_}
+use Prim.Native.Nat.{ℕ, _+_, _-_, _≤_, _<_}
+use native.Mathlib.Omega.{arith}
+use lib.ListN.{length, getD, take, drop, length-append, length-drop, List·getD-eq-default}
+use lib.Seq.{take-at, drop-append-add, getD-append-add, getD-take, getD-drop}
+use lib.Dec.{T, eqb}
+use Rattle.wiring.specs.Frames.{good}
+use Rattle.wiring.specs.Lists.{In}
+use Rattle.wiring.specs.Domain.{Domain, expanderAt, phyAt, routes}
+use Rattle.wiring.specs.File.{limits, domainRead}
+use Rattle.wiring.specs.Causes.{Place, place, places}
+use Rattle.wiring.proofs.Members.{tests, is-true}
+use Rattle.wiring.proofs.Wires.{routes-range, in-places}
+use Rattle.tables.specs.Tables.{levelList, table, tables, size, sizes, needed, offsetIn, offset, stretch}
+use Rattle.tables.specs.Judge.{judgedTables, tableCall, TablesDone, IndexForIndex}
+use Rattle.tables.specs.declared.TablesGiven.the-variants.{Counts}
+use Rattle.tables.proofs.Tables.{table-length, table-entry, wordsAt, tablesAt, tables-at, words-length, tables-length}
+use Rattle.tables.proofs.Given.{table-call}
+use Rattle.tables.proofs.Exactly.{tables-of}
+
+-- the test by which the words before a table are counted
+abbrev isPlace : ℕ → ℕ → Place → Bool
+isPlace i p q = eqb (q .expander) i && eqb (q .phy) p
+
+is-place : (i p : ℕ) (q : Place) → T (isPlace i p q) → q ≡ place i p
+is-place i p q t = let x : q .expander ≡ i = search tests in let y : q .phy ≡ p = search tests in ap₂ place x y
+
+place-is : (i p : ℕ) (q : Place) → place i p ≡ q → T (isPlace i p q)
+place-is i p q e = let x : q .expander ≡ i = sym (ap (λ v. v .expander) e) in let y : q .phy ≡ p = sym (ap (λ v. v .phy) e) in search tests
+
+module _ (d : Domain) (i p : ℕ) (t : T (routes 2 (phyAt d i p))) where
+  words-here : (q : Place) → q ≡ place i p → wordsAt d q ≡ table d i p
+  words-here q e = ap (wordsAt d) e ∙ rw (is-true (routes 2 (phyAt d i p)) t) refl
+
+  size-here : (q : Place) → q ≡ place i p → size d q ≡ expanderAt d i .indexes
+  unfolding size
+  size-here q e = rw (e, is-true (routes 2 (phyAt d i p)) t) refl
+
+  -- among the tables at some places
+  found : (after : List ℕ) (qs : List Place) → In (place i p) qs
+      → take (expanderAt d i .indexes) (drop (offsetIn d i p qs) (tablesAt d qs ++ after)) ≡ table d i p
+  unfolding offsetIn tablesAt
+  found after [] h = absurd h
+  found after (q ∷ qs) h =
+      ap (λ l. take (expanderAt d i .indexes) (drop (offsetIn d i p (q ∷ qs)) l)) (append-assoc (wordsAt d q) (tablesAt d qs) after)
+      ∙ go (isPlace i p q) refl (found after qs)
+    where
+      rest : List ℕ
+      rest = tablesAt d qs ++ after
+
+      go : (b : Bool) → isPlace i p q ≡ b → (In (place i p) qs → take (expanderAt d i .indexes) (drop (offsetIn d i p qs) rest) ≡ table d i p)
+          → take (expanderAt d i .indexes) (drop (cond b 0 (size d q + offsetIn d i p qs)) (wordsAt d q ++ rest)) ≡ table d i p
+      go true e r =
+          ap (λ l. take (expanderAt d i .indexes) (l ++ rest)) (words-here q (is-place i p q (search tests)))
+          ∙ take-at (table d i p) rest (expanderAt d i .indexes) (table-length d i p)
+      go false e r = ⊎-elim (λ o. absurd (subst T e (place-is i p q o)))
+          (λ o. ap (λ m. take (expanderAt d i .indexes) (drop (m + offsetIn d i p qs) (wordsAt d q ++ rest))) (sym (words-length d q))
+          ∙ ap (take (expanderAt d i .indexes)) (drop-append-add (wordsAt d q) rest (offsetIn d i p qs)) ∙ r o) h
+
+  fits-in : (qs : List Place) → In (place i p) qs → offsetIn d i p qs + expanderAt d i .indexes ≤ sizes d qs
+  unfolding offsetIn sizes
+  fits-in [] h = absurd h
+  fits-in (q ∷ qs) h = go (isPlace i p q) refl h (fits-in qs)
+    where
+      go : (b : Bool) → isPlace i p q ≡ b → In (place i p) (q ∷ qs) → (In (place i p) qs → offsetIn d i p qs + expanderAt d i .indexes ≤ sizes d qs)
+          → cond b 0 (size d q + offsetIn d i p qs) + expanderAt d i .indexes ≤ size d q + sizes d qs
+      go true e o r = omega (arith, size-here q (is-place i p q (search tests)))
+      go false e (inl o) r = absurd (subst T e (place-is i p q o))
+      go false e (inr o) r = omega (arith, r o)
+
+  in-all : In (place i p) (places d)
+  in-all = in-places d i p (routes-range d 2 i p t (omega arith))
+
+  -- in words that begin with the tables, the stretch of a table phy is its table
+  pub stretch-is : (after : List ℕ) → stretch d (tables d ++ after) i p ≡ table d i p
+  unfolding stretch
+  stretch-is after = ap (λ l. take (expanderAt d i .indexes) (drop (offset d i p) (l ++ after))) (tables-at d) ∙ found after (places d) in-all
+
+  -- a stretch ends within the words that the tables need
+  pub stretch-within : offset d i p + expanderAt d i .indexes ≤ needed d
+  stretch-within = fits-in (places d) in-all
+
+  -- an index of the stretch is that index of the table
+  pub stretch-entry : (after : List ℕ) (k : ℕ) → k < expanderAt d i .indexes → getD (tables d ++ after) (offset d i p + k) 0 ≡ getD (table d i p) k 0
+  unfolding stretch
+  stretch-entry after k h =
+      let ws = tables d ++ after in
+      sym (getD-drop (offset d i p) ws k 0) ∙ sym (getD-take (expanderAt d i .indexes) (drop (offset d i p) ws) k 0 h)
+      ∙ ap (λ l. getD l k 0) (stretch-is after)
+
+-- where every list fits: the words are the tables and, after them, the words lent
+pub index-tables : (d : Domain) (before : List ℕ) → ((i p : ℕ) → T (routes 2 (phyAt d i p)) → length (levelList d i p) ≤ expanderAt d i .indexes)
+    → needed d ≤ length before → IndexForIndex d before (tables d ++ drop (needed d) before)
+index-tables d before fits h =
+    let e = tables-length d in
+    let after = drop (needed d) before in record {
+      size = length-append (tables d) after ∙ omega (arith, length-drop (needed d) before);
+      within = stretch-within d;
+      lent = h;
+      fits = fits;
+      listed = λ i p k t u. let f = fits i p t in stretch-entry d i p t after k (omega arith) ∙ table-entry d i p (fits i p t) k;
+      disabled = λ i p k t u v. stretch-entry d i p t after k v ∙ table-entry d i p (fits i p t) k ∙ List·getD-eq-default (levelList d i p) 0 u;
+      stay = λ k u.
+          let n : k ≡ length (tables d) + (k - needed d) = omega arith in
+          let m : needed d + (k - needed d) ≡ k = omega arith in
+          ap (λ v. getD (tables d ++ after) v 0) n ∙ getD-append-add (tables d) after (k - needed d) 0
+          ∙ getD-drop (needed d) before (k - needed d) 0 ∙ ap (λ v. getD before v 0) m;
+    }
+
+-- a table call that answers counts leaves each table in its own stretch, index for index: on a domain, and on a file
+pub index-for-index : (d : Domain) (before after : List ℕ) (c w : ℕ) → TablesDone (judgedTables d (length before)) (Counts c w) before after
+    → IndexForIndex d before after
+index-for-index d before after c w t =
+    let o = tables-of d c w before after t in
+    subst (IndexForIndex d before) (sym (o .left)) (index-tables d before (o .routable .fits) (o .enough))
+
+pub index-for-index-file : (file : List ℕ) (d : Domain) (before after : List ℕ) (c w : ℕ) → domainRead limits file ≡ good d
+    → TablesDone (tableCall file (length before)) (Counts c w) before after → IndexForIndex d before after
+index-for-index-file file d before after c w e t =
+    index-for-index d before after c w (subst (λ x. TablesDone x (Counts c w) before after) (table-call file d e (length before)) t)
