@@ -2,7 +2,7 @@
 use Prim.Native.Nat.{ℕ, _≤_}
 use mathlib.Core.Path.{_≡_, refl, sym, subst}
 use mathlib.Core.Logic.{_⊎_, inl, inr}
-use mathlib.Core.Bool.{Bool, true, false, _&&_}
+use mathlib.Core.Bool.{Bool, true, false}
 use mathlib.Core.List.{List}
 use native.Mathlib.Omega.{arith}
 use lib.ListN.{length}
@@ -18,7 +18,7 @@ use Rattle.frames.specs.Refusals.{Result, refused, good, unless, then, r
 use Rattle.frames.specs.Exactly.{Exactly}
 use Rattle.frames.specs.ReportGeneral.{generalAnswer, generalFixed, generalRead}
 use Rattle.frames.specs.Discovery.{discoverAnswer, discoverFixed, discoverRead}
-use Rattle.frames.specs.ConfigureRoute.{routeWritten, writeAnswer, routeAnswer, routeRead}
+use Rattle.frames.specs.ConfigureRoute.{isLength, routeFixed, routeWritten, writeAnswer, routeAnswer, routeRead}
 
 -- where it is a refusal, its number is one of N; where it is good, P holds of what it yields
 module _ {A : Type 0} (N : ℕ → Type 0) where
@@ -98,37 +98,24 @@ discover-exactly s answer q =
     (passes _ (eqb (length s) 52) 1 _ _ (inl refl) (passes _ (discoverFixed s) 2 _ _ (inr refl) (yields _ _)))
     (λ t. (eqb→eq (length s) 52 (t .0), t .1 .0)) (λ t. (is-length s 52 (t .0), (t .1, tt)))
 
--- reading a request: its length (1), bytes 0 and 1 (2), its phy (15)
+-- reading a request: its length (1), bytes 0, 1 and 3 (2), its phy (15)
 pub route-exactly : (s : List ℕ) (answer : RouteRead) → routeAnswer answer ≡ routeRead s
-    → Exactly (routeAnswer answer) ((length s ≡ 40) × (((byte s 0 ≡ 0x40) × (byte s 1 ≡ 0x90)) × (byte s 9 ≤ 127))) (λ n. (n ≡ 1) ⊎ ((n ≡ 2) ⊎ (n ≡ 15)))
+    → Exactly (routeAnswer answer) ((length s ≡ 40) × (T (routeFixed s) × (byte s 9 ≤ 127))) (λ n. (n ≡ 1) ⊎ ((n ≡ 2) ⊎ (n ≡ 15)))
 unfolding routeRead
 route-exactly s answer q =
     as-said _ (routeAnswer answer) (routeRead s) _ _ q
     (passes _ (eqb (length s) 40) 1 _ _ (inl refl)
-    (passes _ (eqb (byte s 0) 0x40 && eqb (byte s 1) 0x90) 2 _ _ (inr (inl refl)) (passes _ (leb (byte s 9) 127) 15 _ _ (inr (inr refl)) (yields _ _))))
-    (λ t. (eqb→eq (length s) 40 (t .0), (fixed-bytes (t .1 .0), leb→le (byte s 9) 127 (t .1 .1 .0))))
-    (λ t. (is-length s 40 (t .0), (bytes-fixed (t .1 .0), (le→leb (byte s 9) 127 (t .1 .1), tt))))
-  where
-    fixed-bytes : T (eqb (byte s 0) 0x40 && eqb (byte s 1) 0x90) → (byte s 0 ≡ 0x40) × (byte s 1 ≡ 0x90)
-    fixed-bytes t = (eqb→eq (byte s 0) 0x40 (left (eqb (byte s 0) 0x40) t), eqb→eq (byte s 1) 0x90 (right (eqb (byte s 0) 0x40) t))
-      where
-        left : (b : Bool) → T (b && eqb (byte s 1) 0x90) → T b
-        left true u = tt
-        left false u = u
+    (passes _ (routeFixed s) 2 _ _ (inr (inl refl)) (passes _ (leb (byte s 9) 127) 15 _ _ (inr (inr refl)) (yields _ _))))
+    (λ t. (eqb→eq (length s) 40 (t .0), (t .1 .0, leb→le (byte s 9) 127 (t .1 .1 .0))))
+    (λ t. (is-length s 40 (t .0), (t .1 .0, (le→leb (byte s 9) 127 (t .1 .1), tt))))
 
-        right : (b : Bool) → T (b && eqb (byte s 1) 0x90) → T (eqb (byte s 1) 0x90)
-        right true u = u
-        right false u = absurd u
-
-    bytes-fixed : (byte s 0 ≡ 0x40) × (byte s 1 ≡ 0x90) → T (eqb (byte s 0) 0x40 && eqb (byte s 1) 0x90)
-    bytes-fixed e = rw (e .0, e .1) tt
-
--- writing a request: its phy (15), the room (16)
+-- writing a request: REQUEST LENGTH (2), its phy (15), the room (16)
 pub written-exactly : (room : ℕ) (request : Route) (answer : RouteWrite) → writeAnswer request answer ≡ routeWritten room request
-    → Exactly (writeAnswer request answer) ((request .phy .0 ≤ 127) × (40 ≤ room)) (λ n. (n ≡ 15) ⊎ (n ≡ 16))
+    → Exactly (writeAnswer request answer) (T (isLength (request .length)) × ((request .phy .0 ≤ 127) × (40 ≤ room))) (λ n. (n ≡ 2) ⊎ ((n ≡ 15) ⊎ (n ≡ 16)))
 unfolding routeWritten
 written-exactly room request answer q =
     as-said _ (writeAnswer request answer) (routeWritten room request) _ _ q
-    (passes _ (leb (request .phy .0) 127) 15 _ _ (inl refl) (passes _ (leb 40 room) 16 _ _ (inr refl) (yields _ _)))
-    (λ t. (leb→le (request .phy .0) 127 (t .0), leb→le 40 room (t .1 .0)))
-    (λ t. (le→leb (request .phy .0) 127 (t .0), (le→leb 40 room (t .1), tt)))
+    (passes _ (isLength (request .length)) 2 _ _ (inl refl)
+    (passes _ (leb (request .phy .0) 127) 15 _ _ (inr (inl refl)) (passes _ (leb 40 room) 16 _ _ (inr (inr refl)) (yields _ _))))
+    (λ t. (t .0, (leb→le (request .phy .0) 127 (t .1 .0), leb→le 40 room (t .1 .1 .0))))
+    (λ t. (t .0, (le→leb (request .phy .0) 127 (t .1 .0), (le→leb 40 room (t .1 .1), tt))))
