@@ -4,8 +4,7 @@ use mathlib.Core.Path.{_≡_, refl, _∙_, ap}
 use mathlib.Core.List.{List, _++_}
 use lib.ListN.{length, drop}
 use borrow.Author.Tests.{le-leb, lt-leb}
-use Rattle.frames.specs.declared.Refusal.{Refusal}
-use Rattle.wiring.specs.Frames.{Result, refused, good, then, refusal}
+use Rattle.wiring.specs.Frames.{Refusal, Result, refused, good, then, refusal}
 use Rattle.wiring.specs.Domain.{Domain}
 use Rattle.wiring.specs.File.{limits, domainRead}
 use Rattle.wiring.specs.Causes.{firstOf, wiredDomain}

@@ -3,7 +3,7 @@ pub use Rattle.wiring.proofs.Members.{tests, or-cases, or-left, or-right, is-tr
 pub use Rattle.wiring.proofs.Walks.{Skip, NoBack, repeats-nothing, same-rest, same-chain, rest-of}
 pub use Rattle.wiring.proofs.Reach.{Joined, prepend}
 pub use Rattle.wiring.proofs.Wires.{Way, Wired, end-attached, expander-attached, attached-cases, in-range}
-pub use Rattle.wiring.proofs.Wires.{routes-range, in-places, differ, far-below, far-is, to-adj, adj-symmetric}
+pub use Rattle.wiring.proofs.Wires.{differ, far-below, far-is, to-adj, adj-symmetric}
 pub use Rattle.wiring.proofs.Results.{good-one, unless-good, good-unless, then-good, good-then}
 pub use Rattle.wiring.proofs.Read.{read-good}
 pub use Rattle.wiring.proofs.Accepted.{wired-iff, wired-file}

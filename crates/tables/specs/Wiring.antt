@@ -1,10 +1,10 @@
 -- What the layer above uses of wiring and frames.
-pub use Rattle.wiring.specs.Frames.{Result, refused, good, unless, then, refusal, Exactly}
+pub use Rattle.wiring.specs.Frames.{Refusal, Result, refused, good, unless, then, refusal, Exactly}
 pub use Rattle.wiring.specs.declared.Phy.{Phy}
 pub use Rattle.wiring.specs.declared.Phy.the-variants.{Present}
 pub use Rattle.wiring.specs.declared.Check.the-variants.{Refused}
 pub use Rattle.wiring.specs.Lists.{upTo, In, Distinct, Below, last}
-unfoldable pub use Rattle.wiring.specs.Lists.{numbers, any, keep, isIn}
+unfoldable pub use Rattle.wiring.specs.Lists.{numbers, any, isIn}
 pub use Rattle.wiring.specs.Domain.{Expander, Domain, noExpander, expanderAt, phyAt, typeOf, addressOf, farOf, attributeOf, routes}
 pub use Rattle.wiring.specs.Domain.{attached, toEnd, toExpander, bears}
 unfoldable pub use Rattle.wiring.specs.Domain.{numberOf}
@@ -12,9 +12,9 @@ pub use Rattle.wiring.specs.declared.Limits.{Limits}
 pub use Rattle.wiring.specs.File.{limits, domainRead}
 pub use Rattle.wiring.specs.Read.{Read}
 pub use Rattle.wiring.specs.Rows.{domainIn}
-pub use Rattle.wiring.specs.Causes.{Place, place, places, farPhy, wiredDomain, wired}
+pub use Rattle.wiring.specs.Causes.{Place, place, wiredDomain, wired}
 unfoldable pub use Rattle.wiring.specs.Causes.{phyPlaces, placesFrom}
 pub use Rattle.wiring.specs.Checks.{checkAnswer}
-pub use Rattle.wiring.specs.Graph.{Steps, Loop, self, ring}
+pub use Rattle.wiring.specs.Graph.{Steps, self}
 pub use Rattle.wiring.specs.Neighbours.{neighbours}
 pub use Rattle.wiring.specs.Devices.{LoopIn, ChainIn, Home, Borne}

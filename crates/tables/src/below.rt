@@ -2,9 +2,9 @@
 // then their numbers, one list every 66 bytes. A list has at most 65 numbers: at most 64 expanders, and
 // their count for an address that no expander has.
 use crate::wide;
-use frames::ExpanderNumber;
-use frames::PhyId;
+use wiring::ExpanderNumber;
 use wiring::Phy;
+use wiring::PhyId;
 ghost use mathlib.Core.Path.{_≡_};
 ghost use mathlib.Core.List.{[], _∷_};
 ghost use Prim.Native.Nat.{_≤_};

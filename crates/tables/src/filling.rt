@@ -1,6 +1,6 @@
 // One table, in words of its own: the own lists of its levels, and zeros after them.
-use frames::ExpanderNumber;
-use frames::PhyId;
+use wiring::ExpanderNumber;
+use wiring::PhyId;
 ghost use mathlib.Core.Path.{_≡_};
 ghost use mathlib.Core.List.{_++_, flatMap};
 ghost use Prim.Native.Nat.{_+_, _-_, _≤_};

@@ -14,12 +14,14 @@ pub use all_tables::words_before;
 pub use calls::give_tables;
 pub use calls::judge;
 pub use calls::judge_rows;
-use frames::Refusal;
 
 // What the layer above uses of the layers below.
 pub use wiring::Check;
 pub use wiring::DomainRead;
+pub use wiring::ExpanderNumber;
 pub use wiring::Phy;
+pub use wiring::PhyId;
+pub use wiring::Refusal;
 pub use wiring::expander_address;
 pub use wiring::expander_count;
 pub use wiring::index_count;

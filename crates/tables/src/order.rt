@@ -1,7 +1,7 @@
 // The order of a phy: the expanders of its levels, level by level. They stand in a queue: each is followed in
 // turn, and the expanders below it are added behind those that wait.
 use crate::wide;
-use frames::ExpanderNumber;
+use wiring::ExpanderNumber;
 use wiring::Phy;
 ghost use mathlib.Core.List.{[], _∷_, _++_};
 ghost use Prim.Native.Nat.{_+_, _≤_};

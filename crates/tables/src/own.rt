@@ -1,8 +1,8 @@
 // The own list of each expander: on a domain past causes 1 to 13, the words that it gives to every level
 // list in whose levels it is.
-use frames::ExpanderNumber;
-use frames::PhyId;
+use wiring::ExpanderNumber;
 use wiring::Phy;
+use wiring::PhyId;
 ghost use mathlib.Core.Path.{_≡_};
 ghost use mathlib.Core.Bool.{cond};
 ghost use mathlib.Core.List.{[], _∷_, _++_};

@@ -1,8 +1,8 @@
 // Phys at which the levels go on, and those of one wide link: a lower phy of the same link for each phy, so
 // that judging goes through the levels of a link once.
-use frames::ExpanderNumber;
-use frames::PhyId;
+use wiring::ExpanderNumber;
 use wiring::Phy;
+use wiring::PhyId;
 ghost use mathlib.Core.Path.{_≡_};
 ghost use mathlib.Core.Bool.{_&&_};
 ghost use Prim.Native.Nat.{_<_};

@@ -6,8 +6,7 @@ use mathlib.Core.Bool.{Bool, not, _||_, _&&_}
 use mathlib.Core.List.{List}
 use lib.ListN.{length}
 use lib.Dec.{T, eqb, ltb, leb, eqb→eq, ltb→lt, lt→ltb, leb→le, le→leb, not-T, T-not}
-use Rattle.frames.specs.declared.Refusal.{Refusal}
-use Rattle.tables.specs.Wiring.{refused, good, unless, refusal, Domain, phyAt, toEnd, limits, domainRead}
+use Rattle.tables.specs.Wiring.{Refusal, refused, good, unless, refusal, Domain, phyAt, toEnd, limits, domainRead}
 use Rattle.tables.specs.Tables.{needed}
 use Rattle.tables.proofs.Wiring.{tests, or-cases, or-left, or-right, eq→eqb, unless-good, good-unless}
 use Rattle.tables.specs.Judge.{judgedDomain}

@@ -1,10 +1,10 @@
 // The trace call.
 use crate::TraceAnswer;
 use crate::requests;
-use frames::ExpanderNumber;
-use frames::PhyId;
 use tables::Check;
 use tables::DomainRead;
+use tables::ExpanderNumber;
+use tables::PhyId;
 ghost use lib.ListN.{length};
 ghost use Rattle.tracing.specs.Trace.{request, traceCall, judgedRequest, TraceDone};
 ghost use Rattle.tables.specs.Prepared.{Lawful};

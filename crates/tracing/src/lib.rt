@@ -6,9 +6,9 @@ mod stretches;
 mod walks;
 
 pub use calls::trace;
-use frames::ExpanderNumber;
-use frames::PhyId;
-use frames::Refusal;
+use tables::ExpanderNumber;
+use tables::PhyId;
+use tables::Refusal;
 
 // What an expander does with a request: arrived here; arrived at the end device of a phy; BAD
 // DESTINATION; NO DESTINATION; on to an expander with its arrival phy.

@@ -1,10 +1,10 @@
 // Requests: causes 15 to 17, and the walk.
 use crate::TraceAnswer;
 use crate::walks::walk;
-use frames::ExpanderNumber;
-use frames::PhyId;
-use frames::Refusal;
 use tables::Check;
+use tables::ExpanderNumber;
+use tables::PhyId;
+use tables::Refusal;
 ghost use mathlib.Core.Path.{_≡_};
 ghost use lib.ListN.{length};
 ghost use Rattle.tables.specs.Wiring.{domainIn};

@@ -2,9 +2,9 @@
 use crate::Step;
 use crate::stretches::lists;
 use crate::stretches::size_at;
-use frames::ExpanderNumber;
-use frames::PhyId;
+use tables::ExpanderNumber;
 use tables::Phy;
+use tables::PhyId;
 use tables::words_before;
 ghost use mathlib.Core.Path.{_≡_};
 ghost use mathlib.Core.Bool.{cond, _&&_};

@@ -1,6 +1,6 @@
 // Where the table of a phy lies in the lent words: its own stretch.
-use frames::ExpanderNumber;
-use frames::PhyId;
+use tables::ExpanderNumber;
+use tables::PhyId;
 ghost use mathlib.Core.Path.{_≡_};
 ghost use Prim.Native.Nat.{_<_};
 ghost use lib.ListN.{take, drop};

@@ -13,8 +13,6 @@ mod units;
 mod view;
 mod wiring_call;
 
-use frames::PhyId;
-use frames::Refusal;
 pub use links::check_domain;
 pub use rows::read_domain;
 pub use view::configurable_bit;
@@ -29,6 +27,12 @@ pub use view::phy_count;
 pub use view::phy_far;
 pub use view::phy_type;
 pub use wiring_call::wire;
+
+// What the layers above use of frames.
+pub use frames::ExpanderNumber;
+pub use frames::PhyId;
+pub use frames::Refusal;
+
 // The limits of cause 3: the most expanders of a domain, and the most phys of an expander.
 pub struct Limits {
     pub expanders: u8,
