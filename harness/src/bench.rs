@@ -45,9 +45,15 @@ pub fn run() {
         },
         Case {
             name: "64 x 128, star, spread addresses",
-            file: spread_drives(full_star(DIRECT)),
+            file: with_drives(full_star(DIRECT), spread),
             start: (1, 127),
             address: spread(d(63, 127)),
+        },
+        Case {
+            name: "64 x 128, star, one key",
+            file: with_drives(full_star(DIRECT), one_key),
+            start: (1, 127),
+            address: one_key(d(63, 127)),
         },
         Case {
             name: "64 x 128, chain of 64-wide links",
@@ -254,13 +260,13 @@ fn chain() -> Vec<u8> {
 
 /// A file of expanders with 128 phys each, with other addresses of its end
 /// devices.
-fn spread_drives(mut file: Vec<u8>) -> Vec<u8> {
+fn with_drives(mut file: Vec<u8>, other: fn(u64) -> u64) -> Vec<u8> {
     for unit in file[2..].chunks_mut(36 + 128 * 52) {
         for phy in unit[36..].chunks_mut(52) {
             if phy[12] >> 4 & 7 == 1 {
                 let mut address = [0; 8];
                 address.copy_from_slice(&phy[24..32]);
-                let address = spread(u64::from_be_bytes(address));
+                let address = other(u64::from_be_bytes(address));
                 phy[24..32].copy_from_slice(&address.to_be_bytes());
             }
         }
@@ -273,4 +279,10 @@ fn spread(address: u64) -> u64 {
     let mixed = (address ^ address >> 30).wrapping_mul(0xbf58_476d_1ce4_e5b9);
     let mixed = (mixed ^ mixed >> 27).wrapping_mul(0x94d0_49bb_1331_11eb);
     mixed ^ mixed >> 31
+}
+
+/// Another address for each, all with one key in the archive's search trees and
+/// the low 39 bits in common, so that a search takes as many steps as it can.
+fn one_key(address: u64) -> u64 {
+    0x6000_0000_0000_0001 | (address & 0x3fff) << 39
 }

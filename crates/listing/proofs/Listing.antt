@@ -5,20 +5,25 @@ use mathlib.Core.Bool.{Bool, true, false, cond}
 use mathlib.Core.List.{List, [], _∷_, _++_, flatMap, append-assoc}
 use native.Mathlib.Omega.{arith}
 use lib.ListN.{length, getD, take, drop, length-append}
-use Rattle.wiring.specs.Frames.{Result, good}
+use Rattle.wiring.specs.Frames.{Result, good, then}
 use Rattle.wiring.specs.declared.DomainRead.the-variants.{Expanders}
 use Rattle.wiring.specs.Lists.{keep}
 use Rattle.wiring.specs.Domain.{Domain, expanderAt, phyAt, routes}
 use Rattle.wiring.specs.Causes.{Place, places}
 use Rattle.wiring.specs.Rows.{domainIn, RowsRead}
+use Rattle.wiring.specs.File.{limits}
+use Rattle.wiring.specs.Addresses.{IndexRoom}
 use Rattle.wiring.proofs.Results.{good-one, then-good}
+use Rattle.wiring.proofs.Read.{read-good}
 use Rattle.wiring.proofs.Opening.{opened}
 use Rattle.tables.specs.Tables.{table, tablePlaces, tables, size, needed}
 use Rattle.tables.specs.Filling.{withTables}
-use Rattle.tables.specs.Judge.{judged, tableCall, Counted, countsIn, tablesAfter, TablesDone}
+use Rattle.tables.specs.Judge.{judged, tablesFor, tableCall, Counted, countsIn, tablesAfter}
+use Rattle.tables.specs.Prepared.{judgedIn, OwnDone}
 use Rattle.tables.specs.declared.TablesGiven.the-variants.{Counts}
 use Rattle.tables.proofs.Tables.{table-length, tables-length}
 use Rattle.tables.proofs.Given.{judged-file, tableCall-iff}
+use Rattle.tables.proofs.Lawful.{judged-own, call-done}
 use Rattle.listing.specs.Text.{lineOf, totalsOf}
 use Rattle.listing.specs.Lines.{Entry, tableEntries, placeEntries, wordLines, linesFrom, cursor, tableLines, textOf, chunksFrom, entryLines, listingOf}
 use Rattle.listing.proofs.Chunks.{all-chunks}
@@ -96,17 +101,21 @@ pub record Listed (file : List ℕ) (t w : ℕ) (rows words : List ℕ) : Type 0
   pub text : textOf (linesFrom (domainIn rows) words (cursor 0 0 0 0)) ++ totalsOf t w ≡ listingOf domain
   pub chunks : (n : ℕ) → needed domain ≤ n → chunksFrom (domainIn rows) words (cursor 0 0 0 0) n ++ totalsOf t w ≡ listingOf domain
 
--- from what `read_domain` and `give_tables` promise
-pub listed : (file before after lent words : List ℕ) (n t w : ℕ) → length before ≡ 16512 → length lent ≡ 8192
-    → RowsRead file (Expanders n) before after → TablesDone (tableCall file (length lent)) (Counts t w) lent words
+-- from what `read_domain` promises, and `give_rows` over the rows that it wrote
+pub listed : (file before after first low lent words : List ℕ) (n t w : ℕ) → length before ≡ 16512 → length first ≡ 8256 → length low ≡ 8192
+    → RowsRead file (Expanders n) before after
+    → OwnDone (then (judgedIn (length first) (length low) (domainIn (take (258 * n) after))) (tablesFor (length lent))) (Counts t w) lent words
     → Listed file t w (take (258 * n) after) words
 unfolding listingOf
-listed file before after lent words n t w eb el r g =
+listed file before after first low lent words n t w eb ef el r done =
+    let o = opened file before after (λ x q. let few = read-good limits file x q .few in omega arith) (Expanders n) r in
+    let here : Domain = domainIn (take (258 * n) after) in
+    let room : IndexRoom here first low = let few = o .1 in record { slots = omega (arith, few .0, few .1); phys = omega (arith, few .0, few .1) } in
+    let g = call-done file lent words here (judgedIn (length first) (length low) here) (Counts t w) (o .0) (judged-own file first low here (o .0) room) done in
     let a = then-good (tableCall file (length lent)) countsIn (record { tableCount = t; wordCount = w }) (sym (g .answers)) in
     let d : Domain = a .0 in
     let c = tableCall-iff file d (length lent) .0 (a .1) in
-    let o = opened file before after eb (Expanders n) r in
-    let e : domainIn (take (258 * n) after) ≡ d = good-one _ _ (sym (o .0) ∙ judged-file file d .0 (c .0) .0) in
+    let e : here ≡ d = good-one _ _ (sym (o .0) ∙ judged-file file d .0 (c .0) .0) in
     let f = good-one _ _ (a .2) in
     let q : words ≡ tables d ++ drop (needed d) lent = g .words ∙ ap (λ (x : Result Domain). tablesAfter x lent) (a .1) in
     let l : linesFrom (domainIn (take (258 * n) after)) words (cursor 0 0 0 0) ≡ entryLines d =

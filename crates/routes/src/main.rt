@@ -1,5 +1,6 @@
 // Reads a domain file on standard input and lists the entries of its routing tables. Where reading or
 // writing fails, one line on standard error says so.
+use frames::Refusal;
 use tables::TablesGiven;
 use wiring::DomainRead;
 ghost use Rattle.io.specs.Counts.{Counts};
@@ -61,38 +62,49 @@ fn print_lines(rows: &[u64], words: &[u64]) -> bool {
 }
 
 // Writes the lines of all entries, and the totals, and answers whether all were written.
-fn print_tables(file: &[u8], words: &[u64], tables: u64, entries: u64) -> bool {
-    let mut rows = [0u64; 16512];
-    let read = wiring::read_domain(file, &mut rows[..]);
-    match read {
-        DomainRead::Refused(_) => true,
-        DomainRead::Expanders(n) => {
-            let e = 258 * (n as usize);
-            if !print_lines(&rows[..e], words) {
-                return false;
-            }
-            let mut line = [0u8; 80];
-            let end = listing::totals(&mut line, tables, entries);
-            io::write_all(1, &line[..end])
-        }
+fn print_tables(rows: &[u64], words: &[u64], tables: u64, entries: u64) -> bool {
+    if !print_lines(rows, words) {
+        return false;
+    }
+    let mut line = [0u8; 80];
+    let end = listing::totals(&mut line, tables, entries);
+    io::write_all(1, &line[..end])
+}
+
+// Writes the refusal line, and answers whether it was written.
+fn print_refusal(r: Refusal) -> bool {
+    let mut line = [0u8; 80];
+    let end = listing::refused(&mut line, r);
+    io::write_all(1, &line[..end])
+}
+
+// Writes the listing of a domain in rows, or why there is none, and answers whether all was written.
+fn print_rows(rows: &[u64]) -> bool {
+    let mut first = [0u16; 8256];
+    let mut low = [0u8; 8192];
+    let mut words = [0u64; 8192];
+    let given = tables::give_rows(rows, &mut first[..], &mut low[..], &mut words[..]);
+    match given {
+        TablesGiven::Refused(r) => print_refusal(r),
+        TablesGiven::Counts(t, w) => print_tables(rows, &words[..], t as u64, w as u64),
     }
 }
 
-// Writes the listing of a file, or why there is none, and answers whether all was written.
+// The same of a file, which is read once.
 fn print_listing(file: &[u8]) -> bool {
-    let mut line = [0u8; 80];
     if file.len() > 65536 {
+        let mut line = [0u8; 80];
         let end = listing::too_long(&mut line);
         return io::write_all(1, &line[..end]);
     }
-    let mut words = [0u64; 8192];
-    let given = tables::give_tables(file, &mut words[..]);
-    match given {
-        TablesGiven::Refused(r) => {
-            let end = listing::refused(&mut line, r);
-            io::write_all(1, &line[..end])
+    let mut rows = [0u64; 16512];
+    let read = wiring::read_domain(file, &mut rows[..]);
+    match read {
+        DomainRead::Refused(r) => print_refusal(r),
+        DomainRead::Expanders(n) => {
+            let e = 258 * (n as usize);
+            print_rows(&rows[..e])
         }
-        TablesGiven::Counts(t, w) => print_tables(file, &words[..], t as u64, w as u64),
     }
 }
 

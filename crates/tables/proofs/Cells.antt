@@ -1,5 +1,5 @@
 -- Lists in words, each with its length before it, one every `stride` words: putting them one after the other, and reading them.
-use Prim.Native.Nat.{ℕ, zero, suc, _+_, _*_, _≤_, _<_}
+use Prim.Native.Nat.{ℕ, zero, suc, _+_, _-_, _*_, _≤_, _<_}
 use mathlib.Core.Path.{_≡_, sym, _∙_, ap, subst}
 use mathlib.Core.Logic.{by-cases}
 use mathlib.Core.List.{List, [], _∷_, _++_}
@@ -94,3 +94,7 @@ module _ (stride : ℕ) (list : ℕ → List ℕ) where
         let w : List ℕ = drop (stride * i) words in
         let e : length (take (suc k) w) ≡ suc k = ap length (cells i h) in
         omega (arith, length-take (suc k) w, length-drop (stride * i) words)
+
+-- the words of a cell after its count
+pub part-long : (stride a : ℕ) (l : List ℕ) → a + stride ≤ length l → length (take (a + stride - (a + 1)) (drop (a + 1) l)) ≡ a + stride - (a + 1)
+part-long stride a l h = length-take-le (a + stride - (a + 1)) (drop (a + 1) l) (omega (arith, length-drop (a + 1) l))

@@ -5,26 +5,17 @@ use mathlib.Core.List.{List, _++_, flatMap}
 use native.Mathlib.Omega.{arith}
 use lib.ListN.{length, take, replicate, length-append, length-replicate, replicate-append-replicate}
 use lib.Seq.{take-at, take-append-add, length-take-le}
-use Rattle.wiring.specs.Domain.{Domain, expanderAt}
-use Rattle.tables.specs.Tables.{levelList, table}
+use Rattle.wiring.specs.Domain.{Domain}
 use Rattle.tables.specs.Own.{own}
-use Rattle.tables.specs.Filling.{Grown, TableFilled}
-use Rattle.tables.specs.Prepared.{orderList, FilledFrom}
+use Rattle.tables.specs.Filling.{Grown}
+use Rattle.tables.specs.Prepared.{orderList, filledTo, FilledFrom}
 use Rattle.tables.proofs.Growing.{grown-length}
 
--- the list and zeros after it, n words
-abbrev pub filled : ℕ → List ℕ → List ℕ
-filled n l = take n (l ++ replicate n 0)
-
-pub length-filled : (n : ℕ) (l : List ℕ) → length (filled n l) ≡ n
+pub length-filled : (n : ℕ) (l : List ℕ) → length (filledTo n l) ≡ n
 length-filled n l = length-take-le n (l ++ replicate n 0) (omega (arith, length-append l (replicate n 0), length-replicate {A = ℕ} n 0))
 
-pub length-table : (d : Domain) (i p : ℕ) → length (table d i p) ≡ expanderAt d i .indexes
-unfolding table
-length-table d i p = length-filled (expanderAt d i .indexes) (levelList d i p)
-
 -- a list that has room, and as many zeros as there is room for
-zeros-after : (l : List ℕ) (m n : ℕ) → length l + m ≡ n → filled n l ≡ l ++ replicate m 0
+zeros-after : (l : List ℕ) (m n : ℕ) → length l + m ≡ n → filledTo n l ≡ l ++ replicate m 0
 zeros-after l m n q =
     let o : ℕ = 0 in
     let u : n ≡ m + length l = omega arith in
@@ -36,24 +27,18 @@ zeros-after l m n q =
 
 -- the own lists of its order, and zeros after them
 module _ (d : Domain) (x p : ℕ) {lists order : List ℕ} {room : ℕ} (f : FilledFrom d x p lists order room) where
-  from-own : flatMap (own d) order ≡ levelList d x p
+  from-order : flatMap (own d) order ≡ orderList d x p
   unfolding orderList
-  from-own = ap (flatMap (own d)) (f .ordered) ∙ sym (f .same x p)
+  from-order = ap (flatMap (own d)) (f .ordered)
 
   pub filled-room : length (flatMap (own d) order) ≤ room
-  filled-room = omega (arith, ap length from-own, f .fits)
+  filled-room = omega (arith, ap length from-order, f .fits)
 
-  pub table-filled : {part after end : List ℕ} {r : ℕ} → Grown part after r (flatMap (own d) order)
-      → end ≡ take r after ++ replicate (length after - r) 0 → room ≡ length part → TableFilled d x p part end r
-  table-filled {part} {after} {end} {r} g q e =
-      let l : List ℕ = levelList d x p in
+  pub order-filled : {part after end : List ℕ} {r : ℕ} → Grown part after r (flatMap (own d) order)
+      → end ≡ take r after ++ replicate (length after - r) 0 → room ≡ length part → end ≡ filledTo (length part) (orderList d x p)
+  order-filled {part} {after} {end} {r} g q e =
+      let l : List ℕ = orderList d x p in
       let m : ℕ = length after - r in
-      let w : take r after ≡ l = g .whole ∙ from-own in
-      let s = g .same in
-      let h = g .fits in
-      let z = f .fits in
-      let n : r ≡ length l = grown-length g ∙ ap length from-own in
-      record {
-        words = q ∙ ap (λ (y : List ℕ). y ++ replicate m 0) w ∙ sym (zeros-after l m (length part) (omega arith));
-        count = omega arith;
-      }
+      let n : r ≡ length l = grown-length g ∙ ap length from-order in
+      q ∙ ap (λ (y : List ℕ). y ++ replicate m 0) (g .whole ∙ from-order)
+      ∙ sym (zeros-after l m (length part) (omega (arith, g .same, g .fits)))

@@ -1,17 +1,26 @@
 -- The outcomes of the judging call and of the table call.
 use Prim.Native.Nat.{ℕ, _≤_, _<_}
 use mathlib.Core.Path.{_≡_, refl, _∙_, ap}
+use mathlib.Core.Logic.{by-cases}
 use mathlib.Core.List.{List, _++_}
+use native.Mathlib.Omega.{arith}
+use native.Mathlib.Decide.{decLt}
 use lib.ListN.{length, drop}
+use lib.Dec.{T, lt→ltb}
 use borrow.Author.Tests.{le-leb, lt-leb}
 use Rattle.wiring.specs.Frames.{Refusal, Result, refused, good, then, refusal}
-use Rattle.wiring.specs.Domain.{Domain}
+use Rattle.wiring.specs.Domain.{Domain, expanderAt}
 use Rattle.wiring.specs.File.{limits, domainRead}
 use Rattle.wiring.specs.Causes.{firstOf, wiredDomain}
 use Rattle.wiring.specs.Links.{linkedDomain, checkedDomain}
-use Rattle.tables.specs.Tables.{tablePlaces, tables, needed}
+use Rattle.wiring.specs.Checks.{checkedIn}
+use Rattle.wiring.proofs.Members.{tests}
+use Rattle.wiring.proofs.Results.{then-good}
+use Rattle.wiring.proofs.Wires.{routes-range}
+use Rattle.wiring.proofs.Accepted.{firstOf-good}
+use Rattle.tables.specs.Tables.{tablePlaces, needed}
+use Rattle.tables.specs.Prepared.{orderList, overOwn, judgedIn, ownTables, OwnDone, Fillable}
 use Rattle.tables.specs.Judge.{overlong, judgedDomain, judged, expandersIn, tablesFor, tableCall, TablesDone}
-use Rattle.tables.specs.declared.TablesGiven.{TablesGiven}
 use Rattle.tables.specs.declared.TablesGiven.the-variants.{Refused, Counts}
 
 then-then : {A B C : Type 0} (x : Result A) (y : Result B) (z : Result C) → then x (λ _. then y (λ _. z)) ≡ then (then x (λ _. y)) (λ _. z)
@@ -23,6 +32,24 @@ pub judge-checked : (d : Domain) (x : Result Domain) → checkedDomain d ≡ x �
 unfolding judgedDomain checkedDomain
 judge-checked d x e = then-then (wiredDomain d) (linkedDomain d) (firstOf 14 (overlong d) d) ∙ ap (λ y. then y (λ _. firstOf 14 (overlong d) d)) e
 
+-- the same by own lists, with room for so many entries
+module _ (first low : ℕ) (d : Domain) where
+  pub own-checked : (x : Result Domain) → checkedIn first low d ≡ x → judgedIn first low d ≡ then x (λ _. firstOf 14 (overOwn d) d)
+  unfolding judgedIn
+  own-checked x e = ap (λ (y : Result Domain). then y (λ _. firstOf 14 (overOwn d) d)) e
+
+  over-range : (i p : ℕ) → T (overOwn d i p) → p < length (expanderAt d i .phys)
+  unfolding overOwn
+  over-range i p t = routes-range d 2 i p (search tests) (omega arith)
+
+  -- past them, tables can be filled from own lists
+  pub fillable : judgedIn first low d ≡ good d → Fillable d
+  unfolding judgedIn overOwn
+  fillable j =
+      let a = then-good (checkedIn first low d) _ d j in
+      let c = firstOf-good 14 (overOwn d) d d over-range (a .2) in
+      λ i p t. by-cases (decLt (expanderAt d i .indexes) (length (orderList d i p))) (λ h. absurd (c .1 i p (search (tests, lt→ltb)))) (λ h. omega arith)
+
 -- the judging call
 pub judge-refused : (file : List ℕ) (r : Refusal) → domainRead limits file ≡ refused r → refused r ≡ then (judged file) expandersIn
 judge-refused file r e = rw e
@@ -30,25 +57,20 @@ judge-refused file r e = rw e
 pub judge-by : (file : List ℕ) (d : Domain) (x : Result Domain) → domainRead limits file ≡ good d → judgedDomain d ≡ x → then x expandersIn ≡ then (judged file) expandersIn
 judge-by file d x e q = rw (e, q)
 
--- the table call past causes 1 to 6
-pub tables-refused : (room : ℕ) (before : List ℕ) (r : Refusal) (x : Result Domain) → x ≡ refused r → TablesDone (then x (tablesFor room)) (Refused r) before before
-tables-refused room before r x e = rw e (record { answers = refl; words = refl })
+-- tables by own lists past causes 1 to 6
+pub own-refused : (room : ℕ) (before : List ℕ) (r : Refusal) (x : Result Domain) → x ≡ refused r → OwnDone (then x (tablesFor room)) (Refused r) before before
+own-refused room before r x e = rw e (record { answers = refl; words = refl })
 
 module _ (d : Domain) (room : ℕ) (before : List ℕ) (x : Result Domain) (e : x ≡ good d) where
-  pub tables-short : room < needed d → TablesDone (then x (tablesFor room)) (Refused (refusal 16 0 0)) before before
-  tables-short h = rw (e, lt-leb (needed d) room h) (record { answers = refl; words = refl })
+  pub own-short : room < needed d → OwnDone (then x (tablesFor room)) (Refused (refusal 16 0 0)) before before
+  own-short h = rw (e, lt-leb (needed d) room h) (record { answers = refl; words = refl })
 
-  pub tables-done : (t w : ℕ) (after : List ℕ) → needed d ≤ room → t ≡ length (tablePlaces d) → w ≡ needed d → after ≡ tables d ++ drop (needed d) before
-      → TablesDone (then x (tablesFor room)) (Counts t w) before after
-  tables-done t w after h p q s =
+  pub own-done : (t w : ℕ) (after : List ℕ) → needed d ≤ room → t ≡ length (tablePlaces d) → w ≡ needed d → after ≡ ownTables d ++ drop (needed d) before
+      → OwnDone (then x (tablesFor room)) (Counts t w) before after
+  own-done t w after h p q s =
       rw (e, le-leb (needed d) room h) (record { answers = rw (p, q) refl; words = s })
 
 -- the table call on a file
 pub call-refused : (file before : List ℕ) (r : Refusal) → domainRead limits file ≡ refused r → TablesDone (tableCall file (length before)) (Refused r) before before
 unfolding tableCall
 call-refused file before r e = rw e (record { answers = refl; words = refl })
-
-pub call-done : (file before after : List ℕ) (d : Domain) (answer : TablesGiven) → domainRead limits file ≡ good d
-    → TablesDone (then (judgedDomain d) (tablesFor (length before))) answer before after → TablesDone (tableCall file (length before)) answer before after
-unfolding tableCall
-call-done file before after d answer e w = rw e w

@@ -1,10 +1,11 @@
--- Cause 14 by own lists is cause 14, on every domain that is read.
+-- Own lists one after the other are the level lists, on every domain that is read and passes causes 7 to 13: cause 14
+-- and the tables by own lists are cause 14 and the tables.
 use Prim.Native.Nat.{ℕ, _≤_}
-use mathlib.Core.Path.{_≡_, refl, sym, _∙_, ap}
+use mathlib.Core.Path.{_≡_, refl, sym, _∙_, ap, subst}
 use mathlib.Core.Bool.{Bool, cond, _&&_}
-use mathlib.Core.List.{List, [], _∷_, flatMap}
+use mathlib.Core.List.{List, [], _∷_, _++_, flatMap}
 use native.Mathlib.Omega.{arith}
-use lib.ListN.{length}
+use lib.ListN.{length, drop}
 use lib.Dec.{ltb}
 use Rattle.wiring.specs.Frames.{Result, refused, good, then, refusal}
 use Rattle.wiring.specs.declared.Limits.{Limits}
@@ -14,17 +15,25 @@ use Rattle.wiring.specs.File.{limits, domainRead}
 use Rattle.wiring.specs.Causes.{Place, places, firstIn, firstOf, wiredDomain}
 use Rattle.wiring.specs.Links.{linkedDomain, checkedDomain}
 use Rattle.wiring.specs.Tested.{Linked}
+use Rattle.wiring.specs.Addresses.{IndexRoom}
 use Rattle.wiring.proofs.Results.{then-good, good-then}
 use Rattle.wiring.proofs.Wires.{Wired}
 use Rattle.wiring.proofs.Read.{read-good}
 use Rattle.wiring.proofs.Accepted.{wired-same, wired-iff, linked-iff, linked-same}
-use Rattle.tables.specs.Judge.{overlong, judgedDomain}
+use Rattle.wiring.proofs.Calls.{checked-room}
+use Rattle.tables.specs.declared.TablesGiven.{TablesGiven}
+use Rattle.tables.specs.Tables.{levelList, table, tablePlaces, tables, needed}
+use Rattle.tables.specs.Judge.{overlong, judgedDomain, judged, tablesFor, tableCall, tablesAfter, TablesDone}
 use Rattle.tables.specs.Own.{own, ownList}
-use Rattle.tables.specs.Prepared.{orderList, overOwn, judgedOwn, Same, Lawful, Fillable}
-use Rattle.tables.proofs.Given.{judged-routable}
+use Rattle.tables.specs.Prepared.{orderList, overOwn, filledTo, ownTablesOf, ownTables, judgedIn, ownAfter, OwnDone}
+use Rattle.tables.proofs.Given.{judged-wires, tableCall-iff}
 use Rattle.tables.proofs.Law.{law}
 use Rattle.tables.proofs.Orders.{order-levels}
-use Rattle.tables.proofs.Judging.{judge-checked}
+use Rattle.tables.proofs.Judging.{judge-checked, own-checked}
+
+-- level lists are own lists one after the other
+abbrev Same : Domain → Type 0
+Same d = (x p : ℕ) → levelList d x p ≡ orderList d x p
 
 -- a domain past causes 7 to 13: the same domain, past 7 to 10 and past 11 to 13
 checked-passes : (d e : Domain) → checkedDomain d ≡ good e → (d ≡ e) × (wiredDomain d ≡ good d) × (linkedDomain d ≡ good d)
@@ -39,12 +48,15 @@ law-order : (d : Domain) → Wired d → Linked d → Same d
 unfolding ownList orderList
 law-order d w r x p = law d w r x p ∙ ap (flatMap (own d)) (sym (order-levels d w r x p))
 
--- it holds of a domain that is read, and so of one that was read from a file
-pub read-lawful : (most : Limits) (d : Domain) → Read most d → most .phys ≤ 255 → Lawful d
+-- it holds of a domain that is read and passes causes 7 to 13, and so of one that was read from a file
+pub read-lawful : (most : Limits) (d : Domain) → Read most d → most .phys ≤ 255 → checkedDomain d ≡ good d → Same d
 read-lawful most d g m f = let p = checked-passes d d f in law-order d (wired-iff most d g m .0 (p .1)) (linked-iff d .0 (p .2))
 
-pub lawful : (file : List ℕ) (d : Domain) → domainRead limits file ≡ good d → Lawful d
+lawful : (file : List ℕ) (d : Domain) → domainRead limits file ≡ good d → checkedDomain d ≡ good d → Same d
 lawful file d e = read-lawful limits d (read-good limits file d e) (omega arith)
+
+judged-same : (file : List ℕ) (d : Domain) → judged file ≡ good d → Same d
+judged-same file d j = let w = judged-wires file d j in law-order d (w .0) (w .1 .linked)
 
 -- two tests that agree have the same lowest place
 first-same : (k : ℕ) (f g : ℕ → ℕ → Bool) (qs : List Place) (d : Domain) → ((i p : ℕ) → f i p ≡ g i p) → firstIn k f qs d ≡ firstIn k g qs d
@@ -58,24 +70,39 @@ over-same : (d : Domain) → Same d → (i p : ℕ) → overOwn d i p ≡ overlo
 unfolding overOwn overlong
 over-same d s i p = ap (λ (l : List ℕ). routes 2 (phyAt d i p) && ltb (expanderAt d i .indexes) (length l)) (sym (s i p))
 
--- causes 7 to 14 of a domain, 14 by own lists
-pub own-checked : (d : Domain) (x : Result Domain) → checkedDomain d ≡ x → judgedOwn d ≡ then x (λ _. firstOf 14 (overOwn d) d)
-unfolding judgedOwn
-own-checked d x e = ap (λ (y : Result Domain). then y (λ _. firstOf 14 (overOwn d) d)) e
-
-pub judged-own : (d : Domain) → Lawful d → judgedOwn d ≡ judgedDomain d
-judged-own d l = go (checkedDomain d) refl
+-- causes 7 to 14 by own lists are causes 7 to 14, with room for the entries
+pub judged-own : (file first low : List ℕ) (d : Domain) → domainRead limits file ≡ good d → IndexRoom d first low
+    → judgedIn (length first) (length low) d ≡ judgedDomain d
+judged-own file first low d e r = go (checkedDomain d) refl
   where
-    go : (x : Result Domain) → checkedDomain d ≡ x → judgedOwn d ≡ judgedDomain d
-    go (refused r) e = own-checked d (refused r) e ∙ sym (judge-checked d (refused r) e)
-    go (good a) e =
-        let same = l (e ∙ ap good (sym (checked-passes d a e .0))) in
-        own-checked d (good a) e ∙ first-same 14 (overOwn d) (overlong d) (places d) d (over-same d same) ∙ sym (judge-checked d (good a) e)
+    own : (x : Result Domain) → checkedDomain d ≡ x → judgedIn (length first) (length low) d ≡ then x (λ _. firstOf 14 (overOwn d) d)
+    own x q = own-checked (length first) (length low) d x (checked-room d (length first) (length low) (r .slots) (r .phys) ∙ q)
 
--- an accepted domain's tables can be filled from own lists
-pub fillable : (d : Domain) → Lawful d → judgedDomain d ≡ good d → Fillable d
-unfolding judgedDomain checkedDomain
-fillable d l j =
-    let r = judged-routable d d j in
-    let c : checkedDomain d ≡ good d = good-then (wiredDomain d) (λ _. linkedDomain d) d d (r .1) (linked-iff d .1 (r .2 .linked)) in
-    record { same = l c; fits = r .2 .fits }
+    go : (x : Result Domain) → checkedDomain d ≡ x → judgedIn (length first) (length low) d ≡ judgedDomain d
+    go (refused s) q = own (refused s) q ∙ sym (judge-checked d (refused s) q)
+    go (good a) q =
+        let same = lawful file d e (q ∙ ap good (sym (checked-passes d a q .0))) in
+        own (good a) q ∙ first-same 14 (overOwn d) (overlong d) (places d) d (over-same d same) ∙ sym (judge-checked d (good a) q)
+
+-- tables by own lists are the tables
+tables-same : (d : Domain) → Same d → ownTables d ≡ tables d
+unfolding ownTablesOf tables tablePlaces table flatMap
+tables-same d s = go (tablePlaces d)
+  where
+    go : (qs : List Place) → flatMap (λ q. filledTo (expanderAt d (q .expander) .indexes) (orderList d (q .expander) (q .phy))) qs
+        ≡ flatMap (λ q. filledTo (expanderAt d (q .expander) .indexes) (levelList d (q .expander) (q .phy))) qs
+    go [] = refl
+    go (q ∷ qs) = rw (s (q .expander) (q .phy), go qs)
+
+-- the table call on a file, by own lists
+pub call-done : (file before after : List ℕ) (d : Domain) (x : Result Domain) (answer : TablesGiven) → domainRead limits file ≡ good d → x ≡ judgedDomain d
+    → OwnDone (then x (tablesFor (length before))) answer before after → TablesDone (tableCall file (length before)) answer before after
+unfolding tableCall
+call-done file before after d x answer e q o =
+    let c : then x (tablesFor (length before)) ≡ tableCall file (length before) = rw (e, q) in
+    let w = subst (λ y. OwnDone y answer before after) c o in
+    record { answers = w .answers; words = w .words ∙ go (tableCall file (length before)) refl }
+  where
+    go : (y : Result Domain) → tableCall file (length before) ≡ y → ownAfter y before ≡ tablesAfter y before
+    go (refused r) h = refl
+    go (good a) h = ap (λ (l : List ℕ). l ++ drop (needed a) before) (tables-same a (judged-same file a (tableCall-iff file a (length before) .0 h .0)))

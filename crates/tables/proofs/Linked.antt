@@ -1,11 +1,19 @@
 -- Phys of one link.
-use mathlib.Core.Path.{_≡_, sym, _∙_, ap}
+use Prim.Native.Nat.{ℕ}
+use mathlib.Core.List.{List}
+use mathlib.Core.Path.{_≡_, sym, _∙_, ap, subst}
 use mathlib.Core.Bool.{Bool, true, _&&_}
+use native.Mathlib.Omega.{arith}
 use lib.Dec.{T, eqb}
 use Rattle.wiring.specs.declared.Phy.{Phy}
-use Rattle.wiring.specs.Domain.{addressOf, routes, toExpander}
-use Rattle.wiring.proofs.Members.{was-true}
-use Rattle.tables.specs.Prepared.{oneLink}
+use Rattle.wiring.specs.Domain.{Domain, phyAt, addressOf, routes, toExpander, numberOf}
+use Rattle.wiring.specs.Rows.{domainIn}
+use Rattle.wiring.specs.Addresses.{farNumber}
+use Rattle.wiring.proofs.Members.{and-left, was-true}
+use Rattle.wiring.proofs.Wires.{phy-range}
+use Rattle.wiring.proofs.EndDevices.{short-in}
+use Rattle.wiring.proofs.Entries.{far-told}
+use Rattle.tables.specs.Prepared.{oneLink, PhyIndexed}
 
 pub linked-by : (φ ψ : Phy) {a b : Bool} → (toExpander φ && routes 2 φ) ≡ a → (toExpander ψ && routes 2 ψ) ≡ b
     → oneLink φ ψ ≡ (a && (b && eqb (addressOf φ) (addressOf ψ)))
@@ -14,3 +22,12 @@ linked-by φ ψ p q = rw (p, q)
 
 pub linked-at : {φ ψ φ' ψ' : Phy} {r : Bool} → φ ≡ φ' → ψ ≡ ψ' → r ≡ oneLink φ ψ → r ≡ true → T (oneLink φ' ψ')
 linked-at {φ} {ψ} {φ'} {ψ'} p q e t = was-true (oneLink φ' ψ') (sym (ap (λ (χ : Phy). oneLink χ ψ) p ∙ ap (oneLink φ') q) ∙ sym e ∙ t)
+
+-- the number of the expander at which the levels go on, as the entries tell it
+pub far-down : (ws : List ℕ) (first : List ℕ) (i p : ℕ) (φ : Phy) → PhyIndexed (domainIn ws) first i p φ → (toExpander φ && routes 2 φ) ≡ true
+    → farNumber (domainIn ws) first i p ≡ numberOf (domainIn ws) (addressOf φ)
+far-down ws first i p φ x e =
+    let d : Domain = domainIn ws in
+    let t : T (toExpander (phyAt d i p)) = subst (λ ψ. T (toExpander ψ)) (x .phy) (and-left (toExpander φ) (routes 2 φ) (was-true _ e)) in
+    far-told d i p (omega (arith, phy-range d toExpander i p t (λ u. u), short-in ws i)) first (x .index) t
+    ∙ ap (λ ψ. numberOf d (addressOf ψ)) (sym (x .phy))

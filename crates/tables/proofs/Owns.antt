@@ -1,6 +1,6 @@
--- Own lists: the search among lower phys, the last of them for each key, and lists that grow phy by phy.
+-- Own lists: which phys give words to them, by the lowest phy with their address, and lists that grow phy by phy.
 use Prim.Native.Nat.{ℕ, zero, suc, _+_, _*_, _≤_, _<_}
-use mathlib.Core.Path.{_≡_, refl, sym, _∙_, ap}
+use mathlib.Core.Path.{_≡_, refl, sym, _∙_, ap, subst}
 use mathlib.Core.Logic.{⊎-elim, by-cases}
 use mathlib.Core.Bool.{Bool, true, false, cond, not, _||_, _&&_}
 use mathlib.Core.List.{List, [], _∷_, _++_, append-nil, append-assoc}
@@ -13,31 +13,18 @@ use lib.Dec.{T, eqb, eqb→eq}
 use Rattle.wiring.specs.declared.Phy.{Phy}
 use Rattle.wiring.specs.declared.Phy.the-variants.{Vacant}
 use Rattle.wiring.specs.Lists.{any}
-use Rattle.wiring.specs.Domain.{Domain, Expander, noExpander, expanderAt, addressOf, attributeOf, typeOf, attached, bears}
+use Rattle.wiring.specs.Domain.{Domain, Expander, noExpander, expanderAt, phyAt, addressOf, attached, routes, bears}
 use Rattle.wiring.specs.Rows.{domainIn}
-use Rattle.wiring.proofs.Members.{or-cases, or-right, and-right, is-true, is-false, was-true}
+use Rattle.wiring.proofs.Members.{or-right, is-true, was-true}
 use Rattle.wiring.proofs.InRows.{head-in, no-head}
 use Rattle.tables.specs.Tables.{word}
 use Rattle.tables.specs.Own.{lower, owns, ownFrom, own}
 use Rattle.tables.specs.Filling.{Grown}
-use Rattle.tables.specs.Prepared.{OwnHeld, keyOf}
+use Rattle.wiring.specs.Addresses.{IndexedLow, lowestPhy}
+use Rattle.wiring.proofs.Entries.{low-told}
+use borrow.Author.Tests.{eq-eqb, ne-eqb}
+use Rattle.tables.specs.Prepared.{OwnHeld, ownsBy}
 use Rattle.tables.proofs.Cells.{cell-count, cell-list, cell-fits}
-
--- the search below phy q, from q - 1 down. `inv` is the loop's invariant
-module _ (s : ℕ) (φs : List Phy) (q : ℕ) {v : Bool} (inv : any (bears s) (lower φs q) ≡ v) where
-  lower-next : (p : ℕ) {b : Bool} → q ≡ suc p → bears s (getD φs p (Vacant 0)) ≡ b → (b || any (bears s) (lower φs p)) ≡ v
-  unfolding any lower
-  lower-next p e t = sym (rw (e, t)) ∙ inv
-
-  pub lower-stop : (p : ℕ) → q ≡ suc p → bears s (getD φs p (Vacant 0)) ≡ true → true ≡ v
-  lower-stop p e t = lower-next p e t
-
-  pub lower-go : (p : ℕ) → q ≡ suc p → bears s (getD φs p (Vacant 0)) ≡ false → any (bears s) (lower φs p) ≡ v
-  lower-go p e t = lower-next p e t
-
-  pub lower-end : q ≡ 0 → false ≡ v
-  unfolding any lower
-  lower-end e = sym (rw e) ∙ inv
 
 pub lower-has : (s : ℕ) (φs : List Phy) (q : ℕ) → bears s (getD φs q (Vacant 0)) ≡ true → (p : ℕ) → q < p → true ≡ any (bears s) (lower φs p)
 unfolding any lower
@@ -47,43 +34,28 @@ lower-has s φs q t (suc p) h =
     (λ k. sym (is-true _ (or-right (bears s (getD φs p (Vacant 0))) _ (was-true _ (sym (lower-has s φs q t p k))))))
     (λ k. let e : q ≡ p = omega arith in sym (rw (sym e, t) refl))
 
--- is a phy its expander's own?
-pub owns-by : (l : List Phy) (φ : Phy) {b₁ b₂ b₃ b₄ : Bool} → eqb (attributeOf φ) 0 ≡ b₁ → eqb (attributeOf φ) 2 ≡ b₂ → eqb (typeOf φ) 0 ≡ b₃
-    → any (bears (addressOf φ)) l ≡ b₄ → owns l φ ≡ (b₁ || (b₂ && (not b₃ && not b₄)))
+lower-none : (s : ℕ) (φs : List Phy) (p : ℕ) → ((r : ℕ) → r < p → bears s (getD φs r (Vacant 0)) ≡ false) → any (bears s) (lower φs p) ≡ false
+unfolding any lower
+lower-none s φs zero none = refl
+lower-none s φs (suc p) none = rw (none p (omega arith)) (lower-none s φs p (λ r h. none r (omega arith)))
+
+-- by the lowest phy with its address, a phy gives its word to the own list
+pub owns-low : (d : Domain) (i p : ℕ) (low : List ℕ) (φ : Phy) → φ ≡ phyAt d i p → p < 128 → IndexedLow d low → ownsBy low i p φ ≡ owns (lower (expanderAt d i .phys) p) φ
 unfolding owns
-owns-by l φ q₁ q₂ q₃ q₄ = rw (q₁, q₂, q₃, q₄)
-
--- `last` has a phy below p for the key of each address that one of them bears
-pub record Last (φs : List Phy) (p : ℕ) (last : List ℕ) : Type 0 where
-  pub below : (s : ℕ) → T (any (bears s) (lower φs p)) → getD last (keyOf s) 0 < p
-
-pub last-none : (φs : List Phy) (last : List ℕ) → Last φs 0 last
-unfolding any lower
-last-none φs last = record { below = λ s t. absurd t }
-
--- where q is not below p
-pub not-lower : (φs : List Phy) (p s q : ℕ) → (T (any (bears s) (lower φs p)) → q < p) → p ≤ q → false ≡ any (bears s) (lower φs p)
-not-lower φs p s q n h = sym (is-false (any (bears s) (lower φs p)) (λ t. let k = n t in omega arith))
-
-pub key-in : {k n : ℕ} → k < 4093 → n ≡ 4096 → k < n
-key-in h e = omega arith
-
--- phy p has been put under its key
-pub last-next : (φs : List Phy) (p : ℕ) (φ : Phy) (last : List ℕ) {k : ℕ} → Last φs p last → φ ≡ getD φs p (Vacant 0) → k ≡ keyOf (addressOf φ)
-    → k < length last → Last φs (p + 1) (set last k p)
-unfolding any lower
-last-next φs p φ last {k} n q e h =
-    record {
-      below = λ s t.
-          let u : T (bears s φ || any (bears s) (lower φs p)) = rw (add-one p, sym q) at t in
-          by-cases (ℕ-discrete (keyOf s) k) (here s)
-          (λ z. ⊎-elim (λ v. absurd (z (sym (e ∙ ap keyOf (eqb→eq (addressOf φ) s (and-right (attached φ) (eqb (addressOf φ) s) v))))))
-          (λ v. let w = n .below s v in omega (arith, getD-set-other last k (keyOf s) p 0 z))
-          (or-cases (bears s φ) (any (bears s) (lower φs p)) u));
-    }
+owns-low d i p low φ e h index = ap (λ b. routes 0 φ || (routes 2 φ && b)) (go (attached φ) refl)
   where
-    here : (s : ℕ) → keyOf s ≡ k → getD (set last k p) (keyOf s) 0 < p + 1
-    here s z = rw (z, getD-set-same last k p 0 h) (omega arith)
+    first : T (attached φ) → eqb (lowestPhy low i p) p ≡ not (any (bears (addressOf φ)) (lower (expanderAt d i .phys) p))
+    first t =
+        let l = low-told d i p h low index (subst (λ ψ. T (attached ψ)) e t) in
+        let a : addressOf (phyAt d i p) ≡ addressOf φ = ap addressOf (sym e) in
+        by-cases (ℕ-discrete (lowestPhy low i p) p)
+        (λ z. eq-eqb (lowestPhy low i p) p z ∙ sym (ap not (lower-none (addressOf φ) (expanderAt d i .phys) p (λ r k. rw a at (l .none r (rw z k))))))
+        (λ z. ne-eqb (lowestPhy low i p) p z
+        ∙ ap not (lower-has (addressOf φ) (expanderAt d i .phys) (lowestPhy low i p) (is-true _ (rw a at (l .bearing))) p (let k = l .low in omega arith)))
+
+    go : (b : Bool) → attached φ ≡ b → (attached φ && eqb (lowestPhy low i p) p) ≡ (attached φ && not (any (bears (addressOf φ)) (lower (expanderAt d i .phys) p)))
+    go true q = ap (λ b. attached φ && b) (first (was-true (attached φ) q))
+    go false q = rw q
 
 -- the words so far and what is left, phy by phy. `inv` is the loop's invariant
 module _ (φs : List Phy) (p : ℕ) (l : List ℕ) {v : List ℕ} (inv : l ++ ownFrom (lower φs p) (drop p φs) ≡ v) where
@@ -99,15 +71,42 @@ module _ (φs : List Phy) (p : ℕ) (l : List ℕ) {v : List ℕ} (inv : l ++ ow
       by true = refl
       by false = refl
 
+  pub count-go : (φ : Phy) {b : Bool} (m : ℕ) {m' w : ℕ} → φ ≡ getD φs p (Vacant 0) → b ≡ owns (lower φs p) φ → m' ≡ m + cond b 1 0
+      → p < length φs → m + length (ownFrom (lower φs p) (drop p φs)) ≡ w → m' + length (ownFrom (lower φs (p + 1)) (drop (p + 1) φs)) ≡ w
+  count-go φ {b} m {m'} {w} q t e h c =
+      let rest : List ℕ = ownFrom (lower φs (p + 1)) (drop (p + 1) φs) in
+      let n = ap length (own-next φ q (sym t) h) ∙ length-append (cond b (word φ ∷ []) []) rest in
+      let o : length (cond b (word φ ∷ []) []) ≡ cond b 1 0 = by b in
+      omega arith
+    where
+      by : (c : Bool) → length (cond c (word φ ∷ []) []) ≡ cond c 1 0
+      by true = refl
+      by false = refl
+
   pub own-go : (φ : Phy) {b : Bool} {l' : List ℕ} → φ ≡ getD φs p (Vacant 0) → b ≡ owns (lower φs p) φ → l' ≡ l ++ cond b (word φ ∷ []) []
       → p < length φs → l' ++ ownFrom (lower φs (p + 1)) (drop (p + 1) φs) ≡ v
   own-go φ {b} {l'} q t e h =
       let rest : List ℕ = ownFrom (lower φs (p + 1)) (drop (p + 1) φs) in
       ap (λ (x : List ℕ). x ++ rest) e ∙ append-assoc l (cond b (word φ ∷ []) []) rest ∙ sym (ap (λ (x : List ℕ). l ++ x) (own-next φ q (sym t) h)) ∙ inv
 
+  pub count-end : (m : ℕ) {w : ℕ} → length φs ≤ p → m + length (ownFrom (lower φs p) (drop p φs)) ≡ w → m ≡ w
+  unfolding ownFrom
+  count-end m h c = let e : length (ownFrom (lower φs p) (drop p φs)) ≡ 0 = rw (drop-of-length-le φs h) in omega arith
+
   pub own-end : length φs ≤ p → l ≡ v
   unfolding ownFrom
   own-end h = sym (rw (drop-of-length-le φs h, append-nil)) ∙ inv
+
+-- lengths, expander by expander
+pub counts-next : (f : ℕ → ℕ) (counts : List ℕ) (i c : ℕ) → ((k : ℕ) → k < i → getD counts k 0 ≡ f k) → c ≡ f i → i < length counts
+    → (k : ℕ) → k < i + 1 → getD (set counts i c) k 0 ≡ f k
+counts-next f counts i c all here h k l = by-cases (ℕ-discrete k i)
+    (λ e. let q : getD (set counts i c) k 0 ≡ c = rw e (getD-set-same counts i c 0 h) in q ∙ here ∙ ap f (sym e))
+    (λ e. getD-set-other counts i k c 0 e ∙ all k (omega arith))
+
+pub one-most : (b : Bool) → cond {A = ℕ} b 1 0 ≤ 1
+one-most true = omega arith
+one-most false = omega arith
 
 -- a phy gives one word at most
 pub put-most : (m : ℕ) (b : Bool) (w : ℕ) {before after : List ℕ} {r : ℕ} → Grown before after r (take m before ++ cond b (w ∷ []) []) → r ≤ m + 1

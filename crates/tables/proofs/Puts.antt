@@ -7,17 +7,18 @@ use mathlib.Core.List.{List, [], _∷_, _++_, flatMap, append-nil, append-assoc}
 use native.Mathlib.Omega.{arith}
 use native.Mathlib.Nat.{add-zero, zero-add, zero-mul, suc-mul, mul-le-mul, le-of-lt}
 use native.Mathlib.Numerals.{add-one}
-use lib.ListN.{length, getD, take, drop, replicate, length-append, length-drop, take-append-drop, drop-of-length-le}
+use lib.ListN.{length, getD, take, drop, length-append, length-drop, take-append-drop, drop-of-length-le}
 use lib.Seq.{take-all, take-at, drop-at, drop-cons, drop-drop, length-take-le}
 use mir.Val.{boolByte}
 use Rattle.wiring.specs.Lists.{keep}
 use Rattle.wiring.specs.Domain.{Domain, Expander, noExpander, expanderAt, phyAt, routes}
 use Rattle.wiring.specs.Causes.{Place, place, phyPlaces, placesFrom, places}
 use Rattle.wiring.proofs.Members.{keep-append}
-use Rattle.tables.specs.Tables.{levelList, table, tablePlaces, tables, size, sizes, needed}
-use Rattle.tables.specs.Filling.{TableFilled, placesAt, withTables, tablesOf, overlay, Put}
+use Rattle.tables.specs.Tables.{tablePlaces, size, sizes, needed}
+use Rattle.tables.specs.Filling.{placesAt, withTables, overlay, Put}
+use Rattle.tables.specs.Prepared.{orderList, filledTo, ownTablesOf, ownTables}
 use Rattle.tables.proofs.Growing.{flat-append}
-use Rattle.tables.proofs.Fills.{length-filled, length-table}
+use Rattle.tables.proofs.Fills.{length-filled}
 
 pub byte-le : (b : Bool) → boolByte b ≤ 1
 byte-le true = omega arith
@@ -144,40 +145,44 @@ module _ (d : Domain) where
   pub before-all : {n : ℕ} → n ≡ length d → sizes d (placesFrom 0 (take n d)) ≡ needed d
   before-all {n} e = ap (λ (l : List Expander). sizes d (placesFrom 0 l)) (take-all n d (omega arith))
 
-  tables-append : (qs rs : List Place) → tablesOf d (qs ++ rs) ≡ tablesOf d qs ++ tablesOf d rs
-  unfolding tablesOf
+  -- the table at a place, by own lists
+  abbrev ownTable : Place → List ℕ
+  ownTable q = filledTo (expanderAt d (q .expander) .indexes) (orderList d (q .expander) (q .phy))
+
+  tables-append : (qs rs : List Place) → ownTablesOf d (qs ++ rs) ≡ ownTablesOf d qs ++ ownTablesOf d rs
+  unfolding ownTablesOf
   tables-append qs rs =
-      ap (flatMap (λ q. table d (q .expander) (q .phy))) (keep-append (λ q. routes 2 (phyAt d (q .expander) (q .phy))) qs rs)
-      ∙ flat-append (λ q. table d (q .expander) (q .phy)) (withTables d qs) (withTables d rs)
+      ap (flatMap ownTable) (keep-append (λ q. routes 2 (phyAt d (q .expander) (q .phy))) qs rs)
+      ∙ flat-append ownTable (withTables d qs) (withTables d rs)
 
-  tables-next : (rest piece rest' : List Place) → rest ≡ piece ++ rest' → tablesOf d rest ≡ tablesOf d piece ++ tablesOf d rest'
-  tables-next rest piece rest' q = ap (tablesOf d) q ∙ tables-append piece rest'
+  tables-next : (rest piece rest' : List Place) → rest ≡ piece ++ rest' → ownTablesOf d rest ≡ ownTablesOf d piece ++ ownTablesOf d rest'
+  tables-next rest piece rest' q = ap (ownTablesOf d) q ∙ tables-append piece rest'
 
-  tables-none : (rest : List Place) → rest ≡ [] → tablesOf d rest ≡ []
-  unfolding tablesOf keep flatMap
-  tables-none rest q = ap (tablesOf d) q
+  tables-none : (rest : List Place) → rest ≡ [] → ownTablesOf d rest ≡ []
+  unfolding ownTablesOf keep flatMap
+  tables-none rest q = ap (ownTablesOf d) q
 
-  tables-by : (i p : ℕ) {b : Bool} → routes 2 (phyAt d i p) ≡ b → tablesOf d (place i p ∷ []) ≡ cond b (table d i p) []
-  unfolding tablesOf keep flatMap
+  tables-by : (i p : ℕ) {b : Bool} → routes 2 (phyAt d i p) ≡ b → ownTablesOf d (place i p ∷ []) ≡ cond b (ownTable (place i p)) []
+  unfolding ownTablesOf keep flatMap
   tables-by i p {b} q = rw q (go b)
     where
-      go : (c : Bool) → flatMap (λ q. table d (q .expander) (q .phy)) (cond c (place i p ∷ []) []) ≡ cond c (table d i p) []
-      go true = append-nil (table d i p)
+      go : (c : Bool) → flatMap ownTable (cond c (place i p ∷ []) []) ≡ cond c (ownTable (place i p)) []
+      go true = append-nil (ownTable (place i p))
       go false = refl
 
-  length-one : (q : Place) → length (tablesOf d (q ∷ [])) ≡ size d q
+  length-one : (q : Place) → length (ownTablesOf d (q ∷ [])) ≡ size d q
   unfolding size
   length-one q = ap length (tables-by (q .expander) (q .phy) refl) ∙ go (routes 2 (phyAt d (q .expander) (q .phy)))
     where
-      go : (c : Bool) → length (cond c (table d (q .expander) (q .phy)) []) ≡ cond c (expanderAt d (q .expander) .indexes) 0
-      go true = length-table d (q .expander) (q .phy)
+      go : (c : Bool) → length (cond c (ownTable q) []) ≡ cond c (expanderAt d (q .expander) .indexes) 0
+      go true = length-filled (expanderAt d (q .expander) .indexes) (orderList d (q .expander) (q .phy))
       go false = refl
 
-  pub length-tables : (qs : List Place) → length (tablesOf d qs) ≡ sizes d qs
+  pub length-tables : (qs : List Place) → length (ownTablesOf d qs) ≡ sizes d qs
   unfolding sizes
   length-tables [] = ap length (tables-none [] refl)
   length-tables (q ∷ qs) =
-      ap length (tables-append (q ∷ []) qs) ∙ length-append (tablesOf d (q ∷ [])) (tablesOf d qs)
+      ap length (tables-append (q ∷ []) qs) ∙ length-append (ownTablesOf d (q ∷ [])) (ownTablesOf d qs)
       ∙ omega (arith, length-one q, length-tables qs)
 
 -- words put one after the other
@@ -213,44 +218,43 @@ put-part ws at k r q = rw (drop-drop k at ws, q)
 
 module _ (d : Domain) (i p : ℕ) (ws : List ℕ) (at : ℕ) where
   -- no table phy
-  pub put-none : routes 2 (phyAt d i p) ≡ false → Put ws ws at at (tablesOf d (place i p ∷ []))
+  pub put-none : routes 2 (phyAt d i p) ≡ false → Put ws ws at at (ownTablesOf d (place i p ∷ []))
   put-none b =
       let q = tables-by d i p b in
       record { same = refl; next = omega (arith, ap length q); words = sym (ap (overlay ws at) q ∙ overlay-none ws at) }
 
   -- a part of the words, lent and filled
-  pub put-one : {part r : List ℕ} {n : ℕ} → TableFilled d i p part r n → routes 2 (phyAt d i p) ≡ true → (k : ℕ) → length part ≡ k
+  pub put-one : {r : List ℕ} (k : ℕ) → r ≡ filledTo k (orderList d i p) → routes 2 (phyAt d i p) ≡ true
       → k ≡ expanderAt d i .indexes → (e : ℕ) → e ≡ at + k → e ≤ length ws
-      → Put ws (take at ws ++ (r ++ drop k (drop at ws))) at e (tablesOf d (place i p ∷ []))
-  unfolding table
-  put-one {part} {r} t b k q z e qe h =
-      let new : List ℕ = tablesOf d (place i p ∷ []) in
-      let s : r ≡ new = t .words ∙ ap (λ (n : ℕ). take n (levelList d i p ++ replicate n 0)) (q ∙ z) ∙ sym (tables-by d i p b) in
-      let lr : length r ≡ k = ap length (t .words) ∙ length-filled (length part) (levelList d i p) ∙ q in
+      → Put ws (take at ws ++ (r ++ drop k (drop at ws))) at e (ownTablesOf d (place i p ∷ []))
+  put-one {r} k t b z e qe h =
+      let new : List ℕ = ownTablesOf d (place i p ∷ []) in
+      let s : r ≡ new = t ∙ ap (λ (n : ℕ). filledTo n (orderList d i p)) z ∙ sym (tables-by d i p b) in
+      let lr : length r ≡ k = ap length t ∙ length-filled k (orderList d i p) in
       let w : take at ws ++ (r ++ drop k (drop at ws)) ≡ overlay ws at new = put-part ws at k r lr ∙ ap (overlay ws at) s in
       let ln : length new ≡ k = sym (ap length s) ∙ lr in
       record { same = ap length w ∙ length-overlay ws at new (omega arith); next = omega arith; words = w }
 
 -- a turn, and the end
-module _ (d : Domain) (ws : List ℕ) (at : ℕ) (rest : List Place) {v : List ℕ} (inv : overlay ws at (tablesOf d rest) ≡ v) where
-  pub put-go : (piece rest' : List Place) {ws' : List ℕ} {to : ℕ} → Put ws ws' at to (tablesOf d piece) → rest ≡ piece ++ rest'
-      → at + sizes d rest ≤ length ws → overlay ws' to (tablesOf d rest') ≡ v
+module _ (d : Domain) (ws : List ℕ) (at : ℕ) (rest : List Place) {v : List ℕ} (inv : overlay ws at (ownTablesOf d rest) ≡ v) where
+  pub put-go : (piece rest' : List Place) {ws' : List ℕ} {to : ℕ} → Put ws ws' at to (ownTablesOf d piece) → rest ≡ piece ++ rest'
+      → at + sizes d rest ≤ length ws → overlay ws' to (ownTablesOf d rest') ≡ v
   put-go piece rest' {ws'} {to} u q h =
       let s = sizes-next d rest piece rest' q in
-      ap (λ (x : List ℕ). overlay x to (tablesOf d rest')) (u .words)
-      ∙ ap (λ (x : ℕ). overlay (overlay ws at (tablesOf d piece)) x (tablesOf d rest')) (u .next)
-      ∙ overlay-next ws at (tablesOf d piece) (tablesOf d rest') (omega (arith, length-tables d piece))
+      ap (λ (x : List ℕ). overlay x to (ownTablesOf d rest')) (u .words)
+      ∙ ap (λ (x : ℕ). overlay (overlay ws at (ownTablesOf d piece)) x (ownTablesOf d rest')) (u .next)
+      ∙ overlay-next ws at (ownTablesOf d piece) (ownTablesOf d rest') (omega (arith, length-tables d piece))
       ∙ sym (ap (overlay ws at) (tables-next d rest piece rest' q)) ∙ inv
 
   pub put-end : rest ≡ [] → ws ≡ v
   put-end q = sym (ap (overlay ws at) (tables-none d rest q) ∙ overlay-none ws at) ∙ inv
 
-pub put-long : (d : Domain) (at : ℕ) (rest piece rest' : List Place) {to : ℕ} → to ≡ at + length (tablesOf d piece) → rest ≡ piece ++ rest'
+pub put-long : (d : Domain) (at : ℕ) (rest piece rest' : List Place) {to : ℕ} → to ≡ at + length (ownTablesOf d piece) → rest ≡ piece ++ rest'
     → to + sizes d rest' ≡ at + sizes d rest
 put-long d at rest piece rest' e q = omega (arith, sizes-next d rest piece rest' q, length-tables d piece)
 
-pub put-all : (d : Domain) (ws : List ℕ) → overlay ws 0 (tablesOf d (places d)) ≡ tables d ++ drop (needed d) ws
-unfolding overlay tables tablePlaces tablesOf
+pub put-all : (d : Domain) (ws : List ℕ) → overlay ws 0 (ownTables d) ≡ ownTables d ++ drop (needed d) ws
+unfolding overlay
 put-all d ws =
-    let e : 0 + length (tablesOf d (places d)) ≡ needed d = omega (arith, length-tables d (places d)) in
-    ap (λ (x : ℕ). tablesOf d (places d) ++ drop x ws) e
+    let e : 0 + length (ownTables d) ≡ needed d = omega (arith, length-tables d (places d)) in
+    ap (λ (x : ℕ). ownTables d ++ drop x ws) e

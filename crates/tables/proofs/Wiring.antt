@@ -5,6 +5,6 @@ pub use Rattle.wiring.proofs.Reach.{Joined, prepend}
 pub use Rattle.wiring.proofs.Wires.{Way, Wired, end-attached, expander-attached, attached-cases, in-range}
 pub use Rattle.wiring.proofs.Wires.{differ, far-below, far-is, to-adj, adj-symmetric}
 pub use Rattle.wiring.proofs.Results.{good-one, unless-good, good-unless, then-good, good-then}
-pub use Rattle.wiring.proofs.Read.{read-good}
+pub use Rattle.wiring.proofs.Read.{read-good, stated-expanders}
 pub use Rattle.wiring.proofs.Accepted.{wired-iff, wired-file}
-pub use Rattle.wiring.proofs.Opening.{opened-as, opened-fits}
+pub use Rattle.wiring.proofs.Opening.{file-room, opened-as, opened-fits}

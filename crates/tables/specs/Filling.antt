@@ -1,15 +1,14 @@
 -- What the functions that fill tables make: numbers with room for so many, a list that grows, words put at a place.
-use Prim.Native.Nat.{ℕ, _+_, _≤_, min}
+use Prim.Native.Nat.{ℕ, _+_, _≤_}
 use mathlib.Core.Path.{_≡_}
 use mathlib.Core.Bool.{cond, _||_}
 use mathlib.Core.List.{List, [], _∷_, _++_, flatMap}
-use lib.ListN.{length, take, drop, replicate}
+use lib.ListN.{length, take, drop}
 use lib.Dec.{leb}
 use Rattle.wiring.specs.declared.Phy.{Phy}
 use Rattle.wiring.specs.Lists.{keep, isIn}
 use Rattle.wiring.specs.Domain.{Domain, expanderAt, phyAt, routes}
 use Rattle.wiring.specs.Causes.{Place, phyPlaces}
-use Rattle.tables.specs.Tables.{levelList, table}
 
 -- numbers so far, and one more: none twice, at most `room` of them
 unfoldable pub add : ℕ → List ℕ → ℕ → List ℕ
@@ -33,12 +32,6 @@ Added before after n r js = Grown before after r (addAll (length before) (take n
 abbrev pub physOf : Domain → List ℕ → List Phy
 physOf d is = flatMap (λ i. expanderAt d i .phys) is
 
--- one table: the level list and zeros after it, cut at as many words as were lent; and the list's length, or one more than were lent
--- where it is longer
-pub record TableFilled (d : Domain) (x p : ℕ) (before after : List ℕ) (r : ℕ) : Type 0 where
-  pub words : after ≡ take (length before) (levelList d x p ++ replicate (length before) 0)
-  pub count : r ≡ min (length (levelList d x p)) (length before + 1)
-
 -- the phys of expander i, as places
 abbrev pub placesAt : Domain → ℕ → List Place
 placesAt d i = phyPlaces i 0 (length (expanderAt d i .phys))
@@ -46,10 +39,6 @@ placesAt d i = phyPlaces i 0 (length (expanderAt d i .phys))
 -- the table phys among these
 abbrev pub withTables : Domain → List Place → List Place
 withTables d qs = keep (λ q. routes 2 (phyAt d (q .expander) (q .phy))) qs
-
--- their tables, one after the other
-unfoldable pub tablesOf : Domain → List Place → List ℕ
-tablesOf d qs = flatMap (λ q. table d (q .expander) (q .phy)) (withTables d qs)
 
 -- words with new ones from a place on
 unfoldable pub overlay : List ℕ → ℕ → List ℕ → List ℕ

@@ -1,18 +1,22 @@
 -- What the judging and table calls prepare before they go through the table phys: each expander's own list, the expanders below each,
 -- and the expanders of a phy's levels in their order.
-use Prim.Native.Nat.{ℕ, zero, suc, _*_, _%_, _≤_, _<_}
+use Prim.Native.Nat.{ℕ, zero, suc, _*_, _≤_, _<_}
 use mathlib.Core.Path.{_≡_}
-use mathlib.Core.Bool.{Bool, _&&_}
+use mathlib.Core.Bool.{Bool, _||_, _&&_}
 use mathlib.Core.List.{List, [], _∷_, _++_, flatMap}
-use lib.ListN.{length, take, drop}
+use lib.ListN.{length, getD, take, drop, replicate}
 use lib.Dec.{T, eqb, ltb}
-use Rattle.wiring.specs.Frames.{Result, good, then}
+use Rattle.wiring.specs.Frames.{Result, refused, good, then}
 use Rattle.wiring.specs.declared.Phy.{Phy}
-use Rattle.wiring.specs.Domain.{Domain, expanderAt, phyAt, addressOf, routes, toExpander}
-use Rattle.wiring.specs.Causes.{firstOf}
-use Rattle.wiring.specs.Links.{checkedDomain}
+use Rattle.wiring.specs.Domain.{Domain, expanderAt, phyAt, addressOf, routes, attached, toExpander}
+use Rattle.wiring.specs.Causes.{Place, places, firstOf}
+use Rattle.wiring.specs.Checks.{checkedIn}
+use Rattle.wiring.specs.Addresses.{IndexedFirst, lowestPhy}
 use Rattle.tables.specs.Levels.{once, belowPhys, below}
-use Rattle.tables.specs.Tables.{levelList}
+use Rattle.tables.specs.Tables.{needed}
+use Rattle.tables.specs.Filling.{withTables}
+use Rattle.tables.specs.Judge.{tablesAnswer, countsIn}
+use Rattle.tables.specs.declared.TablesGiven.{TablesGiven}
 use Rattle.tables.specs.Own.{own}
 
 -- from word stride * i on stand the length of list i and then the list, for each i below n
@@ -28,9 +32,10 @@ pub record Stored (stride : ℕ) (list : ℕ → List ℕ) (n : ℕ) (words : Li
 abbrev pub OwnHeld : Domain → List ℕ → Type 0
 OwnHeld d words = Stored 129 (own d) (length d) words
 
--- the key of an address among 4,096
-abbrev pub keyOf : ℕ → ℕ
-keyOf s = s % 4093
+-- the length of each expander's own list
+pub record Counted (d : Domain) (counts : List ℕ) : Type 0 where
+  pub enough : length d ≤ length counts
+  pub each : (i : ℕ) → i < length d → getD counts i 0 ≡ length (own d i)
 
 -- the expanders below expander i (attached to its table phys), each once
 abbrev pub belowOnce : Domain → ℕ → List ℕ
@@ -66,26 +71,53 @@ Told d i p q = q < p → T (oneLink (phyAt d i q) (phyAt d i p))
 unfoldable pub overOwn : Domain → ℕ → ℕ → Bool
 overOwn d i p = routes 2 (phyAt d i p) && ltb (expanderAt d i .indexes) (length (orderList d i p))
 
--- causes 7 to 14 in order, 14 by own lists
-unfoldable pub judgedOwn : Domain → Result Domain
-judgedOwn d = then (checkedDomain d) (λ _. firstOf 14 (overOwn d) d)
+-- a list, and zeros after it up to so many words
+abbrev pub filledTo : ℕ → List ℕ → List ℕ
+filledTo n l = take n (l ++ replicate n 0)
 
--- level lists are own lists one after the other
-abbrev pub Same : Domain → Type 0
-Same d = (x p : ℕ) → levelList d x p ≡ orderList d x p
+-- the tables of these phys by own lists, one after the other
+unfoldable pub ownTablesOf : Domain → List Place → List ℕ
+ownTablesOf d qs = flatMap (λ q. filledTo (expanderAt d (q .expander) .indexes) (orderList d (q .expander) (q .phy))) (withTables d qs)
 
--- where the domain passes causes 7 to 13, its level lists are own lists one after the other
-abbrev pub Lawful : Domain → Type 0
-Lawful d = checkedDomain d ≡ good d → Same d
+-- all tables by own lists
+abbrev pub ownTables : Domain → List ℕ
+ownTables d = ownTablesOf d (places d)
 
--- a domain whose tables can be filled from own lists: the level lists are own lists, and none is longer than R
-pub record Fillable (d : Domain) : Type 0 where
-  pub same : Same d
-  pub fits : (i p : ℕ) → T (routes 2 (phyAt d i p)) → length (levelList d i p) ≤ expanderAt d i .indexes
+-- no list of own lists is longer than R
+abbrev pub Fillable : Domain → Type 0
+Fillable d = (i p : ℕ) → T (routes 2 (phyAt d i p)) → length (orderList d i p) ≤ expanderAt d i .indexes
 
--- all that the table of phy p of expander x is filled from: own lists, its order, and room for its level list
+-- all that the table of phy p of expander x is filled from: own lists, its order, and room for its list
 pub record FilledFrom (d : Domain) (x p : ℕ) (lists order : List ℕ) (room : ℕ) : Type 0 where
   pub held : OwnHeld d lists
   pub ordered : order ≡ orderOf d (phyAt d x p)
-  pub same : Same d
-  pub fits : length (levelList d x p) ≤ room
+  pub fits : length (orderList d x p) ≤ room
+
+-- room for own lists, for the expanders below each, and for the order of one phy
+pub record FillRoom (d : Domain) (words bytes numbers : List ℕ) : Type 0 where
+  pub lists : 129 * length d ≤ length words
+  pub below : 66 * length d ≤ length bytes
+  pub order : 65 * length d < length numbers
+
+-- φ is phy p of expander i, and who has the addresses of all slots is known
+pub record PhyIndexed (d : Domain) (first : List ℕ) (i p : ℕ) (φ : Phy) : Type 0 where
+  pub index : IndexedFirst d first
+  pub phy : φ ≡ phyAt d i p
+
+-- φ, phy p of expander i, gives its word to the own list, by the lowest phy with its address
+abbrev pub ownsBy : List ℕ → ℕ → ℕ → Phy → Bool
+ownsBy low i p φ = routes 0 φ || (routes 2 φ && (attached φ && eqb (lowestPhy low i p) p))
+
+-- causes 7 to 14 in order, 14 by own lists, where there is room for entries of so many slots and phys: 16 otherwise
+unfoldable pub judgedIn : ℕ → ℕ → Domain → Result Domain
+judgedIn first low d = then (checkedIn first low d) (λ _. firstOf 14 (overOwn d) d)
+
+-- the words after the call, by own lists; all as they were where refused
+abbrev pub ownAfter : Result Domain → List ℕ → List ℕ
+ownAfter (refused r) before = before
+ownAfter (good d) before = ownTables d ++ drop (needed d) before
+
+-- all that giving tables by own lists promises: the answer, and the words after
+pub record OwnDone (outcome : Result Domain) (answer : TablesGiven) (before after : List ℕ) : Type 0 where
+  pub answers : tablesAnswer answer ≡ then outcome countsIn
+  pub words : after ≡ ownAfter outcome before

@@ -14,7 +14,7 @@ pub use Rattle.wiring.specs.Read.{Read}
 pub use Rattle.wiring.specs.Rows.{domainIn}
 pub use Rattle.wiring.specs.Causes.{Place, place, wiredDomain, wired}
 unfoldable pub use Rattle.wiring.specs.Causes.{phyPlaces, placesFrom}
-pub use Rattle.wiring.specs.Checks.{checkAnswer}
+pub use Rattle.wiring.specs.Checks.{checkAnswer, FileRoom}
 pub use Rattle.wiring.specs.Graph.{Steps, self}
 pub use Rattle.wiring.specs.Neighbours.{neighbours}
 pub use Rattle.wiring.specs.Devices.{LoopIn, ChainIn, Home, Borne}

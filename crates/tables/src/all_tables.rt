@@ -13,9 +13,10 @@ ghost use lib.ListN.{length, take, drop};
 ghost use Rattle.wiring.specs.Domain.{phyAt, routes};
 ghost use Rattle.wiring.specs.Causes.{place, placesFrom};
 ghost use Rattle.wiring.specs.Rows.{domainIn};
-ghost use Rattle.tables.specs.Tables.{tablePlaces, tables, size, sizes, needed};
-ghost use Rattle.tables.specs.Filling.{placesAt, withTables, tablesOf, Put};
-ghost use Rattle.tables.specs.Prepared.{OwnHeld, BelowHeld, orderOf, Fillable};
+ghost use Rattle.tables.specs.Tables.{tablePlaces, size, sizes, needed};
+ghost use Rattle.tables.specs.Filling.{placesAt, withTables, Put};
+ghost use Rattle.tables.specs.Prepared.{OwnHeld, BelowHeld, orderOf, ownTablesOf, ownTables, FillRoom, Fillable};
+ghost use Rattle.wiring.specs.Addresses.{IndexedFirst, Indexed};
 
 // Is phy p of expander i a non-vacant table phy?
 pub(crate) fn is_table(rows: &[u64], i: ExpanderNumber, p: PhyId) -> bool
@@ -87,7 +88,7 @@ fn put_table(
     requires { ⌜ OwnHeld (domainIn (now rows)) (now lists) × ((now order ≡ orderOf (domainIn (now rows)) (phyAt (domainIn (now rows)) (i .0) (p .0)))
         × (Fillable (domainIn (now rows)) × (at + size (domainIn (now rows)) (place (i .0) (p .0)) ≤ length (now words)))) ⌝ }
     ensures { λ r. ⌜ Put (now (words .entry)) (now (words .exit)) at r
-        (tablesOf (domainIn (now (rows .entry))) (place (i .0) (p .0) ∷ [])) ⌝ }
+        (ownTablesOf (domainIn (now (rows .entry))) (place (i .0) (p .0) ∷ [])) ⌝ }
 {
     if !is_table(rows, i, p) {
         return at;
@@ -101,6 +102,7 @@ fn put_table(
 // the levels of one phy.
 fn put_tables(
     rows: &[u64],
+    first: &[u16],
     lists: &[u64],
     below: &[u8],
     order: &mut [u8],
@@ -108,10 +110,10 @@ fn put_tables(
     words: &mut [u64],
     at: usize,
 ) -> usize
-    requires { ⌜ OwnHeld (domainIn (now rows)) (now lists) × (BelowHeld (domainIn (now rows)) (now below) × ((length (now order) ≡ 4161)
-        × (Fillable (domainIn (now rows)) × (at + sizes (domainIn (now rows)) (placesAt (domainIn (now rows)) (i .0)) ≤ length (now words))))) ⌝ }
+    requires { ⌜ IndexedFirst (domainIn (now rows)) (now first) × (OwnHeld (domainIn (now rows)) (now lists) × (BelowHeld (domainIn (now rows)) (now below) × ((65 * length (domainIn (now rows)) < length (now order))
+        × (Fillable (domainIn (now rows)) × (at + sizes (domainIn (now rows)) (placesAt (domainIn (now rows)) (i .0)) ≤ length (now words)))))) ⌝ }
     ensures { λ r. ⌜ Put (now (words .entry)) (now (words .exit)) at r
-        (tablesOf (domainIn (now (rows .entry))) (placesAt (domainIn (now (rows .entry))) (i .0))) ⌝ }
+        (ownTablesOf (domainIn (now (rows .entry))) (placesAt (domainIn (now (rows .entry))) (i .0))) ⌝ }
 {
     let n = wiring::phy_count(rows, i);
     let mut to = at;
@@ -119,8 +121,8 @@ fn put_tables(
     let mut m: usize = 0;
     let mut p: u8 = 0;
     while p < n {
-        let f = wiring::phy_at(rows, i, PhyId(p));
-        m = order::order_for(rows, below, g, m, f, order);
+        let f = wiring::phy_below(rows, i, PhyId(p));
+        m = order::order_for(rows, first, below, g, m, i, PhyId(p), f, order);
         g = f;
         to = put_table(rows, lists, &order[..m], i, PhyId(p), words, to);
         p += 1;
@@ -128,29 +130,71 @@ fn put_tables(
     to
 }
 
-// Writes all tables from the front on; the words after them stay.
-pub(crate) fn put_all(rows: &[u64], words: &mut [u64])
-    requires { ⌜ Fillable (domainIn (now rows)) × (needed (domainIn (now rows)) ≤ length (now words)) ⌝ }
-    ensures { λ _. ⌜ now (words .exit) ≡ tables (domainIn (now (rows .entry))) ++ drop (needed (domainIn (now (rows .entry)))) (now (words .entry)) ⌝ }
+// Writes all tables from the front on, with room for own lists, for the expanders below each, and for the levels
+// of one phy; the words after them stay.
+fn put_all_in(
+    rows: &[u64],
+    first: &[u16],
+    low: &[u8],
+    lists: &mut [u64],
+    below: &mut [u8],
+    order: &mut [u8],
+    words: &mut [u64],
+)
+    requires { ⌜ Indexed (domainIn (now rows)) (now first) (now low) × (FillRoom (domainIn (now rows)) (now lists) (now below) (now order)
+        × (Fillable (domainIn (now rows)) × (needed (domainIn (now rows)) ≤ length (now words)))) ⌝ }
+    ensures { λ _. ⌜ now (words .exit) ≡ ownTables (domainIn (now (rows .entry))) ++ drop (needed (domainIn (now (rows .entry)))) (now (words .entry)) ⌝ }
 {
-    let mut lists = [0u64; 8256];
-    let mut below = [0u8; 4224];
-    let mut order = [0u8; 4161];
-    own::put_owns(rows, &mut lists[..]);
-    below::put_below(rows, &mut below[..]);
+    own::put_owns(rows, low, lists);
+    below::put_below(rows, first, low, below);
     let n = wiring::expander_count(rows);
     let mut to: usize = 0;
     let mut i: u8 = 0;
     while i < n {
         to = put_tables(
             rows,
-            &lists[..],
-            &below[..],
-            &mut order[..],
+            first,
+            lists,
+            below,
+            order,
             ExpanderNumber(i),
             words,
             to,
         );
         i += 1;
     }
+}
+
+// The same. Few expanders need little room.
+pub(crate) fn put_all(rows: &[u64], first: &[u16], low: &[u8], words: &mut [u64])
+    requires { ⌜ Indexed (domainIn (now rows)) (now first) (now low) × (Fillable (domainIn (now rows)) × (needed (domainIn (now rows)) ≤ length (now words))) ⌝ }
+    ensures { λ _. ⌜ now (words .exit) ≡ ownTables (domainIn (now (rows .entry))) ++ drop (needed (domainIn (now (rows .entry)))) (now (words .entry)) ⌝ }
+{
+    if wiring::expander_count(rows) <= 8 {
+        let mut lists = [0u64; 1032];
+        let mut below = [0u8; 528];
+        let mut order = [0u8; 521];
+        put_all_in(
+            rows,
+            first,
+            low,
+            &mut lists[..],
+            &mut below[..],
+            &mut order[..],
+            words,
+        );
+        return;
+    }
+    let mut lists = [0u64; 8256];
+    let mut below = [0u8; 4224];
+    let mut order = [0u8; 4161];
+    put_all_in(
+        rows,
+        first,
+        low,
+        &mut lists[..],
+        &mut below[..],
+        &mut order[..],
+        words,
+    );
 }

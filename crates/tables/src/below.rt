@@ -7,9 +7,11 @@ use wiring::Phy;
 use wiring::PhyId;
 ghost use mathlib.Core.Path.{_≡_};
 ghost use mathlib.Core.List.{[], _∷_};
-ghost use Prim.Native.Nat.{_≤_};
+ghost use Prim.Native.Nat.{_*_, _≤_};
 ghost use lib.ListN.{length};
 ghost use Rattle.wiring.specs.Lists.{isIn};
+ghost use Rattle.wiring.specs.Domain.{phyAt};
+ghost use Rattle.wiring.specs.Addresses.{IndexedFirst};
 ghost use Rattle.wiring.specs.Rows.{domainIn};
 ghost use Rattle.tables.specs.Levels.{belowPhys};
 ghost use Rattle.tables.specs.Filling.{Grown, Added};
@@ -45,30 +47,44 @@ fn add_number(part: &mut [u8], m: usize, j: ExpanderNumber) -> usize
     m + 1
 }
 
-// The same of the expander attached to a phy, where the levels go on there.
-fn add_phy(rows: &[u64], part: &mut [u8], m: usize, f: Phy) -> usize
-    requires { ⌜ m ≤ length (now part) ⌝ }
+// The same of the expander attached to f, phy p of expander i, where the levels go on there.
+fn add_phy(
+    rows: &[u64],
+    first: &[u16],
+    i: ExpanderNumber,
+    p: PhyId,
+    f: Phy,
+    part: &mut [u8],
+    m: usize,
+) -> usize
+    requires { ⌜ IndexedFirst (domainIn (now rows)) (now first) × ((f ≡ phyAt (domainIn (now rows)) (i .0) (p .0)) × (m ≤ length (now part))) ⌝ }
     ensures { λ r. ⌜ Added (now (part .entry)) (now (part .exit)) m r (belowPhys (domainIn (now (rows .entry))) (f ∷ [])) ⌝ }
 {
     if !wide::is_down(f) {
         return m;
     }
-    add_number(part, m, wiring::number_of(rows, wiring::phy_address(f)))
+    add_number(part, m, wiring::far_number(rows, first, i, p))
 }
 
 // Writes the list of expander i, and yields its length. Of the phys of one link the lowest is enough.
-fn collect_below(rows: &[u64], i: ExpanderNumber, part: &mut [u8]) -> usize
-    requires { ⌜ length (now part) ≡ 65 ⌝ }
+fn collect_below(
+    rows: &[u64],
+    first: &[u16],
+    low: &[u8],
+    i: ExpanderNumber,
+    part: &mut [u8],
+) -> usize
+    requires { ⌜ IndexedFirst (domainIn (now rows)) (now first) × (length (now part) ≡ 65) ⌝ }
     ensures { λ r. ⌜ Grown (now (part .entry)) (now (part .exit)) r (belowOnce (domainIn (now (rows .entry))) (i .0)) ⌝ }
 {
     let n = wiring::phy_count(rows, i);
-    let mut slots = [255u8; 256];
     let mut m: usize = 0;
     let mut p: u8 = 0;
     while p < n {
-        let q = wide::lower_phy(rows, &mut slots[..], i, PhyId(p));
+        let f = wiring::phy_below(rows, i, PhyId(p));
+        let q = wide::lower_phy(rows, low, i, PhyId(p), f);
         if q.0 >= p {
-            m = add_phy(rows, part, m, wiring::phy_at(rows, i, PhyId(p)));
+            m = add_phy(rows, first, i, PhyId(p), f, part, m);
         }
         p += 1;
     }
@@ -76,15 +92,21 @@ fn collect_below(rows: &[u64], i: ExpanderNumber, part: &mut [u8]) -> usize
 }
 
 // Writes the list of each expander.
-pub(crate) fn put_below(rows: &[u64], below: &mut [u8])
-    requires { ⌜ 4224 ≤ length (now below) ⌝ }
+pub(crate) fn put_below(rows: &[u64], first: &[u16], low: &[u8], below: &mut [u8])
+    requires { ⌜ IndexedFirst (domainIn (now rows)) (now first) × (66 * length (domainIn (now rows)) ≤ length (now below)) ⌝ }
     ensures { λ _. ⌜ BelowHeld (domainIn (now (rows .entry))) (now (below .exit)) ⌝ }
 {
     let n = wiring::expander_count(rows);
     let mut i: u8 = 0;
     while i < n {
         let a = 66 * (i as usize);
-        let m = collect_below(rows, ExpanderNumber(i), &mut below[a + 1..a + 66]);
+        let m = collect_below(
+            rows,
+            first,
+            low,
+            ExpanderNumber(i),
+            &mut below[a + 1..a + 66],
+        );
         below[a] = m as u8;
         i += 1;
     }

@@ -7,8 +7,8 @@ ghost use Prim.Native.Nat.{_+_, _-_, _≤_};
 ghost use lib.ListN.{length, take, replicate};
 ghost use Rattle.wiring.specs.Rows.{domainIn};
 ghost use Rattle.tables.specs.Own.{own};
-ghost use Rattle.tables.specs.Filling.{Grown, TableFilled};
-ghost use Rattle.tables.specs.Prepared.{OwnHeld, FilledFrom};
+ghost use Rattle.tables.specs.Filling.{Grown};
+ghost use Rattle.tables.specs.Prepared.{OwnHeld, orderList, filledTo, FilledFrom};
 
 // Copies the words after the first n of `part`, and yields how many stand there then.
 fn copy_words(words: &[u64], part: &mut [u64], n: usize) -> usize
@@ -66,8 +66,8 @@ fn clear_from(part: &mut [u64], n: usize)
     }
 }
 
-// The table of phy p of expander x, in words of its own: its level list, and zeros after it. `lists`
-// has the own lists, `order` the expanders of the phy's levels. The answer is the list's length.
+// The table of phy p of expander x, in words of its own: the own lists of its order, and zeros after them. `lists`
+// has the own lists, `order` the expanders of the phy's levels.
 pub(crate) fn fill_table(
     rows: &[u64],
     lists: &[u64],
@@ -75,11 +75,10 @@ pub(crate) fn fill_table(
     x: ExpanderNumber,
     p: PhyId,
     part: &mut [u64],
-) -> usize
+)
     requires { ⌜ FilledFrom (domainIn (now rows)) (x .0) (p .0) (now lists) (now order) (length (now part)) ⌝ }
-    ensures { λ r. ⌜ TableFilled (domainIn (now (rows .entry))) (x .0) (p .0) (now (part .entry)) (now (part .exit)) r ⌝ }
+    ensures { λ _. ⌜ now (part .exit) ≡ filledTo (length (now (part .entry))) (orderList (domainIn (now (rows .entry))) (x .0) (p .0)) ⌝ }
 {
     let n = copy_lists(rows, lists, order, part);
     clear_from(part, n);
-    n
 }

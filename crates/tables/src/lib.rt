@@ -11,6 +11,7 @@ mod wide;
 pub use all_tables::needed_words;
 pub use all_tables::table_count;
 pub use all_tables::words_before;
+pub use calls::give_rows;
 pub use calls::give_tables;
 pub use calls::judge;
 pub use calls::judge_rows;
@@ -33,6 +34,7 @@ pub use wiring::phy_count;
 pub use wiring::phy_far;
 pub use wiring::phy_type;
 pub use wiring::read_domain;
+pub use wiring::stated_count;
 
 // What the judging call answers: the number of expanders.
 pub enum Judgement {

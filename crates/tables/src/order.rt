@@ -3,13 +3,14 @@
 use crate::wide;
 use wiring::ExpanderNumber;
 use wiring::Phy;
+use wiring::PhyId;
 ghost use mathlib.Core.List.{[], _∷_, _++_};
-ghost use Prim.Native.Nat.{_+_, _≤_};
+ghost use Prim.Native.Nat.{_+_, _*_, _≤_, _<_};
 ghost use lib.ListN.{length, take};
 ghost use Rattle.wiring.specs.Rows.{domainIn};
 ghost use Rattle.tables.specs.Levels.{belowPhys};
 ghost use Rattle.tables.specs.Filling.{Grown};
-ghost use Rattle.tables.specs.Prepared.{BelowHeld, belowOnce, orderOf};
+ghost use Rattle.tables.specs.Prepared.{BelowHeld, belowOnce, orderOf, PhyIndexed};
 
 // Copies the numbers after the first m of `order`, and yields how many there are then.
 fn append_numbers(order: &mut [u8], m: usize, more: &[u8]) -> usize
@@ -40,27 +41,42 @@ fn append_below(rows: &[u64], below: &[u8], i: ExpanderNumber, order: &mut [u8],
     append_numbers(order, m, &below[from..to])
 }
 
-// Writes the first level of phy f: the expander attached to it, where the levels go on there. The answer is
+// Writes the first level of f, phy p of expander i: the expander attached to it, where the levels go on there. The answer is
 // how many there are.
-fn first_level(rows: &[u64], level: &mut [u8], f: Phy) -> usize
-    requires { ⌜ 1 ≤ length (now level) ⌝ }
+fn first_level(
+    rows: &[u64],
+    first: &[u16],
+    i: ExpanderNumber,
+    p: PhyId,
+    f: Phy,
+    level: &mut [u8],
+) -> usize
+    requires { ⌜ PhyIndexed (domainIn (now rows)) (now first) (i .0) (p .0) f × (1 ≤ length (now level)) ⌝ }
     ensures { λ r. ⌜ Grown (now (level .entry)) (now (level .exit)) r (belowPhys (domainIn (now (rows .entry))) (f ∷ [])) ⌝ }
 {
     if !wide::is_down(f) {
         return 0;
     }
-    level[0] = wiring::number_of(rows, wiring::phy_address(f)).0;
+    level[0] = wiring::far_number(rows, first, i, p).0;
     1
 }
 
-// Writes the order of phy f, and yields its length. At most 64 expanders are followed, and at most 65 are
+// Writes the order of f, phy p of expander i, and yields its length. At most 64 expanders are followed, and at most 65 are
 // below each.
-pub(crate) fn put_order(rows: &[u64], below: &[u8], f: Phy, order: &mut [u8]) -> usize
-    requires { ⌜ BelowHeld (domainIn (now rows)) (now below) × (4161 ≤ length (now order)) ⌝ }
+pub(crate) fn put_order(
+    rows: &[u64],
+    first: &[u16],
+    below: &[u8],
+    i: ExpanderNumber,
+    p: PhyId,
+    f: Phy,
+    order: &mut [u8],
+) -> usize
+    requires { ⌜ PhyIndexed (domainIn (now rows)) (now first) (i .0) (p .0) f × (BelowHeld (domainIn (now rows)) (now below) × (65 * length (domainIn (now rows)) < length (now order))) ⌝ }
     ensures { λ r. ⌜ Grown (now (order .entry)) (now (order .exit)) r (orderOf (domainIn (now (rows .entry))) f) ⌝ }
 {
     let turns = wiring::expander_count(rows) as usize;
-    let mut m = first_level(rows, order, f);
+    let mut m = first_level(rows, first, i, p, f, order);
     let mut k: usize = 0;
     while k < turns {
         if k >= m {
@@ -76,17 +92,20 @@ pub(crate) fn put_order(rows: &[u64], below: &[u8], f: Phy, order: &mut [u8]) ->
 // link.
 pub(crate) fn order_for(
     rows: &[u64],
+    first: &[u16],
     below: &[u8],
     g: Phy,
     n: usize,
+    i: ExpanderNumber,
+    p: PhyId,
     f: Phy,
     order: &mut [u8],
 ) -> usize
-    requires { ⌜ BelowHeld (domainIn (now rows)) (now below) × ((4161 ≤ length (now order)) × Grown (now order) (now order) n (orderOf (domainIn (now rows)) g)) ⌝ }
+    requires { ⌜ PhyIndexed (domainIn (now rows)) (now first) (i .0) (p .0) f × (BelowHeld (domainIn (now rows)) (now below) × ((65 * length (domainIn (now rows)) < length (now order)) × Grown (now order) (now order) n (orderOf (domainIn (now rows)) g))) ⌝ }
     ensures { λ r. ⌜ Grown (now (order .entry)) (now (order .exit)) r (orderOf (domainIn (now (rows .entry))) f) ⌝ }
 {
     if wide::are_one_link(g, f) {
         return n;
     }
-    put_order(rows, below, f, order)
+    put_order(rows, first, below, i, p, f, order)
 }

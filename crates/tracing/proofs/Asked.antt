@@ -10,12 +10,13 @@ use Rattle.tables.specs.Wiring.{Refusal, refused, good, unless, refusal, Domain
 use Rattle.tables.specs.Tables.{needed}
 use Rattle.tables.proofs.Wiring.{tests, or-cases, or-left, or-right, eq→eqb, unless-good, good-unless}
 use Rattle.tables.specs.Judge.{judgedDomain}
+use Rattle.tables.specs.Prepared.{judgedIn}
 use Rattle.tracing.specs.declared.End.{End}
 use Rattle.tracing.specs.declared.TraceAnswer.{TraceAnswer}
 use Rattle.tracing.specs.declared.TraceAnswer.the-variants.{Refused, Ended}
-use Rattle.tracing.specs.Trace.{Request, traced, allowed, requested, traceCall, tracedRequest, judgedRequest, TraceDone}
+use Rattle.tracing.specs.Trace.{Request, traced, allowed, requested, traceCall, tracedRequest, TraceDone}
 use Rattle.tracing.specs.Tested.{Asks}
-use Rattle.tracing.specs.Answers.{Walked}
+use Rattle.tracing.specs.Answers.{Walked, requestIn}
 
 pub allowed-by : (d : Domain) (i p : ℕ) {a b c : Bool} → ltb i (length d) ≡ a → eqb p 255 ≡ b → toEnd (phyAt d i p) ≡ c
     → allowed d i p ≡ (a && (b || c))
@@ -81,23 +82,22 @@ module _ (d : Domain) (words : List ℕ) (q : Request) (before : List ℕ) where
   answer-yes e w = rw (sym e) (record { answers = w .ends; bytes = w .bytes })
 
 -- the trace call past causes 1 to 6
-module _ (d : Domain) (words before : List ℕ) (q : Request) where
-  pub rows-refused : (r : Refusal) → judgedDomain d ≡ refused r → TraceDone (judgedRequest d words (length before) q) (Refused r) before before
-  unfolding judgedRequest
+module _ (first low : ℕ) (d : Domain) (words before : List ℕ) (q : Request) where
+  pub rows-refused : (r : Refusal) → judgedIn first low d ≡ refused r → TraceDone (requestIn first low d words (length before) q) (Refused r) before before
+  unfolding requestIn
   rows-refused r e = rw e (record { answers = refl; bytes = refl })
 
-  pub rows-done : (answer : TraceAnswer) (after : List ℕ) → judgedDomain d ≡ good d
-      → TraceDone (tracedRequest d words (length before) q) answer before after → TraceDone (judgedRequest d words (length before) q) answer before after
-  unfolding judgedRequest
+  pub rows-done : (answer : TraceAnswer) (after : List ℕ) → judgedIn first low d ≡ good d
+      → TraceDone (tracedRequest d words (length before) q) answer before after → TraceDone (requestIn first low d words (length before) q) answer before after
+  unfolding requestIn
   rows-done answer after e a = rw e a
 
--- the trace call on a file
 module _ (file words before : List ℕ) (q : Request) where
   pub call-refused : (r : Refusal) → domainRead limits file ≡ refused r → TraceDone (traceCall file words (length before) q) (Refused r) before before
   unfolding traceCall
   call-refused r e = rw e (record { answers = refl; bytes = refl })
 
-  pub call-done : (d : Domain) (answer : TraceAnswer) (after : List ℕ) → domainRead limits file ≡ good d
-      → TraceDone (judgedRequest d words (length before) q) answer before after → TraceDone (traceCall file words (length before) q) answer before after
-  unfolding traceCall judgedRequest tracedRequest
-  call-done d answer after e a = rw e a
+  pub call-done : (first low : ℕ) (d : Domain) (answer : TraceAnswer) (after : List ℕ) → domainRead limits file ≡ good d → judgedIn first low d ≡ judgedDomain d
+      → TraceDone (requestIn first low d words (length before) q) answer before after → TraceDone (traceCall file words (length before) q) answer before after
+  unfolding traceCall requestIn
+  call-done first low d answer after e j a = rw e (rw j at a)

@@ -5,11 +5,12 @@ use mathlib.Core.List.{List, _++_}
 use lib.ListN.{length, take, drop}
 use Rattle.tables.specs.Wiring.{Phy}
 use Rattle.tables.specs.Wiring.{placesFrom}
-use Rattle.tables.specs.Wiring.{Domain, addressOf, farOf, numberOf}
+use Rattle.tables.specs.Wiring.{Result, then, Domain, addressOf, farOf, numberOf}
 use Rattle.tables.specs.Tables.{sizes}
+use Rattle.tables.specs.Prepared.{judgedIn}
 use Rattle.tracing.specs.Steps.{Step as Stepped, here, endDevice, bad, lost, onward, Pick as Picked, at, nowhere, pick, phyNumbers}
 use Rattle.tracing.specs.Steps.{bearing, listing, subtracting, subtractively, byTable, directly}
-use Rattle.tracing.specs.Trace.{Traced, report, traceAnswer}
+use Rattle.tracing.specs.Trace.{Request, Traced, tracedRequest, report, traceAnswer}
 use Rattle.tracing.specs.declared.Step.{Step}
 use Rattle.tracing.specs.declared.Step.the-variants.{Here, EndDevice, Bad, Lost, Onward}
 use Rattle.tracing.specs.declared.steps.Pick.{Pick}
@@ -66,3 +67,7 @@ endOf o i p count = record { outcome = o; last = record { 0 = i }; phy = record 
 pub record Walked (t : Traced) (end : End) (before after : List ℕ) : Type 0 where
   pub ends : traceAnswer (Ended end) ≡ report t
   pub bytes : after ≡ t .passed ++ drop (length (t .passed)) before
+
+-- causes 7 to 17, then the trace; 14 by own lists, and 16 where there is no room for entries of so many slots and phys
+unfoldable pub requestIn : ℕ → ℕ → Domain → List ℕ → ℕ → Request → Result Traced
+requestIn first low d words bytes q = then (judgedIn first low d) (λ e. tracedRequest e words bytes q)

@@ -6,33 +6,63 @@ use tables::DomainRead;
 use tables::ExpanderNumber;
 use tables::PhyId;
 ghost use lib.ListN.{length};
-ghost use Rattle.tracing.specs.Trace.{request, traceCall, judgedRequest, TraceDone};
-ghost use Rattle.tables.specs.Prepared.{Lawful};
-ghost use Rattle.tables.specs.Wiring.{domainIn};
+ghost use Rattle.tracing.specs.Trace.{request, traceCall, TraceDone};
+ghost use Rattle.tracing.specs.Answers.{requestIn};
+ghost use Rattle.tables.specs.Wiring.{domainIn, FileRoom};
 
-// Causes 7 to 17 of a request over rows, then the walk.
+// Causes 7 to 17 of a request over rows, then the walk. `first` and `low` have room for who has which
+// address; 16 where there is too little.
 fn request_rows(
     rows: &[u64],
+    first: &mut [u16],
+    low: &mut [u8],
     words: &[u64],
     start: ExpanderNumber,
     arrival: PhyId,
     s: u64,
     passed: &mut [u8],
 ) -> TraceAnswer
-    requires { ⌜ Lawful (domainIn (now rows)) ⌝ }
     ensures { λ r. ⌜ TraceDone
-        (judgedRequest (domainIn (now (rows .entry))) (now (words .entry)) (length (now (passed .entry))) (request (start .0) (arrival .0) s))
+        (requestIn (length (now (first .entry))) (length (now (low .entry))) (domainIn (now (rows .entry))) (now (words .entry)) (length (now (passed .entry))) (request (start .0) (arrival .0) s))
         r (now (passed .entry)) (now (passed .exit)) ⌝ }
 {
-    let verdict = tables::judge_rows(rows);
+    let verdict = tables::judge_rows(rows, first, low);
     match verdict {
         Check::Refused(r) => TraceAnswer::Refused(r),
         Check::Passed => requests::trace_rows(rows, words, start, arrival, s, passed),
     }
 }
 
+// The trace call, with room for the rows of the file's domain and for who has which address.
+fn trace_in(
+    file: &[u8],
+    rows: &mut [u64],
+    first: &mut [u16],
+    low: &mut [u8],
+    words: &[u64],
+    start: ExpanderNumber,
+    arrival: PhyId,
+    s: u64,
+    passed: &mut [u8],
+) -> TraceAnswer
+    requires { ⌜ FileRoom (now file) (now rows) (now first) (now low) ⌝ }
+    ensures { λ r. ⌜ TraceDone
+        (traceCall (now (file .entry)) (now (words .entry)) (length (now (passed .entry))) (request (start .0) (arrival .0) s))
+        r (now (passed .entry)) (now (passed .exit)) ⌝ }
+{
+    let read = tables::read_domain(file, rows);
+    match read {
+        DomainRead::Refused(r) => TraceAnswer::Refused(r),
+        DomainRead::Expanders(n) => {
+            let e = 258 * (n as usize);
+            request_rows(&rows[..e], first, low, words, start, arrival, s, passed)
+        }
+    }
+}
+
 // The trace call: causes 1 to 17, or how the request ends. The numbers of the expanders passed
-// fill the first of the lent bytes; the rest stay, and all of them where it is refused.
+// fill the first of the lent bytes; the rest stay, and all of them where it is refused. Few
+// expanders need little room.
 pub fn trace(
     file: &[u8],
     words: &[u64],
@@ -45,13 +75,51 @@ pub fn trace(
         (traceCall (now (file .entry)) (now (words .entry)) (length (now (passed .entry))) (request (start .0) (arrival .0) s))
         r (now (passed .entry)) (now (passed .exit)) ⌝ }
 {
-    let mut rows = [0u64; 16512];
-    let read = tables::read_domain(file, &mut rows[..]);
-    match read {
-        DomainRead::Refused(r) => TraceAnswer::Refused(r),
-        DomainRead::Expanders(n) => {
-            let e = 258 * (n as usize);
-            request_rows(&rows[..e], words, start, arrival, s, passed)
-        }
+    let n = tables::stated_count(file);
+    if n <= 2 {
+        let mut rows = [0u64; 516];
+        let mut first = [0u16; 320];
+        let mut low = [0u8; 256];
+        return trace_in(
+            file,
+            &mut rows[..],
+            &mut first[..],
+            &mut low[..],
+            words,
+            start,
+            arrival,
+            s,
+            passed,
+        );
     }
+    if n <= 8 {
+        let mut rows = [0u64; 2064];
+        let mut first = [0u16; 1088];
+        let mut low = [0u8; 1024];
+        return trace_in(
+            file,
+            &mut rows[..],
+            &mut first[..],
+            &mut low[..],
+            words,
+            start,
+            arrival,
+            s,
+            passed,
+        );
+    }
+    let mut rows = [0u64; 16512];
+    let mut first = [0u16; 8256];
+    let mut low = [0u8; 8192];
+    trace_in(
+        file,
+        &mut rows[..],
+        &mut first[..],
+        &mut low[..],
+        words,
+        start,
+        arrival,
+        s,
+        passed,
+    )
 }

@@ -145,7 +145,7 @@ pub wired-same : (d e : Domain) → wiredDomain d ≡ good e → d ≡ e
 wired-same d e f = wired-passed d e f .0
 
 -- cause 9, two phys at a time
-clash-attribute : (φ ψ : Phy) → T (attached φ) → T (attached ψ) → addressOf φ ≡ addressOf ψ → attributeOf φ ≢ attributeOf ψ → T (clash φ ψ)
+pub clash-attribute : (φ ψ : Phy) → T (attached φ) → T (attached ψ) → addressOf φ ≡ addressOf ψ → attributeOf φ ≢ attributeOf ψ → T (clash φ ψ)
 unfolding clash
 clash-attribute φ ψ t u e n =
     let other = not-T (eqb (attributeOf φ) (attributeOf ψ)) (λ o. n (eqb→eq (attributeOf φ) (attributeOf ψ) o)) in

@@ -18,7 +18,7 @@ use Rattle.wiring.specs.Neighbours.{neighbours, setOf, neighbourWord}
 use Rattle.frames.specs.Refusals.{Result, refused, good, refusal}
 use Rattle.wiring.specs.Links.{joined, joinedIn}
 use Rattle.wiring.specs.Rounds.{RoundsRun, hasBit, members, SetBelow, roundTest, nextTest, nextSet, rounds}
-use Rattle.wiring.proofs.Members.{keep-keep, keep-same, isIn-keep, isIn-of, in-upTo, numbers-below, same-test, is-true}
+use Rattle.wiring.proofs.Members.{any-same, keep-keep, keep-same, isIn-keep, isIn-of, in-upTo, numbers-below, same-test, is-true}
 use Rattle.wiring.proofs.Sets.{wordBelow, bitOf, set-word, ones-word, and-word, word-bit, neighbour-word}
 use Rattle.wiring.proofs.Wires.{adj-symmetric}
 
@@ -77,11 +77,6 @@ any-counted f (x ∷ l) = go (f x) (any-counted f l)
     go : (b : Bool) → any f l ≡ leb 1 (length (keep f l)) → (b || any f l) ≡ leb 1 (length (cond b (x ∷ keep f l) (keep f l)))
     go true e = sym (le-leb 1 (suc (length (keep f l))) (omega arith))
     go false e = e
-
-any-same : (f g : ℕ → Bool) (l : List ℕ) → ((x : ℕ) → f x ≡ g x) → any f l ≡ any g l
-unfolding any
-any-same f g [] e = refl
-any-same f g (x ∷ l) e = ap₂ (λ (a b : Bool). a || b) (e x) (any-same f g l e)
 
 -- the code's test is the definition's
 pub next-test : (d : Domain) (k word set v : ℕ) → v < length d → SetBelow (length d) set → word ≡ neighbourWord d v

@@ -1,66 +1,121 @@
--- Cables: the keys of attached addresses, turn by turn, and neighbours by the cabled words.
-use Prim.Native.Nat.{ℕ, _+_, _<_}
-use mathlib.Core.Path.{_≡_, sym, _∙_, ap, ap₂, subst}
+-- Cables as sets: the set of one phy, of the phys of an expander one by one, and which expanders it leads to.
+use Prim.Native.Nat.{ℕ, suc, _+_, _-_, _*_, _/_, _%_, _^_, _≤_, _<_, max}
+use mathlib.Core.Path.{_≡_, refl, sym, _∙_, ap, ap₂}
 use mathlib.Core.Logic.{by-cases}
-use mathlib.Core.Bool.{false, _||_}
-use mathlib.Core.List.{List}
-use native.Mathlib.Decide.{ℕ-discrete}
+use mathlib.Core.Bool.{Bool, true, false, _||_, _&&_}
+use mathlib.Core.List.{List, [], _∷_}
+use native.Mathlib.Decide.{ℕ-discrete, decLt}
 use native.Mathlib.Omega.{arith}
-use lib.ListN.{length, getD}
-use lib.Dec.{T, eqb, eqb→eq}
+use native.Mathlib.Nat.{one-mul, mod-eq-of-lt, div-eq-of-lt, zero-div}
+use native.Mathlib.Numerals.{add-one}
+use lib.ListN.{length, getD, take}
+use lib.Seq.{take-suc}
+use lib.Dec.{eqb, eqb→eq}
+use lib.Bits.{bitOr, or-shr, or-step, shifted-even}
+use lib.Pow.{pow-lt, pow-add, shl-shr}
+use borrow.Author.Tests.{eq-eqb, ne-eqb, lt-leb}
+use Rattle.wiring.specs.declared.Phy.{Phy}
 use Rattle.wiring.specs.declared.Phy.the-variants.{Vacant}
-use Rattle.wiring.specs.Domain.{Domain, expanderAt, phyAt, addressOf, toExpander}
-use Rattle.wiring.specs.Neighbours.{cabled, neighbours}
-use Rattle.wiring.specs.Checks.{toExpanderWith}
-use Rattle.wiring.specs.Rounds.{WordEach, hasBit}
-use Rattle.wiring.specs.Seen.{mayHave, KeyAdded}
-use Rattle.wiring.specs.Cables.{cableKey, FarKeys, cabledWord, eitherHas}
-use Rattle.wiring.proofs.Members.{and-left, and-right, is-false, was-false, of-any, getD-in}
-use Rattle.wiring.proofs.Bitsets.{set-bit}
+use Rattle.wiring.specs.Lists.{any}
+use Rattle.wiring.specs.Domain.{Domain, expanderAt, typeOf, addressOf, toExpander, numberOf}
+use Rattle.wiring.specs.Neighbours.{cabled}
+use Rattle.wiring.specs.Rounds.{hasBit}
+use Rattle.wiring.specs.Cables.{leadsTo, FarSet, Leading}
+use Rattle.wiring.proofs.Members.{any-same, any-append, eq→eqb, same-test}
+use Rattle.wiring.proofs.Wires.{numberOf-is}
+use Rattle.wiring.proofs.Finding.{number-le}
 
-module _ (d : Domain) (i : ℕ) where
-  pub far-none : (keys : List ℕ) → FarKeys d i 0 keys
-  far-none keys = record { here = λ p h. absurd (omega arith) }
+-- a bit of what two words hold together
+or-bit : (w v j : ℕ) → bitOr w v / 2 ^ j % 2 ≡ max (w / 2 ^ j % 2) (v / 2 ^ j % 2)
+or-bit w v j =
+    let a = w / 2 ^ j in
+    let b = v / 2 ^ j in
+    let e : bitOr w v / 2 ^ j ≡ bitOr a b = or-shr w v j in
+    let s : bitOr a b ≡ bitOr (a / 2) (b / 2) * 2 + max (a % 2) (b % 2) = or-step a b in
+    omega arith
 
-  -- a phy whose key is added, and one that is not attached to an expander
-  pub far-go : (n : ℕ) (before after : List ℕ) → FarKeys d i n before → KeyAdded before after (cableKey (addressOf (phyAt d i n))) → FarKeys d i (n + 1) after
-  far-go n before after f k =
-      record {
-        here = λ p h t. by-cases (ℕ-discrete p n)
-            (λ e. subst (λ (v : ℕ). T (mayHave after (cableKey (addressOf (phyAt d i v))))) (sym e) (k .here))
-            (λ e. k .kept _ (f .here p (omega arith) t));
-      }
+has-either : (w v j : ℕ) → hasBit (bitOr w v) j ≡ (hasBit w j || hasBit v j)
+has-either w v j =
+    let o = or-bit w v j in
+    by-cases (ℕ-discrete (w / 2 ^ j % 2) 1)
+    (λ z. rw (eq-eqb (w / 2 ^ j % 2) 1 z) (eq-eqb (bitOr w v / 2 ^ j % 2) 1 (omega arith)))
+    (λ z. rw (ne-eqb (w / 2 ^ j % 2) 1 z) (let e : bitOr w v / 2 ^ j % 2 ≡ v / 2 ^ j % 2 = omega arith in ap (λ (x : ℕ). eqb x 1) e))
 
-  pub far-skip : (n : ℕ) (keys : List ℕ) → FarKeys d i n keys → toExpander (phyAt d i n) ≡ false → FarKeys d i (n + 1) keys
-  far-skip n keys f q =
-      record {
-        here = λ p h t. by-cases (ℕ-discrete p n)
-            (λ e. absurd (was-false _ q (subst (λ (v : ℕ). T (toExpander (phyAt d i v))) e t)))
-            (λ e. f .here p (omega arith) t);
-      }
+no-bit : (j : ℕ) → hasBit 0 j ≡ false
+no-bit j = rw zero-div
 
-  -- an expander whose address has no key is not cabled to
-  pub not-cabled : (j : ℕ) (keys : List ℕ) → FarKeys d i (length (expanderAt d i .phys)) keys → mayHave keys (cableKey (expanderAt d j .address)) ≡ false
-      → cabled d i j ≡ false
-  unfolding cabled
-  not-cabled j keys f q =
-      let s = expanderAt d j .address in
-      let l = expanderAt d i .phys in
-      is-false (cabled d i j)
-      (λ t. let r = of-any (toExpanderWith s) l t in
-      let g = getD-in l (Vacant 0) (r .0) (r .1) in
-      let φ = phyAt d i (g .0) in
-      let u : T (toExpanderWith s φ) = subst (λ φ. T (toExpanderWith s φ)) (sym (g .2)) (r .2) in
-      let m = f .here (g .0) (g .1) (and-left (toExpander φ) (eqb (addressOf φ) s) u) in
-      let e = eqb→eq (addressOf φ) s (and-right (toExpander φ) (eqb (addressOf φ) s) u) in
-      was-false _ q (subst (λ (v : ℕ). T (mayHave keys (cableKey v))) e m))
+-- a power of two has one bit
+one-bit : (k j : ℕ) → hasBit (2 ^ k) j ≡ eqb k j
+one-bit k j = by-cases (ℕ-discrete k j) here (λ n. by-cases (decLt k j) above (below n))
+  where
+    here : k ≡ j → hasBit (2 ^ k) j ≡ eqb k j
+    here e =
+        let s : 2 ^ j / 2 ^ j ≡ 1 = ap (λ (x : ℕ). x / 2 ^ j) (sym (one-mul (2 ^ j))) ∙ shl-shr 1 j in
+        rw (e, s, eq-eqb j j refl)
 
-module _ (d : Domain) (words : List ℕ) (held : WordEach (length d) (cabledWord d) words) where
-  cabled-bit : (i j : ℕ) → i < length d → j < length d → hasBit (getD words i 0) j ≡ cabled d i j
-  unfolding cabledWord
-  cabled-bit i j h k = ap (λ (x : ℕ). hasBit x j) (held .word i h) ∙ set-bit (cabled d i) (length d) j k
+    above : k < j → hasBit (2 ^ k) j ≡ eqb k j
+    above h = rw (div-eq-of-lt (pow-lt h), ne-eqb k j (λ z. omega arith))
 
-  -- cabled one way or the other
-  pub either-cabled : (i j : ℕ) → i < length d → j < length d → eitherHas words i j ≡ neighbours d i j
-  unfolding neighbours
-  either-cabled i j h k = ap₂ _||_ (cabled-bit i j h k) (cabled-bit j i k h)
+    below : (k ≡ j → ⊥) → ¬ (k < j) → hasBit (2 ^ k) j ≡ eqb k j
+    below n h =
+        let e : suc (k - j - 1) + j ≡ k = omega arith in
+        let s : 2 ^ k / 2 ^ j ≡ 2 ^ suc (k - j - 1) = ap (λ (x : ℕ). 2 ^ x / 2 ^ j) (sym e) ∙ ap (λ (x : ℕ). x / 2 ^ j) (pow-add 2 (suc (k - j - 1)) j) ∙ shl-shr (2 ^ suc (k - j - 1)) j in
+        let z : 2 ^ suc (k - j - 1) % 2 ≡ 0 = ap (λ (x : ℕ). x % 2) (sym (one-mul (2 ^ suc (k - j - 1)))) ∙ shifted-even 1 (k - j - 1) in
+        rw (s, z, ne-eqb k j n)
+
+module _ (d : Domain) where
+  -- one phy
+  module _ (φ : Phy) where
+    one-phy : (w : ℕ) → ((m : ℕ) → m < 64 → hasBit w m ≡ leadsTo d m φ) → FarSet d (φ ∷ []) w
+    unfolding any
+    one-phy w e = record { bit = λ m h. e m h ∙ sym (or-none (leadsTo d m φ)) }
+      where
+        or-none : (b : Bool) → (b || false) ≡ b
+        or-none true = refl
+        or-none false = refl
+
+    pub far-no : typeOf φ < 2 → FarSet d (φ ∷ []) 0
+    far-no h = one-phy 0 (λ m l. no-bit m ∙ rw (lt-leb 2 (typeOf φ) h))
+
+    module _ (t : toExpander φ ≡ true) (k : ℕ) (e : k ≡ numberOf d (addressOf φ)) where
+      pub far-high : 64 ≤ k → FarSet d (φ ∷ []) 0
+      far-high h = one-phy 0 (λ m l. no-bit m ∙ rw (t, ne-eqb (numberOf d (addressOf φ)) m (λ z. omega arith)))
+
+      pub far-one : k < 64 → FarSet d (φ ∷ []) (1 * 2 ^ k % 18446744073709551616)
+      far-one h = one-phy _ (λ m l.
+          let w : 1 * 2 ^ k % 18446744073709551616 ≡ 2 ^ k = rw one-mul (mod-eq-of-lt (pow-lt h)) in
+          ap (λ (x : ℕ). hasBit x m) w ∙ one-bit k m ∙ ap (λ (x : ℕ). eqb x m) e ∙ rw t)
+
+  -- the phys of an expander, one by one
+  pub far-none : FarSet d [] 0
+  unfolding any
+  far-none = record { bit = λ m h. no-bit m }
+
+  pub far-next : (φs : List Phy) (p w v : ℕ) → FarSet d (take p φs) w → FarSet d (getD φs p (Vacant 0) ∷ []) v → p < length φs → FarSet d (take (p + 1) φs) (bitOr w v)
+  far-next φs p w v a b h = record {
+    bit = λ m l. has-either w v m ∙ ap₂ _||_ (a .bit m l) (b .bit m l) ∙ sym (any-append (leadsTo d m) (take p φs) (getD φs p (Vacant 0) ∷ []))
+        ∙ ap (any (leadsTo d m)) (sym (rw add-one (take-suc φs p (Vacant 0) h)));
+  }
+
+  -- numbers of addresses are the same where the addresses are
+  same-number : (s a : ℕ) → numberOf d s < length d → eqb (numberOf d a) (numberOf d s) ≡ eqb a s
+  same-number s a h = same-test (eqb (numberOf d a) (numberOf d s)) (eqb a s)
+      (λ t. let e = eqb→eq (numberOf d a) (numberOf d s) t in
+      eq→eqb a s (sym (numberOf-is d a (omega arith)) ∙ ap (λ (x : ℕ). expanderAt d x .address) e ∙ numberOf-is d s h))
+      (λ t. eq→eqb (numberOf d a) (numberOf d s) (ap (numberOf d) (eqb→eq a s t)))
+
+  module _ (first words : List ℕ) (few : length d ≤ 64) (all : Leading d first words) where
+    pub first-low : (j : ℕ) → j < length d → getD first j 0 < 64
+    first-low j h =
+        let e = all .index .each j (omega arith) .same h in
+        omega (arith, number-le d (expanderAt d j .address) j h refl)
+
+    pub leads-cabled : (i j : ℕ) → i < length d → j < length d → hasBit (getD words i 0) (getD first j 0) ≡ cabled d i j
+    unfolding cabled
+    leads-cabled i j h k =
+        let s = expanderAt d j .address in
+        let e : getD first j 0 ≡ numberOf d s = all .index .each j (omega arith) .same k in
+        let n = number-le d s j k refl in
+        ap (hasBit (getD words i 0)) e ∙ all .sets i h .bit (numberOf d s) (omega arith)
+        ∙ any-same (leadsTo d (numberOf d s)) (λ φ. toExpander φ && eqb (addressOf φ) s) (expanderAt d i .phys)
+        (λ φ. ap (λ b. toExpander φ && b) (same-number s (addressOf φ) (omega arith)))

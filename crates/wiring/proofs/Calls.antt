@@ -1,12 +1,16 @@
 -- The outcomes of the checks in order, and of the wiring call.
-use Prim.Native.Nat.{ℕ, _≤_, _<_}
+use Prim.Native.Nat.{ℕ, _*_, _≤_, _<_}
 use mathlib.Core.Path.{_≡_, refl, sym, _∙_, ap}
-use mathlib.Core.Bool.{true, false}
+use mathlib.Core.Bool.{true, false, _&&_}
 use mathlib.Core.List.{List, _++_}
+use native.Mathlib.Omega.{arith}
 use lib.ListN.{length, drop}
+use lib.Dec.{leb, leb→le}
 use borrow.Author.Tests.{le-leb, lt-leb}
 use Rattle.frames.specs.Refusals.{Result, refused, good, then, refusal}
 use Rattle.frames.specs.declared.Refusal.{Refusal}
+use Rattle.wiring.specs.declared.Check.{Check}
+use Rattle.wiring.specs.declared.Check.the-variants.{Refused as Check·Refused, Passed}
 use Rattle.wiring.specs.declared.Wiring.{Wiring}
 use Rattle.wiring.specs.declared.Wiring.the-variants.{Refused, Bits}
 use Rattle.wiring.specs.Lists.{upTo}
@@ -16,7 +20,10 @@ use Rattle.wiring.specs.Graph.{loopfree}
 use Rattle.wiring.specs.Neighbours.{neighbours, neighbourWord, neighbourWords, bitsIn, wordsFor, wiringCall, WiringDone}
 use Rattle.wiring.specs.File.{limits, domainRead}
 use Rattle.wiring.specs.Links.{unlooped, joinedIn, tableToTable, linkedDomain, checkedDomain}
+use Rattle.wiring.specs.Addresses.{slotsBefore}
+use Rattle.wiring.specs.Checks.{checkedIn}
 use Rattle.wiring.specs.Rounds.{Held}
+use Rattle.wiring.proofs.Members.{tests, is-false}
 use Rattle.wiring.proofs.NeighbourWords.{length-words, each-held}
 
 -- the neighbour words at the front of lent words
@@ -43,6 +50,16 @@ module _ (d : Domain) where
   unfolding checkedDomain
   checked-by x e = rw e
 
+  -- with room for the entries, or without
+  pub checked-short : (first low : ℕ) → (slotsBefore (length d) ≤ first → 128 * length d ≤ low → ⊥) → checkedIn first low d ≡ refused (refusal 16 0 0)
+  unfolding checkedIn
+  checked-short first low n =
+      rw (is-false (leb (slotsBefore (length d)) first && leb (128 * length d) low) (λ t. n (search (tests, leb→le)) (search (tests, leb→le))))
+
+  pub checked-room : (first low : ℕ) → slotsBefore (length d) ≤ first → 128 * length d ≤ low → checkedIn first low d ≡ checkedDomain d
+  unfolding checkedIn
+  checked-room first low a b = rw (le-leb (slotsBefore (length d)) first a, le-leb (128 * length d) low b)
+
   -- the wiring call past causes 1 to 6
   module _ (room : ℕ) (before : List ℕ) where
     pub wiring-short : (x : Result Domain) → x ≡ good d → room < length d → WiringDone (then x (wordsFor room)) (Refused (refusal 16 0 0)) before before
@@ -53,6 +70,10 @@ module _ (d : Domain) where
     wiring-done x n after e h q w =
         rw (e, le-leb (length d) room h)
         (record { answers = ap good q; words = w ∙ ap (λ (m : ℕ). neighbourWords d ++ drop m before) (sym (length-words d)) })
+
+-- nothing is both refused and passed
+pub not-passed : {A : Type 0} {c : Check} (r : Refusal) → c ≡ Check·Refused r → c ≡ Passed → A
+not-passed r e q = let z : _≡_ {A = ℕ} 0 1 = cc in absurd (omega arith)
 
 -- the wiring call on a file
 pub wire-refused : (file before : List ℕ) (r : Refusal) → domainRead limits file ≡ refused r → WiringDone (wiringCall file (length before)) (Refused r) before before

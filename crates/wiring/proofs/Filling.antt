@@ -3,8 +3,8 @@ use Prim.Native.Nat.{ℕ, zero, suc, _+_, _-_, _*_, _≤_, _<_}
 use mathlib.Core.Path.{_≡_, refl, sym, _∙_, ap}
 use mathlib.Core.List.{List, [], _∷_, _++_, append-nil, append-assoc}
 use native.Mathlib.Omega.{arith}
-use native.Mathlib.Nat.{sub-zero, zero-sub, add-zero}
-use lib.ListN.{length, take, drop, set, replicate, length-replicate, length-append, take-append-drop}
+use native.Mathlib.Nat.{add-zero}
+use lib.ListN.{length, take, drop, set, replicate, length-replicate, length-append, length-drop, drop-of-length-le, take-append-drop}
 use lib.Seq.{sets, sets-eq, drop-length, take-at, drop-at, drop-drop, length-take-le}
 use Rattle.frames.specs.Refusals.{Result, refused, good}
 use Rattle.frames.specs.declared.Refusal.{Refusal}
@@ -68,29 +68,36 @@ length-rowOf e h =
     let k : length (phyWords (e .phys)) ≡ 2 * length (e .phys) = length-phyWords (e .phys) in
     rw (length-append, length-replicate) (omega arith)
 
-drop-replicate : (k n : ℕ) → drop {A = ℕ} k (replicate n 0) ≡ replicate (n - k) 0
-drop-replicate zero n = rw sub-zero
-drop-replicate (suc k) zero = rw zero-sub
-drop-replicate (suc k) (suc n) = let e : suc n - suc k ≡ n - k = omega arith in rw e (drop-replicate k n)
-
--- a cleared row with its words stored
-stored : (n a w : ℕ) (ws : List ℕ) → length ws ≤ n
-    → sets (set (set (replicate (suc (suc n)) 0) 0 a) 1 w) 2 ws ≡ a ∷ w ∷ (ws ++ replicate (n - length ws) 0)
-stored n a w ws h =
-    let l : 2 + length ws ≤ suc (suc (length {A = ℕ} (replicate n 0))) = rw (length-replicate {A = ℕ} n 0) (omega arith) in
+-- a row whose words after the phys are zeros, with its words stored
+stored : (l : List ℕ) (a w : ℕ) (ws : List ℕ) → length l ≡ 258 → length ws ≤ 256 → drop (2 + length ws) l ≡ replicate (256 - length ws) 0
+    → sets (set (set l 0 a) 1 w) 2 ws ≡ a ∷ w ∷ (ws ++ replicate (256 - length ws) 0)
+stored [] a w ws n h z = absurd (omega arith)
+stored (x ∷ []) a w ws n h z = absurd (omega arith)
+stored (x ∷ y ∷ l) a w ws n h z =
     let e : 2 + length ws ≡ suc (suc (length ws)) = omega arith in
-    sets-eq ws (a ∷ w ∷ replicate n 0) 2 l ∙ rw (e, drop-replicate (length ws) n)
+    let r : drop (length ws) l ≡ replicate (256 - length ws) 0 = rw e at z in
+    sets-eq ws (a ∷ w ∷ l) 2 (omega arith) ∙ rw (e, r)
 
-pub row-made : (u : ExpanderUnit) (l : List ℕ) (w : ℕ) (file : List ℕ) (i at : ℕ) → l ≡ replicate 258 0
+pub row-made : (u : ExpanderUnit) (l : List ℕ) (w : ℕ) (file : List ℕ) (i at : ℕ) → length l ≡ 258 → drop (2 + 2 * u .phys) l ≡ replicate (256 - 2 * u .phys) 0
     → w ≡ headWord (u .indexes) (u .phys) (u .configurable) → u .phys ≤ 128
     → sets (set (set l 0 (u .address)) 1 w) 2 (phyWords (physGot file (u .address) i (u .phys) 0 at .value))
     ≡ rowOf (expanderOf u (physGot file (u .address) i (u .phys) 0 at .value))
 unfolding rowOf
-row-made u l w file i at el ew b =
+row-made u l w file i at n z ew b =
     let φs : List Phy = physGot file (u .address) i (u .phys) 0 at .value in
     let k : length φs ≡ u .phys = length-physGot file (u .address) i (u .phys) 0 at in
-    let j : length (phyWords φs) ≤ 256 = rw (length-phyWords φs, k) (omega arith) in
-    simp el (stored 256 (u .address) w (phyWords φs) j ∙ rw (ew, k))
+    let q : length (phyWords φs) ≡ 2 * u .phys = length-phyWords φs ∙ ap (λ (x : ℕ). 2 * x) k in
+    stored l (u .address) w (phyWords φs) n (omega arith) (rw q z) ∙ rw (ew, k)
+
+-- the words from k on were cleared
+pub tail-cleared : (k m : ℕ) (row part : List ℕ) → length row ≡ 258 → k ≤ 258 → m ≡ 258 - k → part ≡ replicate (length (take m (drop k row))) 0
+    → drop k (take k row ++ (part ++ drop m (drop k row))) ≡ replicate (258 - k) 0
+tail-cleared k m row part n h e z =
+    let a : length (take k row) ≡ k = length-take-le k row (omega arith) in
+    let b = length-drop k row in
+    let c : length (take m (drop k row)) ≡ 258 - k = length-take-le m (drop k row) (omega arith) ∙ e in
+    let p : drop m (drop k row) ≡ [] = let q : length (drop k row) ≤ m = omega arith in drop-of-length-le (drop k row) q in
+    drop-at (take k row) (part ++ drop m (drop k row)) k a ∙ rw (z, c, p, append-nil)
 
 -- nothing more is pasted
 pasted-none : (ws : List ℕ) (i : ℕ) → pasted ws i [] ≡ ws

@@ -2,8 +2,6 @@
 use Prim.Native.Nat.{ℕ, zero, suc, _+_, _*_, _/_, _%_, _≤_, _<_, min}
 use mathlib.Core.Path.{_≡_, refl, sym, _∙_, ap, subst}
 use mathlib.Core.List.{List, [], _∷_}
-use mathlib.Core.Logic.{by-cases}
-use native.Mathlib.Decide.{decLt}
 use native.Mathlib.Omega.{arith}
 use native.Mathlib.Nat.{add-zero}
 use native.Mathlib.Numerals.{add-one}
@@ -12,8 +10,8 @@ use lib.Seq.{getD-drop, drop-drop, drop-cons}
 use lib.Dec.{eqb}
 use borrow.Author.Tests.{eq-eqb, ne-eqb}
 use mathlib.Core.Bool.{Bool, true, false, cond}
-use Rattle.wiring.specs.declared.Phy.the-variants.{Vacant, Present}
-use Rattle.wiring.specs.Domain.{Domain, Expander, noExpander, expanderAt, phyAt, attributeOf, numberOf}
+use Rattle.wiring.specs.declared.Phy.the-variants.{Vacant}
+use Rattle.wiring.specs.Domain.{Domain, Expander, noExpander, expanderAt, phyAt, numberOf}
 use Rattle.wiring.specs.Rows.{phyIn, physIn, rowIn, rowsIn, domainIn}
 use Rattle.wiring.specs.Checks.{HeadIn}
 use Rattle.wiring.proofs.Wires.{expander-range}
@@ -101,19 +99,6 @@ module _ (ws : List ℕ) (i : ℕ) where
 pub phy-at-in : (ws : List ℕ) (i p : ℕ) → p < length (expanderAt (domainIn ws) i .phys)
     → phyAt (domainIn ws) i p ≡ phyIn (getD ws (258 * i + 2 + 2 * p) 0) (getD ws (258 * i + 2 + 2 * p + 1) 0)
 phy-at-in ws i p h = phy-of-row ws i p (expander-range (domainIn ws) i p h) h
-
--- a routing attribute in rows has two bits
-attribute-in : (s w : ℕ) → attributeOf (phyIn s w) < 4
-attribute-in s w = go (eqb (w % 2) 0)
-  where
-    go : (b : Bool) → attributeOf (cond b (Vacant (w / 2 % 256)) (Present (record { device = w / 2 % 4; attribute = w / 8 % 4; address = s; far = record { 0 = w / 32 % 256 } }))) < 4
-    go true = omega arith
-    go false = omega arith
-
-pub attribute-small : (ws : List ℕ) (i p : ℕ) → attributeOf (phyAt (domainIn ws) i p) < 4
-attribute-small ws i p = by-cases (decLt p (length (expanderAt (domainIn ws) i .phys)))
-    (λ h. rw (phy-at-in ws i p h) (attribute-in (getD ws (258 * i + 2 + 2 * p) 0) (getD ws (258 * i + 2 + 2 * p + 1) 0)))
-    (λ h. rw (no-phy ws i p (omega arith)) (omega arith))
 
 -- the search for an address
 cons-at : (d : Domain) (i : ℕ) → i < length d → drop i d ≡ expanderAt d i ∷ drop (i + 1) d

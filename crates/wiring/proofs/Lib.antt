@@ -6,6 +6,8 @@ pub mod Filling
 pub mod Back
 pub mod RowsRead
 pub mod InRows
+pub mod SearchTrees
+pub mod Finding
 pub mod Searches
 pub mod Walks
 pub mod Loops
@@ -16,8 +18,9 @@ pub mod Opening
 pub mod Sets
 pub mod NeighbourWords
 pub mod Bitsets
-pub mod Keys
 pub mod EndDevices
+pub mod Indexing
+pub mod Entries
 pub mod LowerPhys
 pub mod Cables
 pub mod Calls

@@ -1,88 +1,153 @@
--- Cause 9 by a set of addresses with attributes: how the set grows, and that a phy that cannot clash by it does not.
-use Prim.Native.Nat.{ℕ, _+_, _<_}
-use mathlib.Core.Path.{_≡_, refl, sym, _∙_, ap, subst}
+-- Cause 9 at a phy, where it holds at no lower one: the lowest phy with its address tells its attribute, and the nearest lower subtractive phy
+-- where the others lead.
+use Prim.Native.Nat.{ℕ, _≤_, _<_}
+use mathlib.Core.Path.{_≡_, sym, _∙_, ap, subst}
 use mathlib.Core.Logic.{_≢_, by-cases}
-use mathlib.Core.Bool.{Bool, true, false, cond, not, _||_}
+use mathlib.Core.Bool.{Bool, true, false, not, _&&_}
 use mathlib.Core.List.{List}
-use native.Mathlib.Decide.{ℕ-discrete}
-use lib.ListN.{take}
-use lib.Dec.{T, eqb, eqb→eq, not-T}
-use borrow.Author.Count.{below-more}
+use native.Mathlib.Decide.{ℕ-discrete, decLt}
+use native.Mathlib.Omega.{arith}
+use lib.ListN.{length, take}
+use lib.Dec.{T, eqb, eqb→eq, not-T, T-not}
+use borrow.Author.Tests.{eq-eqb, ne-eqb}
 use Rattle.wiring.specs.declared.Phy.{Phy}
 use Rattle.wiring.specs.declared.Phy.the-variants.{Vacant}
-use Rattle.wiring.specs.Lists.{upTo}
-use Rattle.wiring.specs.Domain.{Domain, expanderAt, phyAt, addressOf, attributeOf, attached, routes}
+use Rattle.wiring.specs.Lists.{any}
+use Rattle.wiring.specs.Domain.{Domain, expanderAt, phyAt, typeOf, addressOf, attributeOf, attached, routes}
+use Rattle.wiring.specs.Rows.{domainIn}
 use Rattle.wiring.specs.Causes.{clash, clashing}
-use Rattle.wiring.specs.Seen.{mayHave, AddedIf}
-use Rattle.wiring.specs.Clashes.{attributeKey, hasOther, mayDiffer, subtractive, mayClash, PhysBelow}
-use Rattle.wiring.proofs.Members.{tests, and-both, any-of, of-any, take-in, in-upTo, is-false, was-false}
-use Rattle.wiring.proofs.Accepted.{clash-address, clash-why, lower-clash}
+use Rattle.wiring.specs.Checks.{causeOf, Testable}
+use Rattle.wiring.specs.Clashes.{subtractive, leadsElsewhere}
+use Rattle.wiring.specs.Addresses.{LowestPhy, IndexedLow, lowestPhy}
+use Rattle.wiring.proofs.Members.{tests, and-right, and-both, eq→eqb, any-of, of-any, in-take, take-in, is-true, is-false, was-false, same-test, not-not}
+use Rattle.wiring.proofs.Wires.{type-attached, type-none}
+use Rattle.wiring.proofs.EndDevices.{short-in}
+use Rattle.wiring.proofs.Entries.{low-told}
+use Rattle.wiring.proofs.Accepted.{clash-attribute, clash-address, clash-why, lower-clash}
 
--- another attribute that is in the set with the address
-differs : (ws : List ℕ) (s a b : ℕ) → b < 4 → a ≢ b → T (mayHave ws (attributeKey s b)) → T (mayDiffer ws s a)
-unfolding mayDiffer
-differs ws s a b h n t =
-    any-of (hasOther ws s a) (upTo 4) b (in-upTo 4 b h)
-    (and-both (not (eqb a b)) (mayHave ws (attributeKey s b)) (not-T (eqb a b) (λ u. n (eqb→eq a b u))) t)
+module _ (d : Domain) (i p : ℕ) (can : Testable 9 d i p) where
+  abbrev phys : List Phy
+  phys = expanderAt d i .phys
 
-module _ (d : Domain) (i p : ℕ) (ws : List ℕ) (found : Bool) (t : ℕ) (φ : Phy) (e : φ ≡ phyAt d i p) (r : PhysBelow d i p ws found t) where
-  -- a phy that cannot clash by the set
-  module _ (small : (q : ℕ) → attributeOf (phyAt d i q) < 4) (free : ¬ (T (mayClash ws found t (phyAt d i p)))) (q : ℕ) (h : q < p) where
-    same-attribute : T (attached (phyAt d i p)) → T (attached (phyAt d i q)) → addressOf (phyAt d i p) ≡ addressOf (phyAt d i q)
-        → attributeOf (phyAt d i p) ≡ attributeOf (phyAt d i q)
-    unfolding mayClash
-    same-attribute u v x =
-        let a = addressOf (phyAt d i p) in
-        let b = attributeOf (phyAt d i q) in
-        by-cases (ℕ-discrete (attributeOf (phyAt d i p)) b) (λ k. k)
-        (λ k. let w : T (mayDiffer ws a (attributeOf (phyAt d i p))) =
-        differs ws a (attributeOf (phyAt d i p)) b (small q) k (subst (λ s. T (mayHave ws (attributeKey s b))) (sym x) (r .keys q h v)) in
-        absurd (free (search tests)))
+  abbrev φ : Phy
+  φ = phyAt d i p
 
-    same-address : T (attached (phyAt d i p)) → T (attached (phyAt d i q)) → T (routes 1 (phyAt d i p)) → T (routes 1 (phyAt d i q))
-        → addressOf (phyAt d i p) ≡ addressOf (phyAt d i q)
-    unfolding mayClash
-    same-address u v x y =
-        let a = addressOf (phyAt d i p) in
-        let w = r .way q h (search tests) in
-        by-cases (ℕ-discrete t a) (λ k. sym k ∙ sym (w .1))
-        (λ k. let o : T (not (eqb t a)) = not-T (eqb t a) (λ z. k (eqb→eq t a z)) in absurd (free (search (tests, w .0))))
+  free : (q : ℕ) → q < p → ¬ (T (clashing d i q))
+  unfolding causeOf
+  free q h = was-false (clashing d i q) (can .none q h)
 
-  pub not-clashing : ((q : ℕ) → attributeOf (phyAt d i q) < 4) → mayClash ws found t φ ≡ false → clashing d i p ≡ false
-  unfolding clashing
-  not-clashing small f = is-false (clashing d i p) (λ c.
-      let o = of-any (clash (phyAt d i p)) (take p (expanderAt d i .phys)) c in
-      let k = take-in p (expanderAt d i .phys) (Vacant 0) (o .0) (o .1) in
-      let n = was-false (mayClash ws found t (phyAt d i p)) (ap (mayClash ws found t) (sym e) ∙ f) in
-      clash-why (phyAt d i p) (phyAt d i (k .0)) (same-attribute small n (k .0) (k .1)) (same-address small n (k .0) (k .1))
-      (subst (λ ψ. T (clash (phyAt d i p) ψ)) (sym (k .3)) (o .2)))
+  -- lower phys of one address have one attribute, and subtractive ones have one address
+  one-attribute : (q r : ℕ) → q ≤ r → r < p → T (attached (phyAt d i q)) → T (attached (phyAt d i r)) → addressOf (phyAt d i r) ≡ addressOf (phyAt d i q)
+      → attributeOf (phyAt d i r) ≡ attributeOf (phyAt d i q)
+  one-attribute q r h l a b e = by-cases (ℕ-discrete (attributeOf (phyAt d i r)) (attributeOf (phyAt d i q))) (λ z. z)
+      (λ z. absurd (free r l (lower-clash d i r q
+      (by-cases (ℕ-discrete q r) (λ o. absurd (z (ap (λ (v : ℕ). attributeOf (phyAt d i v)) (sym o)))) (λ o. omega arith))
+      (clash-attribute (phyAt d i r) (phyAt d i q) b a e z))))
 
-  -- the phys below the next one
-  module _ (after : List ℕ) (a : AddedIf ws after (attached φ) (attributeKey (addressOf φ) (attributeOf φ))) (f : clashing d i p ≡ false) where
-    keys-next : (q : ℕ) → q < p + 1 → T (attached (phyAt d i q)) → T (mayHave after (attributeKey (addressOf (phyAt d i q)) (attributeOf (phyAt d i q))))
-    keys-next =
-        below-more (λ q. T (attached (phyAt d i q)) → T (mayHave after (attributeKey (addressOf (phyAt d i q)) (attributeOf (phyAt d i q))))) p
-        (λ q h u. a .kept _ (r .keys q h u))
-        (subst (λ ψ. T (attached ψ) → T (mayHave after (attributeKey (addressOf ψ) (attributeOf ψ)))) e (a .here))
+  one-address : (q r : ℕ) → q < r → r < p → T (subtractive (phyAt d i q)) → T (subtractive (phyAt d i r)) → addressOf (phyAt d i r) ≡ addressOf (phyAt d i q)
+  one-address q r h l x y = by-cases (ℕ-discrete (addressOf (phyAt d i r)) (addressOf (phyAt d i q))) (λ z. z)
+      (λ z. absurd (free r l (lower-clash d i r q h
+      (clash-address (phyAt d i r) (phyAt d i q) (search tests) (search tests) (search tests) (search tests) z))))
 
-    -- subtractive phys that do not clash have one address
-    one-address : (q : ℕ) → q < p → T (subtractive (phyAt d i p)) → T (subtractive (phyAt d i q)) → addressOf (phyAt d i q) ≡ addressOf (phyAt d i p)
-    one-address q h u v =
-        let φ = phyAt d i p in
-        let ψ = phyAt d i q in
-        by-cases (ℕ-discrete (addressOf φ) (addressOf ψ)) sym
-        (λ k. absurd (was-false (clashing d i p) f (lower-clash d i p q h (clash-address φ ψ (search tests) (search tests) (search tests) (search tests) k))))
+  -- a lower phy that passes a test
+  lower : (f : Phy → Bool) → T (any f (take p phys)) → (q : ℕ) × (q < p) × T (f (phyAt d i q))
+  lower f t =
+      let o = of-any f (take p phys) t in
+      let k = take-in p phys (Vacant 0) (o .0) (o .1) in
+      (k .0, k .1, subst (λ φ. T (f φ)) (sym (k .3)) (o .2))
 
-    way-next : (b : Bool) → subtractive (phyAt d i p) ≡ b → (q : ℕ) → q < p + 1 → T (subtractive (phyAt d i q))
-        → T (b || found) × (addressOf (phyAt d i q) ≡ cond b (addressOf (phyAt d i p)) t)
-    way-next true k =
-        below-more (λ q. T (subtractive (phyAt d i q)) → Unit {0} × (addressOf (phyAt d i q) ≡ addressOf (phyAt d i p))) p
-        (λ q h v. (tt, one-address q h (subst T (sym k) tt) v)) (λ v. (tt, refl))
-    way-next false k =
-        below-more (λ q. T (subtractive (phyAt d i q)) → T found × (addressOf (phyAt d i q) ≡ t)) p (r .way) (λ v. absurd (was-false _ k v))
+  lower-any : (f : Phy → Bool) (q : ℕ) → q < p → T (f (phyAt d i q)) → T (any f (take p phys))
+  lower-any f q h t = let w = can .within in any-of f (take p phys) (phyAt d i q) (in-take phys (Vacant 0) q p h (omega arith)) t
 
-    pub below-next : {found′ : Bool} {t′ : ℕ} → found′ ≡ (subtractive φ || found) → t′ ≡ cond (subtractive φ) (addressOf φ) t → PhysBelow d i (p + 1) after found′ t′
-    below-next x y =
-        let u = x ∙ ap (λ ψ. subtractive ψ || found) e in
-        let v = y ∙ ap (λ ψ. cond (subtractive ψ) (addressOf ψ) t) e in
-        rw (u, v) (record { keys = keys-next; way = way-next (subtractive (phyAt d i p)) refl })
+  -- the search for a subtractive phy with another address than s, from the highest phy below p down
+  module _ (s : ℕ) where
+    pub way-found : (q : ℕ) → q < p → T (subtractive (phyAt d i q)) → ((r : ℕ) → q < r → r < p → subtractive (phyAt d i r) ≡ false)
+        → not (eqb (addressOf (phyAt d i q)) s) ≡ any (leadsElsewhere s) (take p phys)
+    way-found q h x none = same-test (not (eqb (addressOf (phyAt d i q)) s)) (any (leadsElsewhere s) (take p phys))
+        (λ t. lower-any (leadsElsewhere s) q h (search tests))
+        (λ t. let o = lower (leadsElsewhere s) t in
+        let y : T (subtractive (phyAt d i (o .0))) = search (tests, o .2) in
+        let z : T (not (eqb (addressOf (phyAt d i (o .0))) s)) = search (tests, o .2) in
+        let e : addressOf (phyAt d i q) ≡ addressOf (phyAt d i (o .0)) = by-cases (ℕ-discrete q (o .0)) (λ m. ap (λ (v : ℕ). addressOf (phyAt d i v)) m)
+        (λ m. by-cases (decLt q (o .0)) (λ l. absurd (was-false _ (none (o .0) l (o .1)) y)) (λ l. one-address (o .0) q (omega arith) h y x)) in
+        rw e z)
+
+    pub way-none : ((r : ℕ) → r < p → subtractive (phyAt d i r) ≡ false) → false ≡ any (leadsElsewhere s) (take p phys)
+    way-none none = sym (is-false (any (leadsElsewhere s) (take p phys))
+        (λ t. let o = lower (leadsElsewhere s) t in was-false _ (none (o .0) (o .1)) (search (tests, o .2))))
+
+  clash-not : ¬ (T (attached φ)) → false ≡ clashing d i p
+  unfolding clashing clash
+  clash-not n = sym (is-false (clashing d i p) (λ t. let o = lower (clash (phyAt d i p)) t in n (search (tests, o .2))))
+
+  module _ (here : T (attached φ)) (q : ℕ) (least : LowestPhy d i p q) where
+    low-attached : T (attached (phyAt d i q))
+    low-attached = let b = least .bearing in search tests
+
+    low-address : addressOf φ ≡ addressOf (phyAt d i q)
+    low-address = sym (eqb→eq _ _ (and-right (attached (phyAt d i q)) _ (least .bearing)))
+
+    clash-low : attributeOf (phyAt d i q) ≢ attributeOf φ → true ≡ clashing d i p
+    clash-low n =
+        let l = least .low in
+        sym (is-true (clashing d i p) (lower-clash d i p q
+        (by-cases (ℕ-discrete q p) (λ o. absurd (n (ap (λ (v : ℕ). attributeOf (phyAt d i v)) o))) (λ o. omega arith))
+        (clash-attribute φ (phyAt d i q) here low-attached low-address (λ z. n (sym z)))))
+
+    clash-way : attributeOf (phyAt d i q) ≡ attributeOf φ → (routes 1 φ && any (leadsElsewhere (addressOf φ)) (take p phys)) ≡ clashing d i p
+    unfolding clashing
+    clash-way a = same-test (routes 1 φ && any (leadsElsewhere (addressOf φ)) (take p phys)) (clashing d i p)
+        (λ t. let o = lower (leadsElsewhere (addressOf φ)) (and-right (routes 1 φ) _ t) in
+        let u = o .2 in
+        lower-clash d i p (o .0) (o .1) (clash-address φ (phyAt d i (o .0)) here (search tests) (search tests) (search tests)
+        (λ z. T-not (eqb (addressOf (phyAt d i (o .0))) (addressOf φ)) (search tests) (eq→eqb _ _ (sym z)))))
+        (λ t. let o = lower (clash φ) t in
+        let r = o .0 in
+        not-not (routes 1 φ && any (leadsElsewhere (addressOf φ)) (take p phys)) (λ n. clash-why φ (phyAt d i r)
+        (λ _ b z. sym a ∙ sym (one-attribute q r
+        (by-cases (decLt r q) (λ l. absurd (was-false _ (least .none r l) (and-both (attached (phyAt d i r)) _ b (eq→eqb _ _ (sym z))))) (λ l. omega arith))
+        (o .1) low-attached b (sym z ∙ low-address)))
+        (λ _ b x y. by-cases (ℕ-discrete (addressOf φ) (addressOf (phyAt d i r))) (λ z. z)
+        (λ z. let w : T (not (eqb (addressOf (phyAt d i r)) (addressOf φ))) = not-T (eqb (addressOf (phyAt d i r)) (addressOf φ)) (λ k. z (sym (eqb→eq _ _ k))) in
+        absurd (T-not (routes 1 φ && any (leadsElsewhere (addressOf φ)) (take p phys)) n
+        (and-both (routes 1 φ) _ x (lower-any (leadsElsewhere (addressOf φ)) r (o .1) (search tests))))))
+        (o .2)))
+
+-- what the code sees: f is phy p, and t its type; g is phy q, the lowest with its address
+module _ (ws : List ℕ) (i p : ℕ) (can : Testable 9 (domainIn ws) i p) (f : Phy)
+    (ef : p < length (expanderAt (domainIn ws) i .phys) → f ≡ phyAt (domainIn ws) i p) (t : ℕ) (et : t ≡ typeOf f) where
+  type-is : t ≡ typeOf (phyAt (domainIn ws) i p)
+  type-is = et ∙ ap typeOf (ef (can .within))
+
+  pub none-clash : t ≡ 0 → false ≡ clashing (domainIn ws) i p
+  none-clash z = clash-not (domainIn ws) i p can (type-none (phyAt (domainIn ws) i p) (sym type-is ∙ z))
+
+  module _ (n : t ≢ 0) (low : List ℕ) (index : IndexedLow (domainIn ws) low) (q : ℕ) (eq : q ≡ lowestPhy low i p) (g : Phy)
+      (eg : q < length (expanderAt (domainIn ws) i .phys) → g ≡ phyAt (domainIn ws) i q) (a b : ℕ) (ea : a ≡ attributeOf f) (eb : b ≡ attributeOf g) where
+    here : T (attached (phyAt (domainIn ws) i p))
+    here = type-attached (phyAt (domainIn ws) i p) (λ z. n (type-is ∙ z))
+
+    least : LowestPhy (domainIn ws) i p q
+    least = rw eq (low-told (domainIn ws) i p (omega (arith, can .within, short-in ws i)) low index here)
+
+    attribute-is : a ≡ attributeOf (phyAt (domainIn ws) i p)
+    attribute-is = ea ∙ ap attributeOf (ef (can .within))
+
+    lowest-is : b ≡ attributeOf (phyAt (domainIn ws) i q)
+    lowest-is = eb ∙ ap attributeOf (eg (omega (arith, can .within, least .low)))
+
+    pub other-clash : b ≢ a → true ≡ clashing (domainIn ws) i p
+    other-clash m = clash-low (domainIn ws) i p can here q least (λ z. m (lowest-is ∙ z ∙ sym attribute-is))
+
+    module _ (same : b ≡ a) where
+      by-way : (routes 1 (phyAt (domainIn ws) i p) && any (leadsElsewhere (addressOf (phyAt (domainIn ws) i p))) (take p (expanderAt (domainIn ws) i .phys)))
+          ≡ clashing (domainIn ws) i p
+      by-way = clash-way (domainIn ws) i p can here q least (sym lowest-is ∙ same ∙ attribute-is)
+
+      pub way-no : a ≢ 1 → false ≡ clashing (domainIn ws) i p
+      way-no m = rw (ne-eqb (attributeOf (phyAt (domainIn ws) i p)) 1 (λ z. m (attribute-is ∙ z))) at by-way
+
+      pub way-clash : a ≡ 1 → (r : Bool) (s : ℕ) → r ≡ any (leadsElsewhere s) (take p (expanderAt (domainIn ws) i .phys)) → s ≡ addressOf f → r ≡ clashing (domainIn ws) i p
+      way-clash m r s er es =
+          er ∙ ap (λ (x : ℕ). any (leadsElsewhere x) (take p (expanderAt (domainIn ws) i .phys))) (es ∙ ap addressOf (ef (can .within)))
+          ∙ (rw (eq-eqb (attributeOf (phyAt (domainIn ws) i p)) 1 (sym attribute-is ∙ m)) at by-way)

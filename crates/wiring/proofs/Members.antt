@@ -1,5 +1,5 @@
 -- Tests and membership: what tests of booleans say, who is in a list, numbers in a row, different members, and the pigeonhole.
-use mathlib.Core.Path.{_≡_, refl, sym, ap, subst, _∙_}
+use mathlib.Core.Path.{_≡_, refl, sym, ap, ap₂, subst, _∙_}
 use mathlib.Core.Logic.{_⊎_, inl, inr, _≢_, ⊎-elim, by-cases}
 use mathlib.Core.List.{List, [], _∷_, _++_, flatMap, map}
 use mathlib.Core.Bool.{Bool, true, false, cond, not, _||_, _&&_}
@@ -35,6 +35,10 @@ or-left false b t = absurd t
 pub or-right : (a b : Bool) → T b → T (a || b)
 or-right true b t = tt
 or-right false b t = t
+
+or-assoc : (a b c : Bool) → ((a || b) || c) ≡ (a || (b || c))
+or-assoc true b c = refl
+or-assoc false b c = refl
 
 -- a test, decided
 pub T? : (b : Bool) → T b ⊎ ¬ (T b)
@@ -85,6 +89,16 @@ module _ {A : Type 0} where
   unfolding any
   of-any f [] t = absurd t
   of-any f (x ∷ l) t = ⊎-elim (λ u. (x, inl refl, u)) (λ u. let r = of-any f l u in (r .0, inr (r .1), r .2)) (or-cases (f x) (any f l) t)
+
+  pub any-same : (f g : A → Bool) (l : List A) → ((x : A) → f x ≡ g x) → any f l ≡ any g l
+  unfolding any
+  any-same f g [] e = refl
+  any-same f g (x ∷ l) e = ap₂ _||_ (e x) (any-same f g l e)
+
+  pub any-append : (f : A → Bool) (l m : List A) → any f (l ++ m) ≡ (any f l || any f m)
+  unfolding any
+  any-append f [] m = refl
+  any-append f (x ∷ l) m = ap (λ b. f x || b) (any-append f l m) ∙ sym (or-assoc (f x) (any f l) (any f m))
 
   pub in-append : (l m : List A) (w : A) → In w (l ++ m) → In w l ⊎ In w m
   in-append [] m w h = inr h

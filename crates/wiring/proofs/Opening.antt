@@ -1,11 +1,9 @@
--- A file read into 16,512 words, which are enough for the rows of every domain.
+-- A file read into words that are enough for the rows of its domain.
 use Prim.Native.Nat.{ℕ, _*_, _≤_}
 use mathlib.Core.Path.{_≡_, refl, sym, _∙_, ap, subst}
-use mathlib.Core.Bool.{true}
 use mathlib.Core.List.{List}
 use native.Mathlib.Omega.{arith}
 use lib.ListN.{length, take}
-use lib.Dec.{leb}
 use borrow.Author.Tests.{le-leb}
 use Rattle.frames.specs.Refusals.{Result, refused, good, then}
 use Rattle.frames.specs.declared.Refusal.{Refusal}
@@ -14,6 +12,8 @@ use Rattle.wiring.specs.declared.DomainRead.the-variants.{Refused, Expan
 use Rattle.wiring.specs.Domain.{Domain}
 use Rattle.wiring.specs.File.{limits, domainRead}
 use Rattle.wiring.specs.Rows.{domainIn, rowsRead, countOf, RowsRead}
+use Rattle.wiring.specs.Addresses.{slotsBefore}
+use Rattle.wiring.specs.Checks.{FileRoom}
 use Rattle.wiring.proofs.Read.{read-good}
 
 -- what the answer of the reader says of the file
@@ -21,14 +21,23 @@ abbrev pub Opened : List ℕ → DomainRead → List ℕ → Type 0
 Opened file (Refused r) rows = domainRead limits file ≡ refused r
 Opened file (Expanders n) rows = (domainRead limits file ≡ good (domainIn (take (258 * n) rows))) × ((n ≤ 64) × (n ≡ length (domainIn (take (258 * n) rows))))
 
-module _ (file before after : List ℕ) (e : length before ≡ 16512) where
-  fits : (d : Domain) → domainRead limits file ≡ good d → leb (258 * length d) (length before) ≡ true
-  fits d q = let h = read-good limits file d q .few in le-leb (258 * length d) (length before) (omega arith)
+-- room for the rows
+abbrev pub Roomy : List ℕ → List ℕ → Type 0
+Roomy file before = (d : Domain) → domainRead limits file ≡ good d → 258 * length d ≤ length before
 
+-- and for the entries, where there are at most n expanders
+pub file-room : (n : ℕ) (file rows first low : List ℕ) → ((d : Domain) → domainRead limits file ≡ good d → length d ≤ n)
+    → 258 * n ≤ length rows → slotsBefore n ≤ length first → 128 * n ≤ length low → FileRoom file rows first low
+file-room n file rows first low most a b c = record {
+  rows = λ d e. omega (arith, most d e);
+  index = λ d e. let h = most d e in record { slots = omega arith; phys = omega arith };
+}
+
+module _ (file before after : List ℕ) (e : Roomy file before) where
   -- reading with room for every row
   roomy : (d : Domain) → domainRead limits file ≡ good d → rowsRead file (length before) ≡ good d
   unfolding rowsRead
-  roomy d q = simp (q, fits d q)
+  roomy d q = simp (q, le-leb (258 * length d) (length before) (e d q))
 
   bad : (r : Refusal) → domainRead limits file ≡ refused r → rowsRead file (length before) ≡ refused r
   unfolding rowsRead
@@ -56,11 +65,13 @@ module _ (file before after : List ℕ) (e : length before ≡ 16512) where
           (q ∙ ap good (sym k), (omega arith, b ∙ ap length (sym k)))
 
 -- the same of an answer that was matched
-pub opened-as : (file before after : List ℕ) (answer known : DomainRead) → length before ≡ 16512 → RowsRead file answer before after → answer ≡ known
+pub opened-as : (file before after : List ℕ) (answer known : DomainRead) → Roomy file before → RowsRead file answer before after → answer ≡ known
     → Opened file known after
 opened-as file before after answer known e r q = subst (λ a. Opened file a after) q (opened file before after e answer r)
 
 -- 258 words for each of its expanders fit
-pub opened-fits : (file before after : List ℕ) (answer : DomainRead) (n : ℕ) → length before ≡ 16512 → RowsRead file answer before after
+pub opened-fits : (file before after : List ℕ) (answer : DomainRead) (n : ℕ) → Roomy file before → RowsRead file answer before after
     → answer ≡ Expanders n → length after ≡ length before → 258 * n ≤ length after
-opened-fits file before after answer n e r q l = let o = opened-as file before after answer (Expanders n) e r q in omega arith
+opened-fits file before after answer n e r q l =
+    let o = opened-as file before after answer (Expanders n) e r q in
+    omega (arith, e _ (o .0), o .1 .1)

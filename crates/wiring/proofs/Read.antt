@@ -228,6 +228,7 @@ module _ (most : Limits) (file : List ℕ) where
   record FileFacts (d : Domain) : Type 0 where
     read : Read most d
     fits : Bytes file → FitsDomain d
+    stated : length d ≡ byte file 1
     again : domainGot most file (length d) 0 2 ≡ d
 
   file-facts : Reads FileFacts (domainRead most file)
@@ -249,6 +250,7 @@ module _ (most : Limits) (file : List ℕ) where
           each = r .each;
         };
         fits = λ b. record { count = omega (arith, b 1); each = r .fits b };
+        stated = r .size;
         again = rw (r .size) (r .again);
       }))))
 
@@ -259,6 +261,10 @@ module _ (most : Limits) (file : List ℕ) where
   -- and it fits, where the file is of bytes
   pub read-fits : (d : Domain) → Bytes file → domainRead most file ≡ good d → FitsDomain d
   read-fits d b q = held readNumber FileFacts (domainRead most file) d file-facts q .fits b
+
+  -- its second byte states the number of expanders
+  pub stated-expanders : (d : Domain) → domainRead most file ≡ good d → length d ≡ byte file 1
+  stated-expanders d q = held readNumber FileFacts (domainRead most file) d file-facts q .stated
 
   -- the second reading gets it again
   pub read-again : (d : Domain) → domainRead most file ≡ good d → domainGot most file (length d) 0 2 ≡ d

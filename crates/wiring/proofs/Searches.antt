@@ -1,30 +1,22 @@
 -- Searches, turn by turn: a test over a list, and the first place at which a test holds. `inv` is the loop's invariant.
 use Prim.Native.Nat.{ℕ, zero, suc, _+_, _-_, _≤_, _<_}
 use mathlib.Core.Path.{_≡_, refl, sym, _∙_, ap}
-use mathlib.Core.Bool.{Bool, true, false, cond, _||_, _&&_}
+use mathlib.Core.Bool.{Bool, true, false, cond}
 use mathlib.Core.List.{List, [], _∷_, _++_}
 use native.Mathlib.Omega.{arith}
+use native.Mathlib.Nat.{sub-zero}
 use native.Mathlib.Numerals.{add-one}
 use lib.ListN.{length, getD, drop, drop-of-length-le}
 use lib.Seq.{drop-cons}
 use Rattle.frames.specs.Refusals.{Result, refused, good, then, refusal}
 use Rattle.wiring.specs.declared.Check.{Check}
-use Rattle.wiring.specs.declared.Phy.{Phy}
-use Rattle.wiring.specs.declared.Phy.the-variants.{Vacant}
 use Rattle.wiring.specs.Lists.{any}
-use Rattle.wiring.specs.Domain.{Domain, noExpander, expanderAt, attached}
-use Rattle.wiring.specs.Causes.{endAt, clash, Place, phyPlaces, placesFrom, firstIn, firstOf, wiredDomain}
+use Rattle.wiring.specs.Domain.{Domain, noExpander, expanderAt}
+use Rattle.wiring.specs.Causes.{Place, phyPlaces, placesFrom, firstIn, firstOf, wiredDomain}
 use Rattle.wiring.specs.Checks.{checkAnswer, causeOf}
 
--- one turn of `any`, also past the end, where the default fails the test
+-- one turn of `any`, also past the end
 module _ {A : Type 0} (f : A → Bool) (e : A) where
-  any-next : (xs : List A) (p : ℕ) → f e ≡ false → any f (drop p xs) ≡ (f (getD xs p e) || any f (drop (suc p) xs))
-  unfolding any
-  any-next [] zero q = rw q
-  any-next [] (suc p) q = rw q
-  any-next (x ∷ xs) zero q = refl
-  any-next (x ∷ xs) (suc p) q = any-next xs p q
-
   any-skip : (xs : List A) (p : ℕ) → f (getD xs p e) ≡ false → any f (drop p xs) ≡ any f (drop (suc p) xs)
   unfolding any
   any-skip [] zero q = refl
@@ -33,9 +25,6 @@ module _ {A : Type 0} (f : A → Bool) (e : A) where
   any-skip (x ∷ xs) (suc p) q = any-skip xs p q
 
 module _ {A : Type 0} (f : A → Bool) (e : A) (xs : List A) (p : ℕ) {v : Bool} (inv : any f (drop p xs) ≡ v) where
-  pub any-stop : f (getD xs p e) ≡ true → f e ≡ false → true ≡ v
-  any-stop q n = sym (any-next f e xs p n ∙ rw q) ∙ inv
-
   pub any-go : f (getD xs p e) ≡ false → any f (drop (p + 1) xs) ≡ v
   any-go q = rw add-one (sym (any-skip f e xs p q) ∙ inv)
 
@@ -76,6 +65,11 @@ module _ (k : ℕ) (test : ℕ → ℕ → Bool) (d : Domain) where
     unfolding firstIn phyPlaces
     phy-end h = let e : n - p ≡ 0 = omega arith in sym (rw e) ∙ inv
 
+  -- the test holds at no phy below p
+  pub phy-skip : (i n p : ℕ) → ((q : ℕ) → q < p → test i q ≡ false) → p ≤ n → firstIn k test (phyPlaces i p (n - p)) d ≡ firstIn k test (phyPlaces i 0 n) d
+  phy-skip i n zero none h = simp sub-zero
+  phy-skip i n (suc p) none h = rw add-one at (phy-go i n p (phy-skip i n p (λ q l. none q (omega arith)) (omega arith)) (none p (omega arith)) (omega arith))
+
   -- the phys of the expanders from i on
   module _ (i : ℕ) {v : Result Domain} (inv : firstIn k test (placesFrom i (drop i d)) d ≡ v) where
     pub from-next : {r a : Check} → checkAnswer d r ≡ firstIn k test (phyPlaces i 0 (length (expanderAt d i .phys))) d → r ≡ a → i < length d
@@ -89,20 +83,6 @@ module _ (k : ℕ) (test : ℕ → ℕ → Bool) (d : Domain) where
     pub from-end : length d ≤ i → good d ≡ v
     unfolding firstIn placesFrom
     from-end h = sym (ap (λ (x : Domain). firstIn k test (placesFrom i x) d) (drop-of-length-le d h)) ∙ inv
-
--- a vacant phy clashes with none
-pub no-clash : (φ : Phy) → clash φ (Vacant 0) ≡ false
-unfolding clash
-no-clash φ = and-false (attached φ)
-  where
-    and-false : (b : Bool) → (b && false) ≡ false
-    and-false true = refl
-    and-false false = refl
-
--- an expander without phys has no end device
-pub no-end : (s : ℕ) → endAt s noExpander ≡ false
-unfolding endAt any
-no-end s = refl
 
 -- causes 7 to 10 in order, by what each search answers
 in-order : {w x y z a b c e : Result Domain} → w ≡ a → x ≡ b → y ≡ c → z ≡ e

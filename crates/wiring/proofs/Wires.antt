@@ -57,6 +57,12 @@ pub record Wired (d : Domain) : Type 0 where
   pub configured : (i p : ℕ) → T (routes 2 (phyAt d i p)) → expanderAt d i .configurable ≢ 0
 
 -- types and attributes
+pub type-attached : (φ : Phy) → typeOf φ ≢ 0 → T (attached φ)
+type-attached φ n = not-T (eqb (typeOf φ) 0) (λ t. n (eqb→eq (typeOf φ) 0 t))
+
+pub type-none : (φ : Phy) → typeOf φ ≡ 0 → ¬ (T (attached φ))
+type-none φ e t = T-not (eqb (typeOf φ) 0) t (eq→eqb (typeOf φ) 0 e)
+
 pub end-attached : (φ : Phy) → T (toEnd φ) → T (attached φ)
 end-attached φ t = not-T (eqb (typeOf φ) 0) (λ u. let e = eqb→eq (typeOf φ) 1 t in let f = eqb→eq (typeOf φ) 0 u in omega arith)
 
@@ -70,6 +76,9 @@ attached-cases φ t =
   where
     go : (m : ℕ) → m ≢ 1 → m ≢ 0 → 2 ≤ m
     go m a b = omega arith
+
+pub end-no-expander : (φ : Phy) → T (toEnd φ) → T (toExpander φ) → ⊥
+end-no-expander φ t u = let e = eqb→eq (typeOf φ) 1 t in let f = leb→le 2 (typeOf φ) u in omega arith
 
 pub routes-one : (a b : ℕ) (φ : Phy) → T (routes a φ) → T (routes b φ) → a ≡ b
 routes-one a b φ t u = sym (eqb→eq (attributeOf φ) a t) ∙ eqb→eq (attributeOf φ) b u

@@ -1,31 +1,30 @@
--- Cables, one way: which expanders' addresses an expander's phys bear, as one 64-bit word for each expander.
-use Prim.Native.Nat.{ℕ, _%_, _<_}
-use mathlib.Core.Bool.{Bool, _||_}
-use mathlib.Core.List.{List, map}
+-- Cables, one way, as sets: the numbers of the expanders that an expander's phys are attached to.
+use Prim.Native.Nat.{ℕ, _≤_, _<_}
+use mathlib.Core.Path.{_≡_}
+use mathlib.Core.Bool.{Bool, _&&_}
+use mathlib.Core.List.{List}
 use lib.ListN.{length, getD}
-use lib.Dec.{T}
-use Rattle.wiring.specs.Lists.{upTo, keep}
-use Rattle.wiring.specs.Domain.{Domain, phyAt, addressOf, toExpander}
-use Rattle.wiring.specs.Neighbours.{cabled, setOf}
+use lib.Dec.{eqb}
+use Rattle.wiring.specs.declared.Phy.{Phy}
+use Rattle.wiring.specs.Lists.{any}
+use Rattle.wiring.specs.Domain.{Domain, expanderAt, addressOf, toExpander, numberOf}
 use Rattle.wiring.specs.Rounds.{hasBit}
-use Rattle.wiring.specs.Seen.{mayHave}
+use Rattle.wiring.specs.Addresses.{IndexedFirst}
 
--- the key of an address in a set of 64 words
-abbrev pub cableKey : ℕ → ℕ
-cableKey s = s % 4093
+-- attached to an expander, whose number is m
+abbrev pub leadsTo : Domain → ℕ → Phy → Bool
+leadsTo d m φ = toExpander φ && eqb (numberOf d (addressOf φ)) m
 
--- the set has the key of the attached address of each of expander i's first n phys that is attached to an expander
-pub record FarKeys (d : Domain) (i n : ℕ) (keys : List ℕ) : Type 0 where
-  pub here : (p : ℕ) → p < n → T (toExpander (phyAt d i p)) → T (mayHave keys (cableKey (addressOf (phyAt d i p))))
+-- the set of the numbers to which these phys lead
+pub record FarSet (d : Domain) (φs : List Phy) (w : ℕ) : Type 0 where
+  pub bit : (m : ℕ) → m < 64 → hasBit w m ≡ any (leadsTo d m) φs
 
--- the expanders that expander i is cabled to, as a set
-unfoldable pub cabledWord : Domain → ℕ → ℕ
-cabledWord d i = setOf (keep (cabled d i) (upTo (length d)))
+-- such a set for each of the first n expanders
+abbrev pub FarSets : Domain → ℕ → List ℕ → Type 0
+FarSets d n words = (i : ℕ) → i < n → FarSet d (expanderAt d i .phys) (getD words i 0)
 
--- one word for each expander
-unfoldable pub cabledWords : Domain → List ℕ
-cabledWords d = map (cabledWord d) (upTo (length d))
-
--- one of two expanders is in the other's cabled word
-abbrev pub eitherHas : List ℕ → ℕ → ℕ → Bool
-eitherHas words i j = hasBit (getD words i 0) j || hasBit (getD words j 0) i
+-- the sets of all expanders, and who has the addresses of their slots
+pub record Leading (d : Domain) (first words : List ℕ) : Type 0 where
+  pub index : IndexedFirst d first
+  pub room : length d ≤ length words
+  pub sets : FarSets d (length d) words

@@ -1,16 +1,18 @@
 -- Causes by number, the answers of checks, tests of one phy, and an expander's second word in rows.
-use Prim.Native.Nat.{ℕ, _/_, _%_, min}
+use Prim.Native.Nat.{ℕ, _*_, _/_, _%_, _≤_, _<_, min}
 use mathlib.Core.Path.{_≡_}
 use mathlib.Core.Bool.{Bool, false, cond, _&&_}
+use mathlib.Core.List.{List}
 use lib.ListN.{length}
-use lib.Dec.{eqb}
-use Rattle.frames.specs.Refusals.{Result, refused, good}
+use lib.Dec.{eqb, leb}
+use Rattle.frames.specs.Refusals.{Result, refused, good, unless, refusal}
 use Rattle.wiring.specs.declared.Check.{Check}
 use Rattle.wiring.specs.declared.Check.the-variants.{Refused, Passed}
-use Rattle.wiring.specs.declared.Phy.{Phy}
-use Rattle.wiring.specs.Domain.{Domain, expanderAt, addressOf, toEnd, toExpander}
+use Rattle.wiring.specs.Domain.{Domain, expanderAt}
 use Rattle.wiring.specs.Causes.{unanswered, claimed, clashing, fixed, phyPlaces, firstIn}
-use Rattle.wiring.specs.Links.{tableToTable}
+use Rattle.wiring.specs.Links.{tableToTable, checkedDomain}
+use Rattle.wiring.specs.Addresses.{slotsBefore, IndexRoom}
+use Rattle.wiring.specs.File.{limits, domainRead}
 
 -- what the answer says in document 01's terms: the domain itself where it passed
 abbrev pub checkAnswer : Domain → Check → Result Domain
@@ -30,16 +32,22 @@ causeOf k d i p =
 abbrev pub firstAt : ℕ → Domain → ℕ → Result Domain
 firstAt k d i = firstIn k (causeOf k d) (phyPlaces i 0 (length (expanderAt d i .phys))) d
 
--- attached to an end device with this address
-abbrev pub toEndWith : ℕ → Phy → Bool
-toEndWith s φ = toEnd φ && eqb (addressOf φ) s
-
--- attached to an expander with this address
-abbrev pub toExpanderWith : ℕ → Phy → Bool
-toExpanderWith s φ = toExpander φ && eqb (addressOf φ) s
-
 -- w is the second word of expander i's row, or 0 where there is no such expander
 pub record HeadIn (d : Domain) (i w : ℕ) : Type 0 where
   pub indexes : w % 65536 ≡ expanderAt d i .indexes
   pub phys : min 128 (w / 65536 % 256) ≡ length (expanderAt d i .phys)
   pub configurable : w / 16777216 % 2 ≡ expanderAt d i .configurable
+
+-- phy p is one of expander i, and cause k holds at no lower one
+pub record Testable (k : ℕ) (d : Domain) (i p : ℕ) : Type 0 where
+  pub within : p < length (expanderAt d i .phys)
+  pub none : (q : ℕ) → q < p → causeOf k d i q ≡ false
+
+-- causes 7 to 13 in order, where there is room for entries of so many slots and phys: 16 otherwise
+unfoldable pub checkedIn : ℕ → ℕ → Domain → Result Domain
+checkedIn first low d = unless (leb (slotsBefore (length d)) first && leb (128 * length d) low) (refusal 16 0 0) (checkedDomain d)
+
+-- room for the rows of a file's domain, and for the entries of its slots and phys
+pub record FileRoom (file words first low : List ℕ) : Type 0 where
+  pub rows : (d : Domain) → domainRead limits file ≡ good d → 258 * length d ≤ length words
+  pub index : (d : Domain) → domainRead limits file ≡ good d → IndexRoom d first low

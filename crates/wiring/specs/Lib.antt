@@ -1,6 +1,8 @@
 pub mod Frames
 pub mod Lists
 pub mod Domain
+pub mod Addresses
+pub mod SearchTree
 pub mod File
 pub mod Read
 pub mod Units
@@ -11,8 +13,6 @@ pub mod Checks
 pub mod Graph
 pub mod Neighbours
 pub mod Rounds
-pub mod Seen
-pub mod Claims
 pub mod Clashes
 pub mod Cables
 pub mod Links

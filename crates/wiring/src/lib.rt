@@ -1,6 +1,6 @@
 // Reads a domain file into rows, and judges its wiring.
+mod addresses;
 mod causes;
-mod claims;
 mod clashes;
 mod file;
 mod links;
@@ -8,13 +8,15 @@ mod neighbours;
 mod refusals;
 mod rounds;
 mod rows;
-mod seen;
 mod units;
 mod view;
 mod wiring_call;
 
+pub use addresses::far_number;
+pub use addresses::lowest_phy;
 pub use links::check_domain;
 pub use rows::read_domain;
+pub use rows::stated_count;
 pub use view::configurable_bit;
 pub use view::expander_address;
 pub use view::expander_count;
@@ -23,6 +25,7 @@ pub use view::number_of;
 pub use view::phy_address;
 pub use view::phy_at;
 pub use view::phy_attribute;
+pub use view::phy_below;
 pub use view::phy_count;
 pub use view::phy_far;
 pub use view::phy_type;

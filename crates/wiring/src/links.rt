@@ -1,5 +1,6 @@
 // Causes 11 to 13: loops, chains to expander 0, and links that are table at both ends.
 use crate::Check;
+use crate::addresses;
 use crate::causes;
 use crate::neighbours;
 use crate::refusals;
@@ -14,7 +15,8 @@ ghost use Rattle.wiring.specs.Rows.{domainIn};
 ghost use Rattle.wiring.specs.Graph.{loopfree};
 ghost use Rattle.wiring.specs.Neighbours.{neighbours};
 ghost use Rattle.wiring.specs.Links.{joinedIn, linkedDomain, checkedDomain};
-ghost use Rattle.wiring.specs.Checks.{checkAnswer};
+ghost use Rattle.wiring.specs.Checks.{checkAnswer, checkedIn};
+ghost use Rattle.wiring.specs.Addresses.{Indexed};
 ghost use Rattle.wiring.specs.Rounds.{Held};
 
 // Whether cause 11 does not hold: in as many rounds as there are expanders, each round takes away those
@@ -48,28 +50,47 @@ fn check_joined(rows: &[u64], words: &[u64]) -> Check
 }
 
 // Causes 11 to 13 in order.
-fn check_links(rows: &[u64]) -> Check
+fn check_links(rows: &[u64], first: &[u16], low: &[u8]) -> Check
+    requires { ⌜ Indexed (domainIn (now rows)) (now first) (now low) ⌝ }
     ensures { λ r. ⌜ checkAnswer (domainIn (now (rows .entry))) r ≡ linkedDomain (domainIn (now (rows .entry))) ⌝ }
 {
     let mut words = [0u64; 64];
-    neighbours::put_neighbours(rows, &mut words[..]);
+    neighbours::put_neighbours(rows, first, &mut words[..]);
     if !is_loopfree(rows, &words[..]) {
         return refusals::check_refused(11, ExpanderNumber(0), PhyId(0));
     }
     let joined = check_joined(rows, &words[..]);
     match joined {
         Check::Refused(r) => Check::Refused(r),
-        Check::Passed => causes::first_of(rows, 13),
+        Check::Passed => causes::first_of(rows, first, low, 13),
     }
 }
 
 // Causes 7 to 13 in order.
-pub fn check_domain(rows: &[u64]) -> Check
+fn check_indexed(rows: &[u64], first: &[u16], low: &[u8]) -> Check
+    requires { ⌜ Indexed (domainIn (now rows)) (now first) (now low) ⌝ }
     ensures { λ r. ⌜ checkAnswer (domainIn (now (rows .entry))) r ≡ checkedDomain (domainIn (now (rows .entry))) ⌝ }
 {
-    let wired = causes::check_wiring(rows);
+    let wired = causes::check_wiring(rows, first, low);
     match wired {
         Check::Refused(r) => Check::Refused(r),
-        Check::Passed => check_links(rows),
+        Check::Passed => check_links(rows, first, low),
     }
+}
+
+// Causes 7 to 13 in order, with entries for all slots in `first` and for all phys in `low`, which hold who has
+// their addresses where it passed. 16 where there is too little room for them.
+pub fn check_domain(rows: &[u64], first: &mut [u16], low: &mut [u8]) -> Check
+    ensures { λ r. ⌜ checkAnswer (domainIn (now (rows .entry))) r ≡ checkedIn (length (now (first .entry))) (length (now (low .entry))) (domainIn (now (rows .entry))) ⌝ }
+    ensures { λ r. ⌜ (r ≡ Check.Passed → Indexed (domainIn (now (rows .entry))) (now (first .exit)) (now (low .exit))) ⌝ }
+{
+    let n = view::expander_count(rows) as usize;
+    if first.len() < 64 + 128 * n {
+        return refusals::check_refused(16, ExpanderNumber(0), PhyId(0));
+    }
+    if low.len() < 128 * n {
+        return refusals::check_refused(16, ExpanderNumber(0), PhyId(0));
+    }
+    addresses::put_index(rows, first, low);
+    check_indexed(rows, first, low)
 }

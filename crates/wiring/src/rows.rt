@@ -13,6 +13,7 @@ use frames::ExpanderNumber;
 use frames::PhyId;
 ghost use mathlib.Core.Path.{_≡_};
 ghost use Prim.Native.Nat.{_*_, _≤_};
+ghost use Rattle.frames.specs.Bytes.{byte};
 ghost use lib.ListN.{length, replicate};
 ghost use Rattle.wiring.specs.Units.{phyAnswer};
 ghost use Rattle.wiring.specs.Rows.{phyWord, headWord, RowsRead};
@@ -94,7 +95,8 @@ fn put_row(row: &mut [u64], file: &[u8], u: ExpanderUnit, i: ExpanderNumber, at:
     ensures { λ r. ⌜ RowPut u (physGot (now (file .entry)) (u .address) (i .0) (u .phys) 0 at) r (now (row .exit)) ⌝ }
 {
     let w = head_word(u);
-    clear(row);
+    let k = 2 + 2 * (u.phys as usize);
+    clear(&mut row[k..]);
     row[0] = u.address;
     row[1] = w;
     put_phys(row, file, u.address, i, u.phys, at)
@@ -145,4 +147,14 @@ pub fn read_domain(file: &[u8], rows: &mut [u64]) -> DomainRead
             DomainRead::Expanders(n)
         }
     }
+}
+
+// The number of expanders that a file states in its second byte; 0 where it is shorter.
+pub fn stated_count(file: &[u8]) -> u8
+    ensures { λ r. ⌜ r ≡ byte (now (file .entry)) 1 ⌝ }
+{
+    if file.len() < 2 {
+        return 0;
+    }
+    file[1]
 }

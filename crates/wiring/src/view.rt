@@ -4,7 +4,7 @@ use crate::PhyFields;
 use frames::ExpanderNumber;
 use frames::PhyId;
 ghost use mathlib.Core.Path.{_≡_};
-ghost use Prim.Native.Nat.{_≤_};
+ghost use Prim.Native.Nat.{_≤_, _<_};
 ghost use lib.ListN.{length, getD};
 ghost use Rattle.wiring.specs.Domain.{expanderAt, phyAt, typeOf, attributeOf, addressOf, farOf, numberOf};
 ghost use Rattle.wiring.specs.Rows.{phyIn, domainIn};
@@ -51,7 +51,7 @@ pub fn phy_far(f: Phy) -> PhyId
 }
 
 // The word at k, 0 past the end.
-fn word_at(rows: &[u64], k: usize) -> u64
+pub(crate) fn word_at(rows: &[u64], k: usize) -> u64
     ensures { λ r. ⌜ r ≡ getD (now (rows .entry)) k 0 ⌝ }
 {
     if k < rows.len() {
@@ -140,6 +140,14 @@ pub fn phy_at(rows: &[u64], i: ExpanderNumber, p: PhyId) -> Phy
         return phy_from(word_at(rows, k), word_at(rows, k + 1));
     }
     Phy::Vacant(0)
+}
+
+// Phy p of expander i, where the expander has so many phys: their number is not looked at.
+pub fn phy_below(rows: &[u64], i: ExpanderNumber, p: PhyId) -> Phy
+    ensures { λ r. ⌜ (p .0 < length (expanderAt (domainIn (now (rows .entry))) (i .0) .phys) → r ≡ phyAt (domainIn (now (rows .entry))) (i .0) (p .0)) ⌝ }
+{
+    let k = 258 * (i.0 as usize) + 2 + 2 * (p.0 as usize);
+    phy_from(word_at(rows, k), word_at(rows, k + 1))
 }
 
 // The number of the first expander with this address; the count of expanders where there is none.

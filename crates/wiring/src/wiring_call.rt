@@ -2,6 +2,7 @@
 use crate::Check;
 use crate::DomainRead;
 use crate::Wiring;
+use crate::addresses;
 use crate::causes;
 use crate::neighbours;
 use crate::rows;
@@ -13,13 +14,17 @@ ghost use lib.ListN.{length};
 ghost use Rattle.frames.specs.Refusals.{then};
 ghost use Rattle.wiring.specs.Rows.{domainIn};
 ghost use Rattle.wiring.specs.Causes.{wiredDomain};
+ghost use Rattle.wiring.specs.Addresses.{IndexRoom};
+ghost use Rattle.wiring.specs.Checks.{FileRoom};
 ghost use Rattle.wiring.specs.Neighbours.{wordsFor, wiringCall, WiringDone};
 
-// Causes 7 to 10, then 16, then the neighbour words.
-fn wire_rows(rows: &[u64], words: &mut [u64]) -> Wiring
+// Causes 7 to 10, then 16, then the neighbour words. There is room for who has which address.
+fn wire_rows(rows: &[u64], first: &mut [u16], low: &mut [u8], words: &mut [u64]) -> Wiring
+    requires { ⌜ IndexRoom (domainIn (now rows)) (now first) (now low) ⌝ }
     ensures { λ r. ⌜ WiringDone (then (wiredDomain (domainIn (now (rows .entry)))) (wordsFor (length (now (words .entry))))) r (now (words .entry)) (now (words .exit)) ⌝ }
 {
-    let c = causes::check_wiring(rows);
+    addresses::put_index(rows, first, low);
+    let c = causes::check_wiring(rows, first, low);
     match c {
         Check::Refused(r) => Wiring::Refused(r),
         Check::Passed => {
@@ -30,23 +35,53 @@ fn wire_rows(rows: &[u64], words: &mut [u64]) -> Wiring
                     phy: PhyId(0),
                 });
             }
-            Wiring::Bits(neighbours::put_neighbours(rows, words))
+            Wiring::Bits(neighbours::put_neighbours(rows, first, words))
+        }
+    }
+}
+
+// The wiring call, with room for the rows of the file's domain and for who has which address.
+fn wire_in(
+    file: &[u8],
+    rows: &mut [u64],
+    first: &mut [u16],
+    low: &mut [u8],
+    words: &mut [u64],
+) -> Wiring
+    requires { ⌜ FileRoom (now file) (now rows) (now first) (now low) ⌝ }
+    ensures { λ r. ⌜ WiringDone (wiringCall (now (file .entry)) (length (now (words .entry)))) r (now (words .entry)) (now (words .exit)) ⌝ }
+{
+    let read = rows::read_domain(file, rows);
+    match read {
+        DomainRead::Refused(r) => Wiring::Refused(r),
+        DomainRead::Expanders(n) => {
+            let e = 258 * (n as usize);
+            wire_rows(&rows[..e], first, low, words)
         }
     }
 }
 
 // The wiring call: causes 1 to 10, then 16. It writes one word for each expander, and answers how
-// many bits are set in all. The words after stay, and all of them where it is refused.
+// many bits are set in all. The words after stay, and all of them where it is refused. Few expanders, whose
+// number stands in the second byte, need little room.
 pub fn wire(file: &[u8], words: &mut [u64]) -> Wiring
     ensures { λ r. ⌜ WiringDone (wiringCall (now (file .entry)) (length (now (words .entry)))) r (now (words .entry)) (now (words .exit)) ⌝ }
 {
-    let mut rows = [0u64; 16512];
-    let read = rows::read_domain(file, &mut rows[..]);
-    match read {
-        DomainRead::Refused(r) => Wiring::Refused(r),
-        DomainRead::Expanders(n) => {
-            let e = 258 * (n as usize);
-            wire_rows(&rows[..e], words)
-        }
+    let n = rows::stated_count(file);
+    if n <= 2 {
+        let mut rows = [0u64; 516];
+        let mut first = [0u16; 320];
+        let mut low = [0u8; 256];
+        return wire_in(file, &mut rows[..], &mut first[..], &mut low[..], words);
     }
+    if n <= 8 {
+        let mut rows = [0u64; 2064];
+        let mut first = [0u16; 1088];
+        let mut low = [0u8; 1024];
+        return wire_in(file, &mut rows[..], &mut first[..], &mut low[..], words);
+    }
+    let mut rows = [0u64; 16512];
+    let mut first = [0u16; 8256];
+    let mut low = [0u8; 8192];
+    wire_in(file, &mut rows[..], &mut first[..], &mut low[..], words)
 }

@@ -1,14 +1,16 @@
+-- put_table meets its contract: the part of the words from `at` on, R words, is filled.
 use Prim.Native.Nat.{ℕ, _+_, _-_}
-use mathlib.Core.Path.{sym, _∙_}
-use native.Mathlib.Omega.{arith}
+use mathlib.Core.Path.{sym, _∙_, ap}
 use lib.ListN.{drop, length-drop}
 use lib.Seq.{length-take-le}
 use borrow.Author.Tests.{not-true, not-false}
 use Rattle.wiring.specs.Domain.{Domain}
 use Rattle.wiring.specs.Rows.{domainIn}
 use Rattle.wiring.proofs.Members.{was-true}
+use Rattle.tables.specs.Prepared.{orderList, filledTo}
 use Rattle.tables.proofs.Puts.{size-by, put-none, put-one}
 use borrow.Author.Needs.{needs}
+use native.Mathlib.Omega.{arith}
 use Rattle.tables.proofs.all_tables.put_table.Statement.{statement}
 use Rattle.tables.proofs.all_tables.put_table.Tie as tie
 
@@ -16,10 +18,7 @@ is-table-requires : tie.Need-is-table-requires
 is-table-requires c κs = search needs
 
 returns : tie.Need-returns
-returns c =
-    let a = c .before .before .before .before .before .before .args in
-    let d : Domain = domainIn (a .rows .now) in
-    put-none d (a .i .0) (a .p .0) (a .words .now) (a .at) (sym (c .before .is-table .ensures) ∙ not-true _ (c .if1 .taken))
+returns c = put-none (domainIn ((c .before .before .before .before .before .before .args) .rows .now)) ((c .before .before .before .before .before .before .args) .i .0) ((c .before .before .before .before .before .before .args) .p .0) ((c .before .before .before .before .before .before .args) .words .now) ((c .before .before .before .before .before .before .args) .at) (sym ((c .before .is-table) .ensures) ∙ not-true _ (c .if1 .taken))
 
 index-count-requires : tie.Need-index-count-requires
 index-count-requires c κs = search needs
@@ -29,10 +28,8 @@ cast-e c = search needs
 
 add-e : tie.Need-add-e
 add-e c =
-    let a = c .before .before .before .before .before .before .before .args in
-    let d : Domain = domainIn (a .rows .now) in
-    let t = sym (c .before .before .is-table .ensures) ∙ not-false _ (c .before .if1 .left) in
-    let s = size-by d (a .i .0) (a .p .0) t in
+    let a = (c .before .before .before .before .before .before .before .args) in
+    let s = size-by (domainIn (a .rows .now)) (a .i .0) (a .p .0) (sym ((c .before .before .is-table) .ensures) ∙ not-false _ ((c .before .if1) .left)) in
     omega arith
 
 mul-fill-table : tie.Need-mul-fill-table
@@ -46,50 +43,32 @@ part-fill-table-start c = search needs
 
 part-fill-table-end : tie.Need-part-fill-table-end
 part-fill-table-end c =
-    let a = c .before .before .before .before .before .before .before .args in
-    let d : Domain = domainIn (a .rows .now) in
-    let t = sym (c .before .before .is-table .ensures) ∙ not-false _ (c .before .if1 .left) in
-    let s = size-by d (a .i .0) (a .p .0) t in
+    let a = (c .before .before .before .before .before .before .before .args) in
+    let s = size-by (domainIn (a .rows .now)) (a .i .0) (a .p .0) (sym ((c .before .before .is-table) .ensures) ∙ not-false _ ((c .before .if1) .left)) in
     omega arith
 
 fill-table-requires : tie.Need-fill-table-requires
 fill-table-requires c κs =
-    let u = c .before .before .before .before .before .before .before .before in
-    let a = u .args in
-    let f = u .pre .1 .1 .0 in
-    let t = sym (c .before .before .before .is-table .ensures) ∙ not-false _ (c .before .before .if1 .left) in
+    let a = (c .before .before .before .before .before .before .before .before .args) in
+    let t = sym ((c .before .before .before .is-table) .ensures) ∙ not-false _ ((c .before .before .if1) .left) in
     let s = size-by (domainIn (a .rows .now)) (a .i .0) (a .p .0) t in
-    let k : ℕ = a .at + c .before .index-count .result - a .at in
+    let k : ℕ = a .at + (c .before .index-count) .result - a .at in
     let n = length-take-le k (drop (a .at) (a .words .now)) (simp length-drop (omega arith)) in
-    record { held = u .pre .0; ordered = u .pre .1 .0; same = f .same; fits = omega (arith, f .fits (a .i .0) (a .p .0) (was-true _ t)) }
+    record { held = (c .before .before .before .before .before .before .before .before .pre) .0; ordered = (c .before .before .before .before .before .before .before .before .pre) .1 .0; fits = omega (arith, (c .before .before .before .before .before .before .before .before .pre) .1 .1 .0 (a .i .0) (a .p .0) (was-true _ t)) }
 
 same-length : tie.Need-same-length
 same-length c = search needs
 
 returns-2 : tie.Need-returns-2
 returns-2 c =
-    let a = c .before .before .before .before .before .before .before .before .before .before .before .args in
+    let a = (c .before .before .before .before .before .before .before .before .before .before .before .args) in
     let d : Domain = domainIn (a .rows .now) in
-    let t = sym (c .before .before .before .before .before .before .is-table .ensures) ∙ not-false _ (c .before .before .before .before .before .if1 .left) in
+    let t = sym ((c .before .before .before .before .before .before .is-table) .ensures) ∙ not-false _ ((c .before .before .before .before .before .if1) .left) in
     let s = size-by d (a .i .0) (a .p .0) t in
-    let r : ℕ = c .before .before .before .before .index-count .result in
+    let r : ℕ = (c .before .before .before .before .index-count) .result in
     let k : ℕ = a .at + r - a .at in
     let z = length-take-le k (drop (a .at) (a .words .now)) (simp length-drop (omega arith)) in
-    put-one d (a .i .0) (a .p .0) (a .words .now) (a .at) (c .before .before .fill-table .ensures) t k z (omega arith) (a .at + r) (omega arith) (omega arith)
+    put-one d (a .i .0) (a .p .0) (a .words .now) (a .at) k ((c .before .before .fill-table) .ensures ∙ ap (λ (n : ℕ). filledTo n (orderList d (a .i .0) (a .p .0))) z) t (omega arith) (a .at + r) (omega arith) (omega arith)
 
 pub put-table-spec : {M : Type 1} → statement M
-put-table-spec =
-    tie.close
-    (tie.spec
-    is-table-requires
-    returns
-    index-count-requires
-    cast-e
-    add-e
-    mul-fill-table
-    sub-fill-table
-    part-fill-table-start
-    part-fill-table-end
-    fill-table-requires
-    same-length
-    returns-2)
+put-table-spec = tie.close (tie.spec is-table-requires returns index-count-requires cast-e add-e mul-fill-table sub-fill-table part-fill-table-start part-fill-table-end fill-table-requires same-length returns-2)

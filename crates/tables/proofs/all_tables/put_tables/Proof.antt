@@ -1,3 +1,4 @@
+-- put_tables meets its contract: the words so far, with the tables of the phys from p on put in, are the words after the call.
 use Prim.Native.Nat.{ℕ, _+_, _-_, _≤_}
 use mathlib.Core.List.{List, [], _∷_}
 use mathlib.Core.Path.{_≡_, refl, sym, _∙_, ap}
@@ -9,8 +10,8 @@ use Rattle.wiring.specs.Domain.{Domain, expanderAt}
 use Rattle.wiring.specs.Causes.{Place, place, phyPlaces}
 use Rattle.wiring.specs.Rows.{domainIn}
 use Rattle.tables.specs.Tables.{sizes}
-use Rattle.tables.specs.Filling.{Grown, placesAt, tablesOf, overlay}
-use Rattle.tables.specs.Prepared.{orderOf}
+use Rattle.tables.specs.Filling.{Grown, placesAt, overlay}
+use Rattle.tables.specs.Prepared.{orderOf, ownTablesOf}
 use Rattle.tables.proofs.Growing.{grown-kept, grown-again}
 use Rattle.tables.proofs.Orders.{order-none}
 use Rattle.tables.proofs.Puts.{phys-next, phys-last, phys-sizes, sizes-none, length-tables, put-go, put-long, put-end}
@@ -19,59 +20,46 @@ use Rattle.tables.proofs.all_tables.put_tables.Statement.{statement}
 use Rattle.tables.proofs.all_tables.put_tables.Tie as tie
 
 abbrev Inv-loop : tie.InvT-loop
-Inv-loop rows lists below order₀ i words₀ at n to₀ g₀ m₀ p₀ order words to g m p =
+Inv-loop rows first lists below order₀ i words₀ at n to₀ g₀ m₀ p₀ order words to g m p =
     (p ≤ n)
     × ((length order ≡ length order₀)
     × (Grown order order m (orderOf (domainIn rows) g)
     × ((length words ≡ length words₀)
     × ((to + sizes (domainIn rows) (phyPlaces (i .0) p (n - p)) ≡ at + sizes (domainIn rows) (placesAt (domainIn rows) (i .0)))
-    × (overlay words to (tablesOf (domainIn rows) (phyPlaces (i .0) p (n - p)))
-    ≡ overlay words₀ at (tablesOf (domainIn rows) (placesAt (domainIn rows) (i .0))))))))
+    × (overlay words to (ownTablesOf (domainIn rows) (phyPlaces (i .0) p (n - p)))
+    ≡ overlay words₀ at (ownTablesOf (domainIn rows) (placesAt (domainIn rows) (i .0))))))))
 
 abbrev μ-loop : tie.MeasureT-loop
-μ-loop rows lists below order₀ i words₀ at n to₀ g₀ m₀ p₀ order words to g m p = n - p
+μ-loop rows first lists below order₀ i words₀ at n to₀ g₀ m₀ p₀ order words to g m p = n - p
 
 phy-count-requires : tie.Need-phy-count-requires Inv-loop μ-loop
 phy-count-requires c κs = search needs
 
 loop-holds : tie.Need-loop-holds Inv-loop μ-loop
 loop-holds c =
-    let a = c .before .before .before .before .before .before .args in
+    let a = (c .before .before .before .before .before .before .before .args) in
     let d : Domain = domainIn (a .rows .now) in
     let e : c .phy-count .result - 0 ≡ length (expanderAt d (a .i .0) .phys) = omega arith in
     let o = grown-kept 0 (a .order .now) (order-none d (Vacant 0) refl) (omega arith) in
     let s = ap (λ (x : ℕ). a .at + sizes d (phyPlaces (a .i .0) 0 x)) e in
-    (omega arith, (refl, (o, (refl, (s, ap (λ (x : ℕ). overlay (a .words .now) (a .at) (tablesOf d (phyPlaces (a .i .0) 0 x))) e)))))
+    (omega arith, (refl, (o, (refl, (s, ap (λ (x : ℕ). overlay (a .words .now) (a .at) (ownTablesOf d (phyPlaces (a .i .0) 0 x))) e)))))
 
-phy-at-requires : tie.Need-phy-at-requires Inv-loop μ-loop
-phy-at-requires c κs = search needs
+phy-below-requires : tie.Need-phy-below-requires Inv-loop μ-loop
+phy-below-requires c κs = search needs
 
 order-for-requires : tie.Need-order-for-requires Inv-loop μ-loop
-order-for-requires c κs =
-    let s = c .before .before .before .before .before .before .before .before .before .before in
-    let l = c .before .before .before .loop in
-    (s .pre .1 .0, (omega arith, l .inv .1 .1 .0))
+order-for-requires c κs = (record { index = (c .before .before .before .before .before .before .before .before .before .before .before .pre) .0; phy = (c .before .phy-below) .ensures (omega arith) }, ((c .before .before .before .before .before .before .before .before .before .before .before .pre) .1 .1 .0, (omega (arith, (c .before .before .before .before .before .before .before .before .before .before .before .pre) .1 .1 .1 .0), (c .before .before .before .loop) .inv .1 .1 .0)))
 
 slice-reshare-prefix-put-table : tie.Need-slice-reshare-prefix-put-table Inv-loop μ-loop
-slice-reshare-prefix-put-table c =
-    let g = c .before .before .order-for .ensures in
-    omega (arith, g .same, g .fits)
+slice-reshare-prefix-put-table c = omega (arith, (c .before .before .order-for) .ensures .same, (c .before .before .order-for) .ensures .fits)
 
 slice-aggregate-put-table : tie.Need-slice-aggregate-put-table Inv-loop μ-loop
-slice-aggregate-put-table c =
-    let g = c .before .before .before .order-for .ensures in
-    sym (length-take-le (c .before .before .before .order-for .result) _ (omega (arith, g .same, g .fits)))
+slice-aggregate-put-table c = sym (length-take-le ((c .before .before .before .order-for) .result) _ (omega (arith, (c .before .before .before .order-for) .ensures .same, (c .before .before .before .order-for) .ensures .fits)))
 
 put-table-requires : tie.Need-put-table-requires Inv-loop μ-loop
 put-table-requires c κs =
-    let s = c .before .before .before .before .before .before .before .before .before .before .before .before .before .before .before in
-    let a = s .args in
-    let l = c .before .before .before .before .before .before .before .before .loop in
-    let d : Domain = domainIn (a .rows .now) in
-    let n : ℕ = c .before .before .before .before .before .before .before .before .before .phy-count .result in
-    let o = c .before .before .before .before .order-for .ensures in
-    let q = o .whole ∙ ap (orderOf d) (c .before .before .before .before .before .before .phy-at .ensures) in
-    (s .pre .0, (q, (s .pre .1 .1 .1 .0, omega (arith, phys-sizes d (a .i .0) n (l .p) (omega arith)))))
+    let q = (c .before .before .before .before .order-for) .ensures .whole ∙ ap (orderOf (domainIn ((c .before .before .before .before .before .before .before .before .before .before .before .before .before .before .before .before .args) .rows .now))) ((c .before .before .before .before .before .before .phy-below) .ensures (omega arith)) in
+    ((c .before .before .before .before .before .before .before .before .before .before .before .before .before .before .before .before .pre) .1 .0, (q, ((c .before .before .before .before .before .before .before .before .before .before .before .before .before .before .before .before .pre) .1 .1 .1 .1 .0, omega (arith, phys-sizes (domainIn ((c .before .before .before .before .before .before .before .before .before .before .before .before .before .before .before .before .args) .rows .now)) ((c .before .before .before .before .before .before .before .before .before .before .before .before .before .before .before .before .args) .i .0) ((c .before .before .before .before .before .before .before .before .before .phy-count) .result) ((c .before .before .before .before .before .before .before .before .loop) .p) (omega arith)))))
 
 add-p : tie.Need-add-p Inv-loop μ-loop
 add-p c = omega arith
@@ -81,24 +69,19 @@ loop-less c = omega arith
 
 loop-again : tie.Need-loop-again Inv-loop μ-loop
 loop-again c =
-    let a = c .before .before .before .before .before .before .before .before .before .before .before .before .before .before .before .before .before .before .args in
-    let l = c .before .before .before .before .before .before .before .before .before .before .before .loop in
+    let a = (c .before .before .before .before .before .before .before .before .before .before .before .before .before .before .before .before .before .before .before .args) in
+    let l = (c .before .before .before .before .before .before .before .before .before .before .before .loop) in
     let d : Domain = domainIn (a .rows .now) in
-    let n : ℕ = c .before .before .before .before .before .before .before .before .before .before .before .before .phy-count .result in
-    let o = c .before .before .before .before .before .before .before .order-for .ensures in
-    let u = c .before .before .put-table .ensures in
+    let n : ℕ = (c .before .before .before .before .before .before .before .before .before .before .before .before .phy-count) .result in
+    let o = (c .before .before .before .before .before .before .before .order-for) .ensures in
+    let u = (c .before .before .put-table) .ensures in
     let rest : List Place = phyPlaces (a .i .0) (l .p) (n - l .p) in
     let piece : List Place = place (a .i .0) (l .p) ∷ [] in
     let e = phys-next (a .i .0) n (l .p) (omega arith) in
     let v = l .inv .1 .1 .1 in
-    let h = c .before .before .before .before .before .before .before .before .before .before .before .before .before .before .before .before .before .before .pre .1 .1 .1 .1 in
-    let s = put-long d (l .to) rest piece _ (u .next) e ∙ v .1 .0 in (
-      omega arith,
-      (
-        o .same ∙ l .inv .1 .0,
-        (grown-again o, (u .same ∙ v .0, (s, put-go d (l .words) (l .to) rest (v .1 .1) piece _ u e (omega (arith, h, v .0, v .1 .0))))),
-      ),
-    )
+    let s = put-long d (l .to) rest piece _ (u .next) e ∙ v .1 .0 in
+    let g = put-go d (l .words) (l .to) rest (v .1 .1) piece _ u e (omega (arith, (c .before .before .before .before .before .before .before .before .before .before .before .before .before .before .before .before .before .before .before .pre) .1 .1 .1 .1 .1, v .0, v .1 .0)) in
+    (omega arith, (o .same ∙ l .inv .1 .0, (grown-again o, (u .same ∙ v .0, (s, g)))))
 
 same-length : tie.Need-same-length Inv-loop μ-loop
 same-length c = search needs
@@ -108,12 +91,11 @@ same-length-2 c = search needs
 
 returns : tie.Need-returns Inv-loop μ-loop
 returns c =
-    let a = c .before .before .before .before .before .before .before .before .args in
-    let l = c .before .loop in
+    let a = (c .before .before .before .before .before .before .before .before .before .args) in
+    let l = (c .before .loop) in
     let d : Domain = domainIn (a .rows .now) in
-    let n : ℕ = c .before .before .phy-count .result in
     let v = l .inv .1 .1 .1 in
-    let e = phys-last (a .i .0) n (l .p) (omega arith) in
+    let e = phys-last (a .i .0) ((c .before .before .phy-count) .result) (l .p) (omega arith) in
     record {
       same = v .0;
       next = omega (arith, sizes-none d _ e, length-tables d (placesAt d (a .i .0)));
@@ -121,21 +103,4 @@ returns c =
     }
 
 pub put-tables-spec : {M : Type 1} → statement M
-put-tables-spec =
-    tie.close
-    (tie.spec
-    Inv-loop
-    μ-loop
-    phy-count-requires
-    loop-holds
-    phy-at-requires
-    order-for-requires
-    slice-reshare-prefix-put-table
-    slice-aggregate-put-table
-    put-table-requires
-    add-p
-    loop-less
-    loop-again
-    same-length
-    same-length-2
-    returns)
+put-tables-spec = tie.close (tie.spec Inv-loop μ-loop phy-count-requires loop-holds phy-below-requires order-for-requires slice-reshare-prefix-put-table slice-aggregate-put-table put-table-requires add-p loop-less loop-again same-length same-length-2 returns)

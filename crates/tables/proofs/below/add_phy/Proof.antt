@@ -1,7 +1,7 @@
+-- add_phy meets its contract: nothing is added where the levels do not go on; else the number that the entries tell.
 use Prim.Native.Nat.{ℕ}
 use mathlib.Core.List.{List, [], _∷_}
 use mathlib.Core.Path.{_≡_, sym, _∙_, ap}
-use native.Mathlib.Omega.{arith}
 use lib.ListN.{length, take}
 use borrow.Author.Tests.{not-true, not-false}
 use Rattle.wiring.specs.Domain.{Domain, addressOf, numberOf}
@@ -9,7 +9,9 @@ use Rattle.wiring.specs.Rows.{domainIn}
 use Rattle.tables.specs.Filling.{addAll}
 use Rattle.tables.proofs.Growing.{addAll-none, grown-kept, grown-same}
 use Rattle.tables.proofs.BelowLists.{below-none, below-one}
+use Rattle.tables.proofs.Linked.{far-down}
 use borrow.Author.Needs.{needs}
+use native.Mathlib.Omega.{arith}
 use Rattle.tables.proofs.below.add_phy.Statement.{statement}
 use Rattle.tables.proofs.below.add_phy.Tie as tie
 
@@ -18,18 +20,14 @@ is-down-requires c κs = search needs
 
 returns : tie.Need-returns
 returns c =
-    let a = c .before .before .before .before .args in
-    let d : Domain = domainIn (a .rows .now) in
+    let a = (c .before .before .before .before .before .args) in
+    let e = below-none (domainIn (a .rows .now)) (a .f) (sym ((c .before .is-down) .ensures) ∙ not-true _ ((c .if1) .taken)) in
     let room : ℕ = length (a .part .now) in
     let l : List ℕ = take (a .m) (a .part .now) in
-    let e = below-none d (a .f) (sym (c .before .is-down .ensures) ∙ not-true _ (c .if1 .taken)) in
-    grown-kept (a .m) (a .part .now) (ap (addAll room l) e ∙ addAll-none room l) (omega arith)
+    grown-kept (a .m) (a .part .now) (ap (addAll room l) e ∙ addAll-none room l) (omega (arith, (c .before .before .before .before .before .pre) .1 .1))
 
-phy-address-requires : tie.Need-phy-address-requires
-phy-address-requires c κs = search needs
-
-number-of-requires : tie.Need-number-of-requires
-number-of-requires c κs = search needs
+far-number-requires : tie.Need-far-number-requires
+far-number-requires c κs = search needs
 
 add-number-requires : tie.Need-add-number-requires
 add-number-requires c κs = search needs
@@ -39,24 +37,13 @@ same-length c = search needs
 
 returns-2 : tie.Need-returns-2
 returns-2 c =
-    let t = c .before .before .before .before .before .before in
-    let a = t .before .before .before .before .args in
+    let a = (c .before .before .before .before .before .before .before .before .before .before .args) in
     let d : Domain = domainIn (a .rows .now) in
     let room : ℕ = length (a .part .now) in
     let l : List ℕ = take (a .m) (a .part .now) in
-    let e = below-one d (a .f) (sym (t .before .is-down .ensures) ∙ not-false _ (t .if1 .left)) in
-    let f = c .before .before .before .number-of in
-    let j : f .result .0 ≡ numberOf d (addressOf (a .f)) = f .ensures ∙ ap (numberOf d) (c .before .before .before .before .phy-address .ensures) in
-    grown-same (c .before .before .add-number .ensures) (ap (λ (v : ℕ). addAll room l (v ∷ [])) j ∙ sym (ap (addAll room l) e))
+    let down = sym ((c .before .before .before .before .before .before .is-down) .ensures) ∙ not-false _ ((c .before .before .before .before .before .if1) .left) in
+    let j : (c .before .before .before .far-number) .result .0 ≡ numberOf d (addressOf (a .f)) = (c .before .before .before .far-number) .ensures ∙ far-down (a .rows .now) (a .first .now) (a .i .0) (a .p .0) (a .f) (record { index = (c .before .before .before .before .before .before .before .before .before .before .pre) .0; phy = (c .before .before .before .before .before .before .before .before .before .before .pre) .1 .0 }) down in
+    grown-same ((c .before .before .add-number) .ensures) (ap (λ (v : ℕ). addAll room l (v ∷ [])) j ∙ sym (ap (addAll room l) (below-one d (a .f) down)))
 
 pub add-phy-spec : {M : Type 1} → statement M
-add-phy-spec =
-    tie.close
-    (tie.spec
-    is-down-requires
-    returns
-    phy-address-requires
-    number-of-requires
-    add-number-requires
-    same-length
-    returns-2)
+add-phy-spec = tie.close (tie.spec is-down-requires returns far-number-requires add-number-requires same-length returns-2)

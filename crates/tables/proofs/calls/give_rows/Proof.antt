@@ -1,9 +1,9 @@
+-- give_rows meets its contract: past causes 7 to 14 by own lists, the tables by own lists, where there is room for them.
 use mathlib.Core.Path.{sym, _∙_, ap}
 use native.Mathlib.Omega.{arith}
-use borrow.Author.Needs.{needs}
-use Rattle.tables.proofs.Judging.{tables-refused, tables-short, tables-done}
-use Rattle.tables.proofs.Lawful.{judged-own, fillable}
 use Rattle.wiring.specs.Checks.{checkAnswer}
+use Rattle.tables.proofs.Judging.{fillable, own-refused, own-short, own-done}
+use borrow.Author.Needs.{needs}
 use Rattle.tables.proofs.calls.give_rows.Statement.{statement}
 use Rattle.tables.proofs.calls.give_rows.Tie as tie
 
@@ -19,54 +19,51 @@ enum-told c = search needs
 needed-words-requires : tie.Need-needed-words-requires
 needed-words-requires c κs = search needs
 
+same-length : tie.Need-same-length
+same-length c = search needs
+
+same-length-2 : tie.Need-same-length-2
+same-length-2 c = search needs
+
 returns : tie.Need-returns
-returns c =
-    let e = c .before .needed-words .ensures .0 in
-    tables-short _ _ _ _ (sym (judged-own _ (c .before .before .before .before .before .before .before .pre)) ∙ sym (c .before .before .before .before .judge-rows .ensures) ∙ ap (checkAnswer _) (c .before .before .enum-told .given .1)) (omega arith)
+returns c = own-short _ _ _ _ (sym ((c .before .before .before .before .before .before .before .before .judge-rows) .ensures .0) ∙ ap (checkAnswer _) ((c .before .before .enum-told) .given .1)) (omega (arith, (c .before .needed-words) .ensures .0))
 
 table-count-requires : tie.Need-table-count-requires
 table-count-requires c κs = search needs
 
 put-all-requires : tie.Need-put-all-requires
 put-all-requires c κs =
-    let l = c .before .before .before .before .before .before .before .before .before .pre in
-    let v = sym (c .before .before .before .before .before .before .judge-rows .ensures) ∙ ap (checkAnswer _) (c .before .before .before .before .enum-told .given .1) in
-    let n = c .before .before .before .needed-words .ensures .0 in
-    (fillable _ l (sym (judged-own _ l) ∙ v), omega arith)
+    let v = sym ((c .before .before .before .before .before .before .before .before .before .before .before .before .judge-rows) .ensures .0) ∙ ap (checkAnswer _) ((c .before .before .before .before .before .before .enum-told) .given .1) in
+    ((c .before .before .before .before .before .before .before .before .before .before .before .before .judge-rows) .ensures .1 ((c .before .before .before .before .before .before .enum-told) .given .1), (fillable _ _ _ v, omega (arith, (c .before .before .before .before .before .needed-words) .ensures .0)))
 
-cast-t16 : tie.Need-cast-t16
-cast-t16 c = search needs
+cast-t26 : tie.Need-cast-t26
+cast-t26 c = search needs
 
-cast-t17 : tie.Need-cast-t17
-cast-t17 c = search needs
+cast-t27 : tie.Need-cast-t27
+cast-t27 c = search needs
+
+same-length-3 : tie.Need-same-length-3
+same-length-3 c = search needs
+
+same-length-4 : tie.Need-same-length-4
+same-length-4 c = search needs
 
 returns-2 : tie.Need-returns-2
-returns-2 c =
-    tables-refused _ _ _ _ (sym (judged-own _ (c .before .before .before .before .before .before .pre)) ∙ sym (c .before .before .before .judge-rows .ensures) ∙ ap (checkAnswer _) (c .before .verdict .given .1))
+returns-2 c = own-refused _ _ _ _ (sym ((c .before .before .before .before .before .before .before .judge-rows) .ensures .0) ∙ ap (checkAnswer _) ((c .before .verdict) .given .1))
 
-same-length : tie.Need-same-length
-same-length c = search needs
+same-length-5 : tie.Need-same-length-5
+same-length-5 c = search needs
+
+same-length-6 : tie.Need-same-length-6
+same-length-6 c = search needs
+
+same-length-7 : tie.Need-same-length-7
+same-length-7 c = search needs
 
 returns-3 : tie.Need-returns-3
 returns-3 c =
-    let f = c .before .before .before .before .before .before in
-    let e = f .needed-words .ensures .0 in
-    tables-done _ _ _ _ (sym (judged-own _ (c .before .before .before .before .before .before .before .before .before .before .before .before .pre)) ∙ sym (f .before .before .before .judge-rows .ensures) ∙ ap (checkAnswer _) (f .before .enum-told .given .1))
-    _ _ _ (omega arith) (c .before .before .before .before .table-count .ensures .0) e (c .before .before .put-all .ensures)
+    own-done _ _ _ _ (sym ((c .before .before .before .before .before .before .before .before .before .before .before .before .before .before .before .judge-rows) .ensures .0) ∙ ap (checkAnswer _) ((c .before .before .before .before .before .before .before .before .before .enum-told) .given .1)) _ _ _
+    (omega (arith, (c .before .before .before .before .before .before .before .before .needed-words) .ensures .0)) ((c .before .before .before .before .before .before .table-count) .ensures .0) ((c .before .before .before .before .before .before .before .before .needed-words) .ensures .0) ((c .before .before .put-all) .ensures)
 
 pub give-rows-spec : {M : Type 1} → statement M
-give-rows-spec =
-    tie.close
-    (tie.spec
-    judge-rows-requires
-    enum-known-verdict
-    enum-told
-    needed-words-requires
-    returns
-    table-count-requires
-    put-all-requires
-    cast-t16
-    cast-t17
-    returns-2
-    same-length
-    returns-3)
+give-rows-spec = tie.close (tie.spec judge-rows-requires enum-known-verdict enum-told needed-words-requires same-length same-length-2 returns table-count-requires put-all-requires cast-t26 cast-t27 same-length-3 same-length-4 returns-2 same-length-5 same-length-6 same-length-7 returns-3)

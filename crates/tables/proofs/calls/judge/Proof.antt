@@ -1,88 +1,70 @@
+-- judge meets its contract: the second byte states how many expanders there are, so the room is enough.
 use Prim.Native.Nat.{ℕ}
-use mathlib.Core.Path.{sym, _∙_, ap}
 use lib.ListN.{length-replicate}
-use lib.Seq.{length-take-le}
+use Rattle.wiring.specs.File.{limits}
+use Rattle.wiring.proofs.Read.{read-good, stated-expanders}
+use Rattle.wiring.proofs.Opening.{file-room}
 use borrow.Author.Needs.{needs}
-use Rattle.tables.proofs.Judging.{judge-refused, judge-by}
-use Rattle.tables.proofs.Lawful.{lawful, judged-own}
-use Rattle.wiring.proofs.Opening.{opened-as, opened-fits}
-use Rattle.wiring.specs.Checks.{checkAnswer}
-use Rattle.wiring.specs.Frames.{good}
+use native.Mathlib.Omega.{arith}
 use Rattle.tables.proofs.calls.judge.Statement.{statement}
 use Rattle.tables.proofs.calls.judge.Tie as tie
 
-slice-aggregate-read-domain : tie.Need-slice-aggregate-read-domain
-slice-aggregate-read-domain c = search needs
+stated-count-requires : tie.Need-stated-count-requires
+stated-count-requires c κs = search needs
 
-read-domain-requires : tie.Need-read-domain-requires
-read-domain-requires c κs = search needs
+slice-aggregate-judge-in : tie.Need-slice-aggregate-judge-in
+slice-aggregate-judge-in c = search needs
 
-enum-known-read : tie.Need-enum-known-read
-enum-known-read c = search needs
+slice-aggregate-judge-in-2 : tie.Need-slice-aggregate-judge-in-2
+slice-aggregate-judge-in-2 c = search needs
 
-enum-known-read-2 : tie.Need-enum-known-read-2
-enum-known-read-2 c = search needs
+slice-aggregate-judge-in-3 : tie.Need-slice-aggregate-judge-in-3
+slice-aggregate-judge-in-3 c = search needs
 
-cast-e : tie.Need-cast-e
-cast-e c = search needs
-
-mul-e : tie.Need-mul-e
-mul-e c = search needs
-
-array-share-prefix-rows : tie.Need-array-share-prefix-rows
-array-share-prefix-rows c =
-    let r = c .before .before .before .before .read-domain in
-    opened-fits _ _ _ _ _ (length-replicate {A = ℕ} 16512 0) (r .ensures) (c .before .read2 .given .1) (r .kept .1 .0)
-
-slice-aggregate-judge-rows : tie.Need-slice-aggregate-judge-rows
-slice-aggregate-judge-rows c =
-    let r = c .before .before .before .before .before .read-domain in
-    let h = opened-fits _ _ _ _ _ (length-replicate {A = ℕ} 16512 0) (r .ensures) (c .before .before .read2 .given .1) (r .kept .1 .0) in
-    sym (length-take-le _ (r .last .1 .0) h)
-
-judge-rows-requires : tie.Need-judge-rows-requires
-judge-rows-requires c κs = search needs
-
-enum-known-verdict : tie.Need-enum-known-verdict
-enum-known-verdict c = search needs
-
-enum-told : tie.Need-enum-told
-enum-told c = search needs
+judge-in-requires : tie.Need-judge-in-requires
+judge-in-requires c κs =
+    let f = (c .before .before .before .before .before .before .args) .file .now in
+    file-room 2 f _ _ _ (λ d e. omega (arith, stated-expanders limits f d e, (c .before .before .before .before .stated-count) .ensures))
+    (omega (arith, length-replicate {A = ℕ} 516 0)) (omega (arith, length-replicate {A = ℕ} 320 0)) (omega (arith, length-replicate {A = ℕ} 256 0))
 
 returns : tie.Need-returns
-returns c =
-    let r = c .before .before .before .before .read-domain in
-    judge-refused _ _ (opened-as _ _ _ _ _ (length-replicate {A = ℕ} 16512 0) (r .ensures) (c .before .read .given .1))
+returns c = search needs
+
+slice-aggregate-judge-in-4 : tie.Need-slice-aggregate-judge-in-4
+slice-aggregate-judge-in-4 c = search needs
+
+slice-aggregate-judge-in-5 : tie.Need-slice-aggregate-judge-in-5
+slice-aggregate-judge-in-5 c = search needs
+
+slice-aggregate-judge-in-6 : tie.Need-slice-aggregate-judge-in-6
+slice-aggregate-judge-in-6 c = search needs
+
+judge-in-requires-2 : tie.Need-judge-in-requires-2
+judge-in-requires-2 c κs =
+    let f = (c .before .before .before .before .before .before .before .args) .file .now in
+    file-room 8 f _ _ _ (λ d e. omega (arith, stated-expanders limits f d e, (c .before .before .before .before .before .stated-count) .ensures))
+    (omega (arith, length-replicate {A = ℕ} 2064 0)) (omega (arith, length-replicate {A = ℕ} 1088 0)) (omega (arith, length-replicate {A = ℕ} 1024 0))
 
 returns-2 : tie.Need-returns-2
-returns-2 c =
-    let f = c .before .before .before .before .before .before in
-    let r = f .before .before .before .read-domain in
-    let o = opened-as _ _ _ _ _ (length-replicate {A = ℕ} 16512 0) (r .ensures) (f .read2 .given .1) in
-    judge-by _ _ _ (o .0) (sym (judged-own _ (lawful _ _ (o .0))) ∙ sym (c .before .before .before .judge-rows .ensures) ∙ ap (checkAnswer _) (c .before .verdict .given .1))
+returns-2 c = search needs
+
+slice-aggregate-judge-in-7 : tie.Need-slice-aggregate-judge-in-7
+slice-aggregate-judge-in-7 c = search needs
+
+slice-aggregate-judge-in-8 : tie.Need-slice-aggregate-judge-in-8
+slice-aggregate-judge-in-8 c = search needs
+
+slice-aggregate-judge-in-9 : tie.Need-slice-aggregate-judge-in-9
+slice-aggregate-judge-in-9 c = search needs
+
+judge-in-requires-3 : tie.Need-judge-in-requires-3
+judge-in-requires-3 c κs =
+    let f = (c .before .before .before .before .before .before .before .args) .file .now in
+    file-room 64 f _ _ _ (λ d e. read-good limits f d e .few)
+    (omega (arith, length-replicate {A = ℕ} 16512 0)) (omega (arith, length-replicate {A = ℕ} 8256 0)) (omega (arith, length-replicate {A = ℕ} 8192 0))
 
 returns-3 : tie.Need-returns-3
-returns-3 c =
-    let f = c .before .before .before .before .before in
-    let r = f .before .before .before .read-domain in
-    let o = opened-as _ _ _ _ _ (length-replicate {A = ℕ} 16512 0) (r .ensures) (f .read2 .given .1) in
-    ap good (o .1 .1) ∙ judge-by _ _ _ (o .0) (sym (judged-own _ (lawful _ _ (o .0))) ∙ sym (c .before .before .judge-rows .ensures) ∙ ap (checkAnswer _) (c .enum-told .given .1))
+returns-3 c = search needs
 
 pub judge-spec : {M : Type 1} → statement M
-judge-spec =
-    tie.close
-    (tie.spec
-    slice-aggregate-read-domain
-    read-domain-requires
-    enum-known-read
-    enum-known-read-2
-    cast-e
-    mul-e
-    array-share-prefix-rows
-    slice-aggregate-judge-rows
-    judge-rows-requires
-    enum-known-verdict
-    enum-told
-    returns
-    returns-2
-    returns-3)
+judge-spec = tie.close (tie.spec stated-count-requires slice-aggregate-judge-in slice-aggregate-judge-in-2 slice-aggregate-judge-in-3 judge-in-requires returns slice-aggregate-judge-in-4 slice-aggregate-judge-in-5 slice-aggregate-judge-in-6 judge-in-requires-2 returns-2 slice-aggregate-judge-in-7 slice-aggregate-judge-in-8 slice-aggregate-judge-in-9 judge-in-requires-3 returns-3)

@@ -1,7 +1,9 @@
-use mathlib.Core.Path.{sym, _∙_, ap}
-use borrow.Author.Needs.{needs}
-use Rattle.tables.proofs.Lawful.{own-checked}
+-- judge_rows meets its contract: cause 14 by own lists after causes 7 to 13.
+use mathlib.Core.Path.{refl, sym, _∙_, ap}
 use Rattle.wiring.specs.Checks.{checkAnswer}
+use Rattle.wiring.proofs.Calls.{not-passed}
+use Rattle.tables.proofs.Judging.{own-checked}
+use borrow.Author.Needs.{needs}
 use Rattle.tables.proofs.calls.judge_rows.Statement.{statement}
 use Rattle.tables.proofs.calls.judge_rows.Tie as tie
 
@@ -15,22 +17,25 @@ enum-told : tie.Need-enum-told
 enum-told c = search needs
 
 first-overlong-requires : tie.Need-first-overlong-requires
-first-overlong-requires c κs = search needs
+first-overlong-requires c κs = (c .before .before .before .before .before .before .before .before .check-domain) .ensures .1 ((c .before .before .enum-told) .given .1)
+
+same-length : tie.Need-same-length
+same-length c = search needs
+
+same-length-2 : tie.Need-same-length-2
+same-length-2 c = search needs
 
 returns : tie.Need-returns
-returns c = sym (own-checked _ _ (sym (c .before .before .before .check-domain .ensures) ∙ ap (checkAnswer _) (c .before .checked .given .1)))
+returns c = (sym (own-checked _ _ _ _ (sym ((c .before .before .before .before .before .before .before .check-domain) .ensures .0) ∙ ap (checkAnswer _) ((c .before .checked) .given .1))), not-passed _ refl)
+
+same-length-3 : tie.Need-same-length-3
+same-length-3 c = search needs
+
+same-length-4 : tie.Need-same-length-4
+same-length-4 c = search needs
 
 returns-2 : tie.Need-returns-2
-returns-2 c =
-    c .first-overlong .ensures ∙ sym (own-checked _ _ (sym (c .before .before .before .check-domain .ensures) ∙ ap (checkAnswer _) (c .before .enum-told .given .1)))
+returns-2 c = ((c .first-overlong) .ensures ∙ sym (own-checked _ _ _ _ (sym ((c .before .before .before .before .before .before .before .before .before .check-domain) .ensures .0) ∙ ap (checkAnswer _) ((c .before .before .before .enum-told) .given .1))), λ q. (c .before .before .before .before .before .before .before .before .before .check-domain) .ensures .1 ((c .before .before .before .enum-told) .given .1))
 
 pub judge-rows-spec : {M : Type 1} → statement M
-judge-rows-spec =
-    tie.close
-    (tie.spec
-    check-domain-requires
-    enum-known-checked
-    enum-told
-    first-overlong-requires
-    returns
-    returns-2)
+judge-rows-spec = tie.close (tie.spec check-domain-requires enum-known-checked enum-told first-overlong-requires same-length same-length-2 returns same-length-3 same-length-4 returns-2)

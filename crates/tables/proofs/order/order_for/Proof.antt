@@ -1,3 +1,4 @@
+-- order_for meets its contract: phys of one link have one order.
 use mathlib.Core.Path.{sym, _∙_}
 use Rattle.wiring.specs.Rows.{domainIn}
 use Rattle.wiring.proofs.Members.{was-true}
@@ -11,19 +12,16 @@ are-one-link-requires : tie.Need-are-one-link-requires
 are-one-link-requires c κs = search needs
 
 returns : tie.Need-returns
-returns c =
-    let s = c .before .before .before .before .before in
-    let a = s .args in
-    grown-same (s .pre .1 .1) (order-linked (domainIn (a .rows .now)) (a .g) (a .f) (was-true _ (sym (c .before .are-one-link .ensures) ∙ c .if1 .taken)))
+returns c = grown-same ((c .before .before .before .before .before .before .pre) .1 .1 .1) (order-linked (domainIn ((c .before .before .before .before .before .before .args) .rows .now)) ((c .before .before .before .before .before .before .args) .g) ((c .before .before .before .before .before .before .args) .f) (was-true _ (sym ((c .before .are-one-link) .ensures) ∙ (c .if1) .taken)))
 
 put-order-requires : tie.Need-put-order-requires
-put-order-requires c κs = let p = c .before .before .before .before .before .before .pre in (p .0, p .1 .0)
+put-order-requires c κs = ((c .before .before .before .before .before .before .before .pre) .0, ((c .before .before .before .before .before .before .before .pre) .1 .0, (c .before .before .before .before .before .before .before .pre) .1 .1 .0))
 
 same-length : tie.Need-same-length
 same-length c = search needs
 
 returns-2 : tie.Need-returns-2
-returns-2 c = c .before .before .put-order .ensures
+returns-2 c = search needs
 
 pub order-for-spec : {M : Type 1} → statement M
 order-for-spec = tie.close (tie.spec are-one-link-requires returns put-order-requires same-length returns-2)

@@ -1,6 +1,6 @@
-use Prim.Native.Nat.{_+_, _-_, _*_, _≤_, _<_}
+-- put_order meets its contract. The loop's invariant: the numbers so far are a queue of which the first k were followed.
+use Prim.Native.Nat.{_-_, _≤_}
 use mathlib.Core.Path.{_≡_, refl, _∙_}
-use native.Mathlib.Omega.{arith}
 use lib.ListN.{length, take}
 use Rattle.wiring.specs.Domain.{Domain}
 use Rattle.wiring.specs.Rows.{domainIn}
@@ -9,15 +9,15 @@ use Rattle.tables.proofs.Orders.{Queued, queue-start, queue-go, queue-s
 use Rattle.tables.proofs.BelowLists.{first-few}
 use Rattle.tables.proofs.Growing.{grown-length}
 use borrow.Author.Needs.{needs}
+use native.Mathlib.Omega.{arith}
 use Rattle.tables.proofs.order.put_order.Statement.{statement}
 use Rattle.tables.proofs.order.put_order.Tie as tie
 
 abbrev Inv-loop : tie.InvT-loop
-Inv-loop rows below order₀ turns m₀ k₀ order m k =
-    (k ≤ turns) × ((length order ≡ length order₀) × Queued (domainIn rows) (take m₀ order₀) turns k m order)
+Inv-loop rows first below order₀ turns m₀ k₀ order m k = (k ≤ turns) × ((length order ≡ length order₀) × Queued (domainIn rows) (take m₀ order₀) turns k m order)
 
 abbrev μ-loop : tie.MeasureT-loop
-μ-loop rows below order₀ turns m₀ k₀ order m k = turns - k
+μ-loop rows first below order₀ turns m₀ k₀ order m k = turns - k
 
 expander-count-requires : tie.Need-expander-count-requires Inv-loop μ-loop
 expander-count-requires c κs = search needs
@@ -26,12 +26,12 @@ cast-turns : tie.Need-cast-turns Inv-loop μ-loop
 cast-turns c = search needs
 
 first-level-requires : tie.Need-first-level-requires Inv-loop μ-loop
-first-level-requires c κs = omega (arith, c .before .before .before .before .before .pre .1)
+first-level-requires c κs = ((c .before .before .before .before .before .before .pre) .0, omega (arith, (c .before .before .before .before .before .before .pre) .1 .1))
 
 loop-holds : tie.Need-loop-holds Inv-loop μ-loop
 loop-holds c =
-    let a = c .before .before .before .before .before .before .before .before .args in
-    let g = c .before .before .first-level .ensures in
+    let a = (c .before .before .before .before .before .before .before .before .before .args) in
+    let g = (c .before .before .first-level) .ensures in
     (omega arith, (refl, queue-start (domainIn (a .rows .now)) _ _ _ (omega (arith, g .same, g .fits)) (omega (arith, grown-length g, first-few (domainIn (a .rows .now)) (a .f)))))
 
 same-length : tie.Need-same-length Inv-loop μ-loop
@@ -39,27 +39,20 @@ same-length c = search needs
 
 returns : tie.Need-returns Inv-loop μ-loop
 returns c =
-    let l = c .before .before .loop in
-    let e = c .before .before .before .before .before .before .before .expander-count .ensures .0 in
-    let g = c .before .before .before .before .before .first-level .ensures in
-    let a = c .before .before .before .before .before .before .before .before .before .before .before .args in
+    let l = (c .before .before .loop) in
+    let g = (c .before .before .before .before .before .first-level) .ensures in
+    let a = (c .before .before .before .before .before .before .before .before .before .before .before .before .args) in
     let d : Domain = domainIn (a .rows .now) in
-    record {
-      same = l .inv .1 .0 ∙ g .same;
-      fits = omega (arith, l .inv .1 .0, g .same, l .inv .1 .1 .fits);
-      whole = order-by d (a .f) (queue-stop d (l .inv .1 .1) (omega arith)) e (g .whole);
-    }
+    record { same = l .inv .1 .0 ∙ g .same; fits = omega (arith, l .inv .1 .0, g .same, l .inv .1 .1 .fits); whole = order-by d (a .f) (queue-stop d (l .inv .1 .1) (omega arith)) ((c .before .before .before .before .before .before .before .expander-count) .ensures .0) (g .whole) }
 
-slice-read-t13 : tie.Need-slice-read-t13 Inv-loop μ-loop
-slice-read-t13 c = let q = c .before .before .before .loop .inv .1 .1 in omega (arith, q .fits)
+slice-read-t16 : tie.Need-slice-read-t16 Inv-loop μ-loop
+slice-read-t16 c = omega (arith, (c .before .before .before .loop) .inv .1 .1 .fits)
 
 append-below-requires : tie.Need-append-below-requires Inv-loop μ-loop
 append-below-requires c κs =
-    let s = c .before .before .before .before .before .before .before .before .before .before .before .before .before in
-    let l = c .before .before .before .before .loop in
-    let g = c .before .before .before .before .before .before .before .first-level .ensures in
-    let e = c .before .before .before .before .before .before .before .before .before .expander-count .ensures .1 in
-    (s .pre .0, omega (arith, s .pre .1, g .same, l .inv .1 .0, l .inv .1 .1 .few))
+    let l = (c .before .before .before .before .loop) in
+    let g = (c .before .before .before .before .before .before .before .first-level) .ensures in
+    ((c .before .before .before .before .before .before .before .before .before .before .before .before .before .before .pre) .1 .0, omega (arith, (c .before .before .before .before .before .before .before .before .before .before .before .before .before .before .pre) .1 .1, g .same, l .inv .1 .0, l .inv .1 .1 .few, (c .before .before .before .before .before .before .before .before .before .expander-count) .ensures .0, (c .before .before .before .before .before .before .before .before .before .expander-count) .ensures .1))
 
 add-k : tie.Need-add-k Inv-loop μ-loop
 add-k c = omega arith
@@ -69,9 +62,9 @@ loop-less c = omega arith
 
 loop-again : tie.Need-loop-again Inv-loop μ-loop
 loop-again c =
-    let l = c .before .before .before .before .before .before .before .loop in
-    let a = c .before .before .before .before .before .before .before .before .before .before .before .before .before .before .before .before .args in
-    let g = c .before .before .append-below .ensures in
+    let l = (c .before .before .before .before .before .before .before .loop) in
+    let a = (c .before .before .before .before .before .before .before .before .before .before .before .before .before .before .before .before .before .args) in
+    let g = (c .before .before .append-below) .ensures in
     (omega arith, (g .same ∙ l .inv .1 .0, queue-go (domainIn (a .rows .now)) (l .inv .1 .1) g (domain-few (a .rows .now)) (omega arith) (omega arith)))
 
 same-length-2 : tie.Need-same-length-2 Inv-loop μ-loop
@@ -79,33 +72,11 @@ same-length-2 c = search needs
 
 returns-2 : tie.Need-returns-2 Inv-loop μ-loop
 returns-2 c =
-    let l = c .before .loop in
-    let e = c .before .before .before .before .before .before .expander-count .ensures .0 in
-    let g = c .before .before .before .before .first-level .ensures in
-    let a = c .before .before .before .before .before .before .before .before .before .before .args in
+    let l = (c .before .loop) in
+    let g = (c .before .before .before .before .first-level) .ensures in
+    let a = (c .before .before .before .before .before .before .before .before .before .before .before .args) in
     let d : Domain = domainIn (a .rows .now) in
-    record {
-      same = l .inv .1 .0 ∙ g .same;
-      fits = omega (arith, l .inv .1 .0, g .same, l .inv .1 .1 .fits);
-      whole = order-by d (a .f) (queue-end d (l .inv .1 .1) (omega arith)) e (g .whole);
-    }
+    record { same = l .inv .1 .0 ∙ g .same; fits = omega (arith, l .inv .1 .0, g .same, l .inv .1 .1 .fits); whole = order-by d (a .f) (queue-end d (l .inv .1 .1) (omega arith)) ((c .before .before .before .before .before .before .expander-count) .ensures .0) (g .whole) }
 
 pub put-order-spec : {M : Type 1} → statement M
-put-order-spec =
-    tie.close
-    (tie.spec
-    Inv-loop
-    μ-loop
-    expander-count-requires
-    cast-turns
-    first-level-requires
-    loop-holds
-    same-length
-    returns
-    slice-read-t13
-    append-below-requires
-    add-k
-    loop-less
-    loop-again
-    same-length-2
-    returns-2)
+put-order-spec = tie.close (tie.spec Inv-loop μ-loop expander-count-requires cast-turns first-level-requires loop-holds same-length returns slice-read-t16 append-below-requires add-k loop-less loop-again same-length-2 returns-2)

@@ -11,13 +11,13 @@ use Rattle.tables.proofs.overlong.count_words.Statement.{statement}
 use Rattle.tables.proofs.overlong.count_words.Tie as tie
 
 abbrev Inv-loop : tie.InvT-loop
-Inv-loop rows lists order sum₀ k₀ sum k =
+Inv-loop rows counts order sum₀ k₀ sum k =
     (k ≤ length order)
     × ((sum ≤ 128 * k)
     × (sum + length (flatMap (own (domainIn rows)) (drop k order)) ≡ length (flatMap (own (domainIn rows)) order)))
 
 abbrev μ-loop : tie.MeasureT-loop
-μ-loop rows lists order sum₀ k₀ sum k = length order - k
+μ-loop rows counts order sum₀ k₀ sum k = length order - k
 
 loop-holds : tie.Need-loop-holds Inv-loop μ-loop
 loop-holds c = (omega arith, (omega arith, omega arith))

@@ -1,9 +1,9 @@
+use borrow.Author.Needs.{needs}
 use mathlib.Core.Path.{sym, ap}
 use native.Mathlib.Omega.{arith}
 use lib.ListN.{length}
 use Rattle.wiring.specs.Rows.{domainIn}
-use Rattle.tables.proofs.Owns.{own-count, own-none, own-few}
-use borrow.Author.Needs.{needs}
+use Rattle.tables.proofs.Owns.{own-none, own-few}
 use Rattle.tables.proofs.own.own_count.Statement.{statement}
 use Rattle.tables.proofs.own.own_count.Tie as tie
 
@@ -19,21 +19,17 @@ returns c =
 cast-result : tie.Need-cast-result
 cast-result c = search needs
 
-mul-result : tie.Need-mul-result
-mul-result c = search needs
-
-mul-result-2 : tie.Need-mul-result-2
-mul-result-2 c = search needs
-
 shared-slice-read-result : tie.Need-shared-slice-read-result
 shared-slice-read-result c = search needs
+
+cast-result-2 : tie.Need-cast-result-2
+cast-result-2 c = omega (arith, c .shared-slice-known3 .given (c .before .before .before .before .before .before .before .args .i .0))
 
 returns-2 : tie.Need-returns-2
 returns-2 c =
     let a = c .before .before .before .before .before .before .before .args in
     let e = c .before .before .before .before .expander-count .ensures .0 in
-    let d = domainIn (a .rows .now) in
-    let n = own-count d (a .lists .now) (c .before .before .before .before .before .before .before .pre) (a .i .0) (omega arith) in
+    let n = c .before .before .before .before .before .before .before .pre .each (a .i .0) (omega arith) in
     (n, omega (arith, n, own-few (a .rows .now) (a .i .0)))
 
 pub own-count-spec : {M : Type 1} → statement M
@@ -43,7 +39,6 @@ own-count-spec =
     expander-count-requires
     returns
     cast-result
-    mul-result
-    mul-result-2
     shared-slice-read-result
+    cast-result-2
     returns-2)

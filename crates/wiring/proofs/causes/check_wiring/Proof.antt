@@ -1,7 +1,8 @@
+-- check_wiring meets its contract: the answers of the four searches in order.
 use mathlib.Core.Path.{refl, sym}
-use borrow.Author.Needs.{needs}
-use Rattle.wiring.proofs.Searches.{told, wired-by}
 use Rattle.wiring.specs.Rows.{domainIn}
+use Rattle.wiring.proofs.Searches.{told, wired-by}
+use borrow.Author.Needs.{needs}
 use Rattle.wiring.proofs.causes.check_wiring.Statement.{statement}
 use Rattle.wiring.proofs.causes.check_wiring.Tie as tie
 
@@ -36,59 +37,24 @@ first-of-requires-4 : tie.Need-first-of-requires-4
 first-of-requires-4 c κs = search needs
 
 returns : tie.Need-returns
-returns c =
-    let d = domainIn (c .before .before .before .before .before .args .rows .now) in
-    wired-by d (told d (c .before .before .before .first-of .ensures) (c .before .unanswered .given .1)) refl refl refl
+returns c = let d = domainIn (c .before .before .before .before .before .before .before .args .rows .now) in wired-by d (told d (c .before .before .before .first-of .ensures) (c .before .unanswered .given .1)) refl refl refl
 
 returns-2 : tie.Need-returns-2
 returns-2 c =
-    let first-of = c .before .before .before .before .before .before .first-of in
-    let enum-told = c .before .before .before .before .enum-told in
-    let first-of2 = c .before .before .before .first-of2 in
-    let claimed = c .before .claimed in
-    let d = domainIn (c .before .before .before .before .before .before .before .before .args .rows .now) in
-    wired-by d (told d (first-of .ensures) (enum-told .given .1)) (told d (first-of2 .ensures) (claimed .given .1)) refl refl
+    let d = domainIn (c .before .before .before .before .before .before .before .before .before .before .args .rows .now) in
+    wired-by d (told d (c .before .before .before .before .before .before .first-of .ensures) (c .before .before .before .before .enum-told .given .1)) (told d (c .before .before .before .first-of2 .ensures) (c .before .claimed .given .1)) refl refl
 
 returns-3 : tie.Need-returns-3
 returns-3 c =
-    let first-of = c .before .before .before .before .before .before .before .before .before .first-of in
-    let enum-told = c .before .before .before .before .before .before .before .enum-told in
-    let first-of2 = c .before .before .before .before .before .before .first-of2 in
-    let enum-told2 = c .before .before .before .before .enum-told2 in
-    let first-of3 = c .before .before .before .first-of3 in
-    let clashing = c .before .clashing in
-    let d = domainIn (c .before .before .before .before .before .before .before .before .before .before .before .args .rows .now) in
-    wired-by d (told d (first-of .ensures) (enum-told .given .1)) (told d (first-of2 .ensures) (enum-told2 .given .1))
-    (told d (first-of3 .ensures) (clashing .given .1)) refl
+    let d = domainIn (c .before .before .before .before .before .before .before .before .before .before .before .before .before .args .rows .now) in
+    wired-by d (told d (c .before .before .before .before .before .before .before .before .before .first-of .ensures) (c .before .before .before .before .before .before .before .enum-told .given .1)) (told d (c .before .before .before .before .before .before .first-of2 .ensures) (c .before .before .before .before .enum-told2 .given .1))
+    (told d (c .before .before .before .first-of3 .ensures) (c .before .clashing .given .1)) refl
 
 returns-4 : tie.Need-returns-4
 returns-4 c =
-    let first-of = c .before .before .before .before .before .before .before .before .before .first-of in
-    let enum-told = c .before .before .before .before .before .before .before .enum-told in
-    let first-of2 = c .before .before .before .before .before .before .first-of2 in
-    let enum-told2 = c .before .before .before .before .enum-told2 in
-    let first-of3 = c .before .before .before .first-of3 in
-    let enum-told3 = c .before .enum-told3 in
-    let first-of4 = c .first-of4 in
-    let d = domainIn (c .before .before .before .before .before .before .before .before .before .before .before .args .rows .now) in
-    wired-by d (told d (first-of .ensures) (enum-told .given .1)) (told d (first-of2 .ensures) (enum-told2 .given .1))
-    (told d (first-of3 .ensures) (enum-told3 .given .1)) (sym (first-of4 .ensures))
+    let d = domainIn (c .before .before .before .before .before .before .before .before .before .before .before .before .before .args .rows .now) in
+    wired-by d (told d (c .before .before .before .before .before .before .before .before .before .first-of .ensures) (c .before .before .before .before .before .before .before .enum-told .given .1)) (told d (c .before .before .before .before .before .before .first-of2 .ensures) (c .before .before .before .before .enum-told2 .given .1))
+    (told d (c .before .before .before .first-of3 .ensures) (c .before .enum-told3 .given .1)) (sym (c .first-of4 .ensures))
 
 pub check-wiring-spec : {M : Type 1} → statement M
-check-wiring-spec =
-    tie.close
-    (tie.spec
-    first-of-requires
-    enum-known-unanswered
-    enum-told
-    first-of-requires-2
-    enum-known-claimed
-    enum-told-2
-    first-of-requires-3
-    enum-known-clashing
-    enum-told-3
-    first-of-requires-4
-    returns
-    returns-2
-    returns-3
-    returns-4)
+check-wiring-spec = tie.close (tie.spec first-of-requires enum-known-unanswered enum-told first-of-requires-2 enum-known-claimed enum-told-2 first-of-requires-3 enum-known-clashing enum-told-3 first-of-requires-4 returns returns-2 returns-3 returns-4)

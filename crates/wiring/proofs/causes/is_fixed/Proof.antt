@@ -1,15 +1,16 @@
+-- is_fixed meets its contract: the attribute and the configurable bit tell.
 use mathlib.Core.Path.{_∙_, ap}
-use native.Mathlib.Omega.{arith}
-use borrow.Author.Needs.{needs}
 use borrow.Author.Tests.{eq-eqb, ne-eqb}
 use Rattle.wiring.specs.Causes.{fixed}
 use Rattle.wiring.specs.Domain.{attributeOf, phyAt}
 use Rattle.wiring.specs.Rows.{domainIn}
+use borrow.Author.Needs.{needs}
+use native.Mathlib.Omega.{arith}
 use Rattle.wiring.proofs.causes.is_fixed.Statement.{statement}
 use Rattle.wiring.proofs.causes.is_fixed.Tie as tie
 
-phy-at-requires : tie.Need-phy-at-requires
-phy-at-requires c κs = search needs
+phy-below-requires : tie.Need-phy-below-requires
+phy-below-requires c κs = search needs
 
 phy-attribute-requires : tie.Need-phy-attribute-requires
 phy-attribute-requires c κs = search needs
@@ -18,7 +19,7 @@ returns : tie.Need-returns
 unfolding fixed
 returns c =
     let a = c .before .before .before .before .args in
-    let e = c .before .phy-attribute .ensures ∙ ap attributeOf (c .before .before .phy-at .ensures) in
+    let e = c .before .phy-attribute .ensures ∙ ap attributeOf (c .before .before .phy-below .ensures (c .before .before .before .before .pre)) in
     simp (ne-eqb (attributeOf (phyAt (domainIn (a .rows .now)) (a .i .0) (a .p .0))) 2 (λ x. omega arith))
 
 configurable-bit-requires : tie.Need-configurable-bit-requires
@@ -28,13 +29,8 @@ returns-2 : tie.Need-returns-2
 unfolding fixed
 returns-2 c =
     let a = c .before .before .before .before .before .args in
-    let phy-at = c .before .before .before .phy-at in
-    let phy-attribute = c .before .before .phy-attribute in
-    let configurable-bit = c .configurable-bit in
-    let e = phy-attribute .ensures ∙ ap attributeOf (phy-at .ensures) in
-    simp (eq-eqb (attributeOf (phyAt (domainIn (a .rows .now)) (a .i .0) (a .p .0))) 2 (omega arith), configurable-bit .ensures)
+    let e = c .before .before .phy-attribute .ensures ∙ ap attributeOf (c .before .before .before .phy-below .ensures (c .before .before .before .before .before .pre)) in
+    simp (eq-eqb (attributeOf (phyAt (domainIn (a .rows .now)) (a .i .0) (a .p .0))) 2 (omega arith), c .configurable-bit .ensures)
 
 pub is-fixed-spec : {M : Type 1} → statement M
-is-fixed-spec =
-    tie.close
-    (tie.spec phy-at-requires phy-attribute-requires returns configurable-bit-requires returns-2)
+is-fixed-spec = tie.close (tie.spec phy-below-requires phy-attribute-requires returns configurable-bit-requires returns-2)

@@ -1,16 +1,19 @@
+-- is_unanswered meets its contract: the type, the attribute, and what the far end names tell.
 use mathlib.Core.Bool.{not}
 use mathlib.Core.Path.{_∙_, ap}
-use native.Mathlib.Omega.{arith}
-use borrow.Author.Needs.{needs}
+use lib.Dec.{le→leb}
 use borrow.Author.Tests.{eq-eqb, ne-eqb, le-leb, lt-leb}
 use Rattle.wiring.specs.Causes.{farPhy, unanswered}
 use Rattle.wiring.specs.Domain.{typeOf, attributeOf, phyAt}
 use Rattle.wiring.specs.Rows.{domainIn}
+use Rattle.wiring.proofs.EndDevices.{short-in}
+use borrow.Author.Needs.{needs}
+use native.Mathlib.Omega.{arith}
 use Rattle.wiring.proofs.causes.is_unanswered.Statement.{statement}
 use Rattle.wiring.proofs.causes.is_unanswered.Tie as tie
 
-phy-at-requires : tie.Need-phy-at-requires
-phy-at-requires c κs = search needs
+phy-below-requires : tie.Need-phy-below-requires
+phy-below-requires c κs = search needs
 
 phy-type-requires : tie.Need-phy-type-requires
 phy-type-requires c κs = search needs
@@ -18,8 +21,8 @@ phy-type-requires c κs = search needs
 returns : tie.Need-returns
 unfolding unanswered
 returns c =
-    let a = c .before .before .before .before .args in
-    let e = c .before .phy-type .ensures ∙ ap typeOf (c .before .before .phy-at .ensures) in
+    let a = c .before .before .before .before .before .args in
+    let e = c .before .phy-type .ensures ∙ ap typeOf (c .before .before .phy-below .ensures (c .before .before .before .before .before .pre .1)) in
     simp (lt-leb 2 (typeOf (phyAt (domainIn (a .rows .now)) (a .i .0) (a .p .0))) (omega arith))
 
 phy-attribute-requires : tie.Need-phy-attribute-requires
@@ -28,14 +31,19 @@ phy-attribute-requires c κs = search needs
 returns-2 : tie.Need-returns-2
 unfolding unanswered
 returns-2 c =
-    let a = c .before .before .before .before .before .before .args in
-    let f = phyAt (domainIn (a .rows .now)) (a .i .0) (a .p .0) in
-    let e = c .before .before .before .phy-type .ensures ∙ ap typeOf (c .before .before .before .before .phy-at .ensures) in
-    let g = c .before .phy-attribute .ensures ∙ ap attributeOf (c .before .before .before .before .phy-at .ensures) in
-    simp (le-leb 2 (typeOf f) (omega arith), eq-eqb (attributeOf f) 0 (omega arith))
+    let a = c .before .before .before .before .before .before .before .args in
+    let f = c .before .before .before .before .phy-below .ensures (c .before .before .before .before .before .before .before .pre .1) in
+    let φ = phyAt (domainIn (a .rows .now)) (a .i .0) (a .p .0) in
+    let e = c .before .before .before .phy-type .ensures ∙ ap typeOf f in
+    let g = c .before .phy-attribute .ensures ∙ ap attributeOf f in
+    simp (le-leb 2 (typeOf φ) (omega arith), eq-eqb (attributeOf φ) 0 (omega arith))
 
 far-phy-requires : tie.Need-far-phy-requires
-far-phy-requires c κs = search needs
+far-phy-requires c κs =
+    let pre = c .before .before .before .before .before .before .before .pre in
+    let phy-below = c .before .before .before .before .phy-below in
+    let a = c .before .before .before .before .before .before .before .args in
+    (pre .0, (phy-below .ensures (pre .1), (le→leb 2 (typeOf (phy-below .result)) (omega arith), omega (arith, pre .1, short-in (a .rows .now) (a .i .0)))))
 
 expander-address-requires : tie.Need-expander-address-requires
 expander-address-requires c κs = search needs
@@ -46,31 +54,14 @@ is-naming-requires c κs = search needs
 returns-3 : tie.Need-returns-3
 unfolding unanswered
 returns-3 c =
-    let a = c .before .before .before .before .before .before .before .before .before .args in
-    let phy-at = c .before .before .before .before .before .before .before .phy-at in
-    let phy-type = c .before .before .before .before .before .before .phy-type in
-    let phy-attribute = c .before .before .before .before .phy-attribute in
-    let far-phy = c .before .before .far-phy in
-    let expander-address = c .before .expander-address in
-    let is-naming = c .is-naming in
+    let a = c .before .before .before .before .before .before .before .before .before .before .args in
     let d = domainIn (a .rows .now) in
-    let f = phyAt d (a .i .0) (a .p .0) in
-    let e = phy-type .ensures ∙ ap typeOf (phy-at .ensures) in
-    let g = phy-attribute .ensures ∙ ap attributeOf (phy-at .ensures) in
-    let h = far-phy .ensures ∙ ap (farPhy d) (phy-at .ensures) in
-    simp (le-leb 2 (typeOf f) (omega arith), ne-eqb (attributeOf f) 0 (λ x. omega arith))
-    (ap not (rw (expander-address .ensures, h) at (is-naming .ensures)))
+    let f = c .before .before .before .before .before .before .before .phy-below .ensures (c .before .before .before .before .before .before .before .before .before .before .pre .1) in
+    let φ = phyAt d (a .i .0) (a .p .0) in
+    let e = c .before .before .before .before .before .before .phy-type .ensures ∙ ap typeOf f in
+    let g = c .before .before .before .before .phy-attribute .ensures ∙ ap attributeOf f in
+    let h = c .before .before .far-phy .ensures ∙ ap (farPhy d) f in
+    simp (le-leb 2 (typeOf φ) (omega arith), ne-eqb (attributeOf φ) 0 (λ x. omega arith)) (ap not (rw (c .before .expander-address .ensures, h) at (c .is-naming .ensures)))
 
 pub is-unanswered-spec : {M : Type 1} → statement M
-is-unanswered-spec =
-    tie.close
-    (tie.spec
-    phy-at-requires
-    phy-type-requires
-    returns
-    phy-attribute-requires
-    returns-2
-    far-phy-requires
-    expander-address-requires
-    is-naming-requires
-    returns-3)
+is-unanswered-spec = tie.close (tie.spec phy-below-requires phy-type-requires returns phy-attribute-requires returns-2 far-phy-requires expander-address-requires is-naming-requires returns-3)

@@ -1,98 +1,57 @@
-use Prim.Native.Nat.{_-_, _≤_}
-use mathlib.Core.Path.{_≡_, refl, sym, _∙_, ap}
-use native.Mathlib.Omega.{arith}
-use lib.ListN.{drop, take, length-take}
-use lib.Seq.{getD-take}
+-- is_clashing meets its contract: the lowest phy with the same address has the attribute of all lower ones, and among subtractive phys another
+-- address clashes.
+use Rattle.wiring.proofs.LowerPhys.{none-clash, other-clash, way-no, way-clash}
 use borrow.Author.Needs.{needs}
-use Rattle.wiring.proofs.Searches.{any-stop, any-go, any-end, no-clash}
-use Rattle.wiring.specs.Causes.{clash, clashing}
-use Rattle.wiring.specs.Domain.{expanderAt}
-use Rattle.wiring.specs.Lists.{any}
-use Rattle.wiring.specs.Rows.{domainIn}
-use Rattle.wiring.specs.declared.Phy.the-variants.{Vacant}
-use Rattle.wiring.specs.declared.Phy.{Phy}
 use Rattle.wiring.proofs.clashes.is_clashing.Statement.{statement}
 use Rattle.wiring.proofs.clashes.is_clashing.Tie as tie
 
-abbrev Inv-loop : tie.InvT-loop
-Inv-loop rows i f n q₀ q =
-    (q ≤ n)
-    × (any (clash f) (drop q (take n (expanderAt (domainIn rows) (i .0) .phys))) ≡ any (clash f) (take n (expanderAt (domainIn rows) (i .0) .phys)))
+phy-below-requires : tie.Need-phy-below-requires
+phy-below-requires c κs = search needs
 
-abbrev μ-loop : tie.MeasureT-loop
-μ-loop rows i f n q₀ q = n - q
+phy-attribute-requires : tie.Need-phy-attribute-requires
+phy-attribute-requires c κs = search needs
 
-phy-at-requires : tie.Need-phy-at-requires Inv-loop μ-loop
-phy-at-requires c κs = search needs
+phy-type-requires : tie.Need-phy-type-requires
+phy-type-requires c κs = search needs
 
-loop-holds : tie.Need-loop-holds Inv-loop μ-loop
-loop-holds c = (omega arith, refl)
+returns : tie.Need-returns
+returns c = none-clash _ _ _ (c .before .before .before .before .before .before .pre .1) _ (c .before .before .before .phy-below .ensures) _ (c .before .phy-type .ensures) (c .if1 .taken)
 
-phy-at-requires-2 : tie.Need-phy-at-requires-2 Inv-loop μ-loop
-phy-at-requires-2 c κs = search needs
+lowest-phy-requires : tie.Need-lowest-phy-requires
+lowest-phy-requires c κs = search needs
 
-are-clashing-requires : tie.Need-are-clashing-requires Inv-loop μ-loop
-are-clashing-requires c κs = search needs
+phy-below-requires-2 : tie.Need-phy-below-requires-2
+phy-below-requires-2 c κs = search needs
 
-returns : tie.Need-returns Inv-loop μ-loop
-unfolding clashing
-returns c =
-    let a = c .before .before .before .before .before .before .before .args in
-    let phy-at = c .before .before .before .before .before .phy-at in
-    let loop = c .before .before .before .before .loop in
-    let phy-at2 = c .before .before .phy-at2 in
-    let are-clashing = c .before .are-clashing in
-    let if1 = c .if1 in
-    let l = expanderAt (domainIn (a .rows .now)) (a .i .0) .phys in
-    let q = loop .q in
-    let f = phy-at .result in
-    let t = ap (clash f) (getD-take (a .p .0) l q (Vacant 0) (omega arith) ∙ sym (phy-at2 .ensures)) ∙ sym (are-clashing .ensures) ∙ if1 .taken in
-    any-stop (clash f) (Vacant 0) (take (a .p .0) l) q (loop .inv .1) t (no-clash f)
-    ∙ ap (λ (φ : Phy). any (clash φ) (take (a .p .0) l)) (phy-at .ensures)
+phy-attribute-requires-2 : tie.Need-phy-attribute-requires-2
+phy-attribute-requires-2 c κs = search needs
 
-add-q : tie.Need-add-q Inv-loop μ-loop
-add-q c = omega arith
-
-loop-less : tie.Need-loop-less Inv-loop μ-loop
-loop-less c = omega arith
-
-loop-again : tie.Need-loop-again Inv-loop μ-loop
-loop-again c =
-    let a = c .before .before .before .before .before .before .before .args in
-    let phy-at = c .before .before .before .before .before .phy-at in
-    let loop = c .before .before .before .before .loop in
-    let phy-at2 = c .before .before .phy-at2 in
-    let are-clashing = c .before .are-clashing in
-    let if1 = c .if1 in
-    let l = expanderAt (domainIn (a .rows .now)) (a .i .0) .phys in
-    let q = loop .q in
-    let f = phy-at .result in
-    let t = ap (clash f) (getD-take (a .p .0) l q (Vacant 0) (omega arith) ∙ sym (phy-at2 .ensures)) ∙ sym (are-clashing .ensures) ∙ if1 .left in
-    (omega arith, any-go (clash f) (Vacant 0) (take (a .p .0) l) q (loop .inv .1) t)
-
-returns-2 : tie.Need-returns-2 Inv-loop μ-loop
-unfolding clashing
+returns-2 : tie.Need-returns-2
 returns-2 c =
-    let a = c .before .before .before .before .args in
-    let phy-at = c .before .before .phy-at in
-    let loop = c .before .loop in
-    let l = expanderAt (domainIn (a .rows .now)) (a .i .0) .phys in
-    let n = length-take (a .p .0) l in
-    any-end (clash (phy-at .result)) (Vacant 0) (take (a .p .0) l) (loop .q) (loop .inv .1) (omega arith)
-    ∙ ap (λ (φ : Phy). any (clash φ) (take (a .p .0) l)) (phy-at .ensures)
+    let pre = c .before .before .before .before .before .before .before .before .before .before .pre in
+    let s = c .before .before .before .before .before .before .before .phy-below .ensures in
+    other-clash _ _ _ (pre .1) _ s _ (c .before .before .before .before .before .phy-type .ensures) (c .before .before .before .before .if1 .left) _ (pre .0) _ (c .before .before .before .lowest-phy .ensures) _ (c .before .before .phy-below2 .ensures) _ _ (c .before .before .before .before .before .before .phy-attribute .ensures)
+    (c .before .phy-attribute2 .ensures) (c .if2 .taken)
+
+returns-3 : tie.Need-returns-3
+returns-3 c =
+    let pre = c .before .before .before .before .before .before .before .before .before .before .before .pre in
+    let s = c .before .before .before .before .before .before .before .before .phy-below .ensures in
+    way-no _ _ _ (pre .1) _ s _ (c .before .before .before .before .before .before .phy-type .ensures) (c .before .before .before .before .before .if1 .left) _ (pre .0) _ (c .before .before .before .before .lowest-phy .ensures) _ (c .before .before .before .phy-below2 .ensures) _ _ (c .before .before .before .before .before .before .before .phy-attribute .ensures)
+    (c .before .before .phy-attribute2 .ensures) (c .before .if2 .left) (c .if3 .taken)
+
+phy-address-requires : tie.Need-phy-address-requires
+phy-address-requires c κs = search needs
+
+has-other-way-requires : tie.Need-has-other-way-requires
+has-other-way-requires c κs = search needs
+
+returns-4 : tie.Need-returns-4
+returns-4 c =
+    let pre = c .before .before .before .before .before .before .before .before .before .before .before .before .before .pre in
+    let s = c .before .before .before .before .before .before .before .before .before .before .phy-below .ensures in
+    way-clash _ _ _ (pre .1) _ s _ (c .before .before .before .before .before .before .before .before .phy-type .ensures) (c .before .before .before .before .before .before .before .if1 .left) _ (pre .0) _ (c .before .before .before .before .before .before .lowest-phy .ensures) _ (c .before .before .before .before .before .phy-below2 .ensures) _ _ (c .before .before .before .before .before .before .before .before .before .phy-attribute .ensures)
+    (c .before .before .before .before .phy-attribute2 .ensures) (c .before .before .before .if2 .left) (c .before .before .if3 .left) _ _ (c .has-other-way .ensures) (c .before .phy-address .ensures)
 
 pub is-clashing-spec : {M : Type 1} → statement M
-is-clashing-spec =
-    tie.close
-    (tie.spec
-    Inv-loop
-    μ-loop
-    phy-at-requires
-    loop-holds
-    phy-at-requires-2
-    are-clashing-requires
-    returns
-    add-q
-    loop-less
-    loop-again
-    returns-2)
+is-clashing-spec = tie.close (tie.spec phy-below-requires phy-attribute-requires phy-type-requires returns lowest-phy-requires phy-below-requires-2 phy-attribute-requires-2 returns-2 returns-3 phy-address-requires has-other-way-requires returns-4)

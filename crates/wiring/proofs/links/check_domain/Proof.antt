@@ -1,35 +1,59 @@
+-- check_domain meets its contract: with room for the entries, they are written and the causes are tested; without, it is 16.
 use mathlib.Core.Path.{sym, _∙_, ap}
-use borrow.Author.Needs.{needs}
-use Rattle.wiring.proofs.Calls.{checked-by}
 use Rattle.wiring.specs.Checks.{checkAnswer}
+use Rattle.wiring.proofs.Calls.{checked-short, checked-room, not-passed}
+use borrow.Author.Needs.{needs}
+use native.Mathlib.Omega.{arith}
 use Rattle.wiring.proofs.links.check_domain.Statement.{statement}
 use Rattle.wiring.proofs.links.check_domain.Tie as tie
 
-check-wiring-requires : tie.Need-check-wiring-requires
-check-wiring-requires c κs = search needs
+expander-count-requires : tie.Need-expander-count-requires
+expander-count-requires c κs = search needs
 
-enum-known-wired : tie.Need-enum-known-wired
-enum-known-wired c = search needs
+cast-n : tie.Need-cast-n
+cast-n c = search needs
 
-enum-told : tie.Need-enum-told
-enum-told c = search needs
+mul-if1 : tie.Need-mul-if1
+mul-if1 c = search needs
 
-check-links-requires : tie.Need-check-links-requires
-check-links-requires c κs = search needs
+add-if1 : tie.Need-add-if1
+add-if1 c = search needs
+
+check-refused-requires : tie.Need-check-refused-requires
+check-refused-requires c κs = search needs
 
 returns : tie.Need-returns
-returns c = sym (checked-by _ _ (sym (c .before .before .before .check-wiring .ensures) ∙ ap (checkAnswer _) (c .before .wired .given .1)))
+returns c =
+    let n = c .before .before .expander-count .ensures .0 in
+    (ap (checkAnswer _) (c .check-refused .ensures) ∙ sym (checked-short _ _ _ (λ a b. omega arith)), not-passed _ (c .check-refused .ensures))
+
+mul-if2 : tie.Need-mul-if2
+mul-if2 c = search needs
+
+check-refused-requires-2 : tie.Need-check-refused-requires-2
+check-refused-requires-2 c κs = search needs
 
 returns-2 : tie.Need-returns-2
-returns-2 c = c .check-links .ensures ∙ sym (checked-by _ _ (sym (c .before .before .before .check-wiring .ensures) ∙ ap (checkAnswer _) (c .before .enum-told .given .1)))
+returns-2 c =
+    let n = c .before .before .before .expander-count .ensures .0 in
+    (ap (checkAnswer _) (c .check-refused2 .ensures) ∙ sym (checked-short _ _ _ (λ a b. omega arith)), not-passed _ (c .check-refused2 .ensures))
+
+put-index-requires : tie.Need-put-index-requires
+put-index-requires c κs = search needs
+
+check-indexed-requires : tie.Need-check-indexed-requires
+check-indexed-requires c κs = search needs
+
+same-length : tie.Need-same-length
+same-length c = search needs
+
+same-length-2 : tie.Need-same-length-2
+same-length-2 c = search needs
+
+returns-3 : tie.Need-returns-3
+returns-3 c =
+    let n = c .before .before .before .before .before .before .before .before .before .before .before .before .expander-count .ensures .0 in
+    (c .check-indexed .ensures ∙ sym (checked-room _ _ _ (omega arith) (omega arith)), λ _. c .before .before .before .before .before .before .before .put-index .ensures)
 
 pub check-domain-spec : {M : Type 1} → statement M
-check-domain-spec =
-    tie.close
-    (tie.spec
-    check-wiring-requires
-    enum-known-wired
-    enum-told
-    check-links-requires
-    returns
-    returns-2)
+check-domain-spec = tie.close (tie.spec expander-count-requires cast-n mul-if1 add-if1 check-refused-requires returns mul-if2 check-refused-requires-2 returns-2 put-index-requires check-indexed-requires same-length same-length-2 returns-3)

@@ -1,9 +1,10 @@
+-- check_links meets its contract: the answers for the causes in order.
 use mathlib.Core.Path.{sym, _∙_, ap}
-use borrow.Author.Needs.{needs}
 use borrow.Author.Tests.{not-true, not-false}
+use Rattle.wiring.specs.Checks.{checkAnswer, causeOf}
 use Rattle.wiring.proofs.Calls.{held, links-loop, links-joined}
 use Rattle.wiring.proofs.InRows.{domain-few}
-use Rattle.wiring.specs.Checks.{checkAnswer, causeOf}
+use borrow.Author.Needs.{needs}
 use Rattle.wiring.proofs.links.check_links.Statement.{statement}
 use Rattle.wiring.proofs.links.check_links.Tie as tie
 
@@ -11,7 +12,7 @@ slice-aggregate-put-neighbours : tie.Need-slice-aggregate-put-neighbours
 slice-aggregate-put-neighbours c = search needs
 
 put-neighbours-requires : tie.Need-put-neighbours-requires
-put-neighbours-requires c κs = domain-few (c .before .before .args .rows .now)
+put-neighbours-requires c κs = (c .before .before .before .before .pre .firsts, domain-few (c .before .before .before .before .args .rows .now))
 
 slice-aggregate-is-loopfree : tie.Need-slice-aggregate-is-loopfree
 slice-aggregate-is-loopfree c = search needs
@@ -23,9 +24,7 @@ check-refused-requires : tie.Need-check-refused-requires
 check-refused-requires c κs = search needs
 
 returns : tie.Need-returns
-returns c =
-    let t = c .before in
-    ap (checkAnswer _) (c .check-refused .ensures) ∙ sym (links-loop _ (sym (t .before .is-loopfree .ensures) ∙ not-true _ (t .if1 .taken)))
+returns c = ap (checkAnswer _) (c .check-refused .ensures) ∙ sym (links-loop _ (sym (c .before .before .is-loopfree .ensures) ∙ not-true _ (c .before .if1 .taken)))
 
 slice-aggregate-check-joined : tie.Need-slice-aggregate-check-joined
 slice-aggregate-check-joined c = search needs
@@ -43,33 +42,13 @@ first-of-requires : tie.Need-first-of-requires
 first-of-requires c κs = search needs
 
 returns-2 : tie.Need-returns-2
-returns-2 c =
-    let f = c .before .before .before in
-    sym (links-joined _ _ (sym (f .before .before .before .is-loopfree .ensures) ∙ not-false _ (f .before .before .if1 .left))
-    (sym (f .check-joined .ensures) ∙ ap (checkAnswer _) (c .before .joined .given .1)))
+returns-2 c = sym (links-joined _ _ (sym (c .before .before .before .before .before .before .is-loopfree .ensures) ∙ not-false _ (c .before .before .before .before .before .if1 .left)) (sym (c .before .before .before .check-joined .ensures) ∙ ap (checkAnswer _) (c .before .joined .given .1)))
 
 returns-3 : tie.Need-returns-3
 unfolding causeOf
 returns-3 c =
-    let f = c .before .before .before in
     c .first-of .ensures
-    ∙ sym (links-joined _ _ (sym (f .before .before .before .is-loopfree .ensures) ∙ not-false _ (f .before .before .if1 .left))
-    (sym (f .check-joined .ensures) ∙ ap (checkAnswer _) (c .before .enum-told .given .1)))
+    ∙ sym (links-joined _ _ (sym (c .before .before .before .before .before .before .is-loopfree .ensures) ∙ not-false _ (c .before .before .before .before .before .if1 .left)) (sym (c .before .before .before .check-joined .ensures) ∙ ap (checkAnswer _) (c .before .enum-told .given .1)))
 
 pub check-links-spec : {M : Type 1} → statement M
-check-links-spec =
-    tie.close
-    (tie.spec
-    slice-aggregate-put-neighbours
-    put-neighbours-requires
-    slice-aggregate-is-loopfree
-    is-loopfree-requires
-    check-refused-requires
-    returns
-    slice-aggregate-check-joined
-    check-joined-requires
-    enum-known-joined
-    enum-told
-    first-of-requires
-    returns-2
-    returns-3)
+check-links-spec = tie.close (tie.spec slice-aggregate-put-neighbours put-neighbours-requires slice-aggregate-is-loopfree is-loopfree-requires check-refused-requires returns slice-aggregate-check-joined check-joined-requires enum-known-joined enum-told first-of-requires returns-2 returns-3)

@@ -1,33 +1,34 @@
+-- put_neighbours meets its contract. The loop's invariant: the words of the expanders before expander i are written, and sum is the number of
+-- their bits.
 use Prim.Native.Nat.{ℕ, _-_, _*_, _≤_}
 use mathlib.Core.List.{_++_, map}
 use mathlib.Core.Path.{_≡_, refl, _∙_, ap}
-use native.Mathlib.Omega.{arith}
 use lib.Count.{ones, ones-le}
 use lib.ListN.{length, drop, length-set}
-use borrow.Author.Needs.{needs}
-use Rattle.wiring.proofs.InRows.{domain-few}
-use Rattle.wiring.proofs.NeighbourWords.{words-next, bits-next, each-held}
-use Rattle.wiring.specs.Cables.{cabledWords}
 use Rattle.wiring.specs.Lists.{numbers}
 use Rattle.wiring.specs.Neighbours.{neighbourWord, neighbourWords, bitsIn}
 use Rattle.wiring.specs.Rows.{domainIn}
+use Rattle.wiring.proofs.InRows.{domain-few}
+use Rattle.wiring.proofs.NeighbourWords.{words-next, bits-next}
+use borrow.Author.Needs.{needs}
+use native.Mathlib.Omega.{arith}
 use Rattle.wiring.proofs.neighbours.put_neighbours.Statement.{statement}
 use Rattle.wiring.proofs.neighbours.put_neighbours.Tie as tie
 
 abbrev Inv-loop : tie.InvT-loop
-Inv-loop rows words₀ cables n sum₀ i₀ words sum i =
+Inv-loop rows first words₀ far n sum₀ i₀ words sum i =
     (i ≤ n) × (sum ≤ 64 * i) × (length words ≡ length words₀)
     × (sum ≡ bitsIn (map (neighbourWord (domainIn rows)) (numbers 0 i)))
     × (words ≡ map (neighbourWord (domainIn rows)) (numbers 0 i) ++ drop i words₀)
 
 abbrev μ-loop : tie.MeasureT-loop
-μ-loop rows words₀ cables n sum₀ i₀ words sum i = n - i
+μ-loop rows first words₀ far n sum₀ i₀ words sum i = n - i
 
-slice-aggregate-put-cables : tie.Need-slice-aggregate-put-cables Inv-loop μ-loop
-slice-aggregate-put-cables c = search needs
+slice-aggregate-put-far : tie.Need-slice-aggregate-put-far Inv-loop μ-loop
+slice-aggregate-put-far c = search needs
 
-put-cables-requires : tie.Need-put-cables-requires Inv-loop μ-loop
-put-cables-requires c κs = domain-few (c .before .before .before .args .rows .now)
+put-far-requires : tie.Need-put-far-requires Inv-loop μ-loop
+put-far-requires c κs = (c .before .before .before .before .pre .0, domain-few (c .before .before .before .before .args .rows .now))
 
 expander-count-requires : tie.Need-expander-count-requires Inv-loop μ-loop
 expander-count-requires c κs = search needs
@@ -40,8 +41,10 @@ slice-aggregate-neighbour-word : tie.Need-slice-aggregate-neighbour-word Inv-loo
 slice-aggregate-neighbour-word c = search needs
 
 neighbour-word-requires : tie.Need-neighbour-word-requires Inv-loop μ-loop
-unfolding cabledWords
-neighbour-word-requires c κs = (each-held _ _ _ _ (c .before .before .before .before .before .put-cables .ensures), omega arith)
+neighbour-word-requires c κs =
+    let put-far = c .before .before .before .before .before .put-far in
+    let few = domain-few (c .before .before .before .before .before .before .before .before .before .before .args .rows .now) in
+    (record { index = c .before .before .before .before .before .before .before .before .before .before .pre .0; room = omega (arith, put-far .kept .1 .1 .0); sets = put-far .ensures }, omega (arith, c .before .before .before .expander-count .ensures .0))
 
 cast-words : tie.Need-cast-words Inv-loop μ-loop
 cast-words c = search needs
@@ -66,7 +69,7 @@ loop-less c = omega arith
 
 loop-again : tie.Need-loop-again Inv-loop μ-loop
 loop-again c =
-    let a = c .before .before .before .before .before .before .before .before .before .before .args in
+    let a = c .before .before .before .before .before .before .before .before .before .before .before .args in
     let l = c .before .before .before .loop in
     let w = c .neighbour-word in
     let f = neighbourWord (domainIn (a .rows .now)) in
@@ -87,7 +90,7 @@ same-length c = search needs
 returns : tie.Need-returns Inv-loop μ-loop
 unfolding neighbourWords
 returns c =
-    let a = c .before .before .before .before .before .before .before .before .args in
+    let a = c .before .before .before .before .before .before .before .before .before .args in
     let l = c .before .loop in
     let d = domainIn (a .rows .now) in
     let e : l .i ≡ length d = omega arith in (
@@ -96,24 +99,4 @@ returns c =
     )
 
 pub put-neighbours-spec : {M : Type 1} → statement M
-put-neighbours-spec =
-    tie.close
-    (tie.spec
-    Inv-loop
-    μ-loop
-    slice-aggregate-put-cables
-    put-cables-requires
-    expander-count-requires
-    loop-holds
-    slice-aggregate-neighbour-word
-    neighbour-word-requires
-    cast-words
-    mul-words
-    slice-write-words
-    cast-sum
-    add-sum
-    add-i
-    loop-less
-    loop-again
-    same-length
-    returns)
+put-neighbours-spec = tie.close (tie.spec Inv-loop μ-loop slice-aggregate-put-far put-far-requires expander-count-requires loop-holds slice-aggregate-neighbour-word neighbour-word-requires cast-words mul-words slice-write-words cast-sum add-sum add-i loop-less loop-again same-length returns)

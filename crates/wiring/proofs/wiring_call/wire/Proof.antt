@@ -1,73 +1,79 @@
+-- wire meets its contract: the second byte states how many expanders there are, so the room is enough.
 use Prim.Native.Nat.{ℕ}
-use mathlib.Core.Path.{sym}
 use lib.ListN.{length-replicate}
-use lib.Seq.{length-take-le}
+use Rattle.wiring.specs.File.{limits}
+use Rattle.wiring.proofs.Read.{read-good, stated-expanders}
+use Rattle.wiring.proofs.Opening.{file-room}
 use borrow.Author.Needs.{needs}
-use Rattle.wiring.proofs.Calls.{wire-refused, wire-done}
-use Rattle.wiring.proofs.Opening.{opened-as, opened-fits}
+use native.Mathlib.Omega.{arith}
 use Rattle.wiring.proofs.wiring_call.wire.Statement.{statement}
 use Rattle.wiring.proofs.wiring_call.wire.Tie as tie
 
-slice-aggregate-read-domain : tie.Need-slice-aggregate-read-domain
-slice-aggregate-read-domain c = search needs
+stated-count-requires : tie.Need-stated-count-requires
+stated-count-requires c κs = search needs
 
-read-domain-requires : tie.Need-read-domain-requires
-read-domain-requires c κs = search needs
+slice-aggregate-wire-in : tie.Need-slice-aggregate-wire-in
+slice-aggregate-wire-in c = search needs
 
-enum-known-read : tie.Need-enum-known-read
-enum-known-read c = search needs
+slice-aggregate-wire-in-2 : tie.Need-slice-aggregate-wire-in-2
+slice-aggregate-wire-in-2 c = search needs
 
-enum-known-read-2 : tie.Need-enum-known-read-2
-enum-known-read-2 c = search needs
+slice-aggregate-wire-in-3 : tie.Need-slice-aggregate-wire-in-3
+slice-aggregate-wire-in-3 c = search needs
 
-cast-e : tie.Need-cast-e
-cast-e c = search needs
-
-mul-e : tie.Need-mul-e
-mul-e c = search needs
-
-array-share-prefix-rows : tie.Need-array-share-prefix-rows
-array-share-prefix-rows c =
-    let r = c .before .before .before .before .read-domain in
-    opened-fits _ _ _ _ _ (length-replicate {A = ℕ} 16512 0) (r .ensures) (c .before .read2 .given .1) (r .kept .1 .0)
-
-slice-aggregate-wire-rows : tie.Need-slice-aggregate-wire-rows
-slice-aggregate-wire-rows c =
-    let r = c .before .before .before .before .before .read-domain in
-    let h = opened-fits _ _ _ _ _ (length-replicate {A = ℕ} 16512 0) (r .ensures) (c .before .before .read2 .given .1) (r .kept .1 .0) in
-    sym (length-take-le _ (r .last .1 .0) h)
-
-wire-rows-requires : tie.Need-wire-rows-requires
-wire-rows-requires c κs = search needs
-
-returns : tie.Need-returns
-returns c =
-    let r = c .before .before .before .before .read-domain in
-    wire-refused _ _ _ (opened-as _ _ _ _ _ (length-replicate {A = ℕ} 16512 0) (r .ensures) (c .before .read .given .1))
+wire-in-requires : tie.Need-wire-in-requires
+wire-in-requires c κs =
+    let f = c .before .before .before .before .before .before .before .before .args .file .now in
+    file-room 2 f _ _ _ (λ d e. omega (arith, stated-expanders limits f d e, c .before .before .before .before .before .stated-count .ensures))
+    (omega (arith, length-replicate {A = ℕ} 516 0)) (omega (arith, length-replicate {A = ℕ} 320 0)) (omega (arith, length-replicate {A = ℕ} 256 0))
 
 same-length : tie.Need-same-length
 same-length c = search needs
 
+returns : tie.Need-returns
+returns c = search needs
+
+slice-aggregate-wire-in-4 : tie.Need-slice-aggregate-wire-in-4
+slice-aggregate-wire-in-4 c = search needs
+
+slice-aggregate-wire-in-5 : tie.Need-slice-aggregate-wire-in-5
+slice-aggregate-wire-in-5 c = search needs
+
+slice-aggregate-wire-in-6 : tie.Need-slice-aggregate-wire-in-6
+slice-aggregate-wire-in-6 c = search needs
+
+wire-in-requires-2 : tie.Need-wire-in-requires-2
+wire-in-requires-2 c κs =
+    let f = c .before .before .before .before .before .before .before .before .before .args .file .now in
+    file-room 8 f _ _ _ (λ d e. omega (arith, stated-expanders limits f d e, c .before .before .before .before .before .before .stated-count .ensures))
+    (omega (arith, length-replicate {A = ℕ} 2064 0)) (omega (arith, length-replicate {A = ℕ} 1088 0)) (omega (arith, length-replicate {A = ℕ} 1024 0))
+
+same-length-2 : tie.Need-same-length-2
+same-length-2 c = search needs
+
 returns-2 : tie.Need-returns-2
-returns-2 c =
-    let f = c .before .before .before .before .before .before in
-    let r = f .before .before .before .read-domain in
-    let o = opened-as _ _ _ _ _ (length-replicate {A = ℕ} 16512 0) (r .ensures) (f .read2 .given .1) in
-    wire-done _ _ _ _ _ (o .0) (c .before .before .wire-rows .ensures)
+returns-2 c = search needs
+
+slice-aggregate-wire-in-7 : tie.Need-slice-aggregate-wire-in-7
+slice-aggregate-wire-in-7 c = search needs
+
+slice-aggregate-wire-in-8 : tie.Need-slice-aggregate-wire-in-8
+slice-aggregate-wire-in-8 c = search needs
+
+slice-aggregate-wire-in-9 : tie.Need-slice-aggregate-wire-in-9
+slice-aggregate-wire-in-9 c = search needs
+
+wire-in-requires-3 : tie.Need-wire-in-requires-3
+wire-in-requires-3 c κs =
+    let f = c .before .before .before .before .before .before .before .before .before .args .file .now in
+    file-room 64 f _ _ _ (λ d e. read-good limits f d e .few)
+    (omega (arith, length-replicate {A = ℕ} 16512 0)) (omega (arith, length-replicate {A = ℕ} 8256 0)) (omega (arith, length-replicate {A = ℕ} 8192 0))
+
+same-length-3 : tie.Need-same-length-3
+same-length-3 c = search needs
+
+returns-3 : tie.Need-returns-3
+returns-3 c = search needs
 
 pub wire-spec : {M : Type 1} → statement M
-wire-spec =
-    tie.close
-    (tie.spec
-    slice-aggregate-read-domain
-    read-domain-requires
-    enum-known-read
-    enum-known-read-2
-    cast-e
-    mul-e
-    array-share-prefix-rows
-    slice-aggregate-wire-rows
-    wire-rows-requires
-    returns
-    same-length
-    returns-2)
+wire-spec = tie.close (tie.spec stated-count-requires slice-aggregate-wire-in slice-aggregate-wire-in-2 slice-aggregate-wire-in-3 wire-in-requires same-length returns slice-aggregate-wire-in-4 slice-aggregate-wire-in-5 slice-aggregate-wire-in-6 wire-in-requires-2 same-length-2 returns-2 slice-aggregate-wire-in-7 slice-aggregate-wire-in-8 slice-aggregate-wire-in-9 wire-in-requires-3 same-length-3 returns-3)

@@ -1,0 +1,61 @@
+-- put_far meets its contract. The loop's invariant: the sets of the expanders before expander i are written.
+use Prim.Native.Nat.{ℕ, _-_, _≤_}
+use mathlib.Core.Path.{_≡_, refl, subst}
+use lib.ListN.{length, length-set}
+use Rattle.wiring.specs.Domain.{expanderAt}
+use Rattle.wiring.specs.Rows.{domainIn}
+use Rattle.wiring.specs.Cables.{FarSet, FarSets}
+use Rattle.wiring.proofs.EndDevices.{each-set}
+use borrow.Author.Needs.{needs}
+use native.Mathlib.Omega.{arith}
+use Rattle.wiring.proofs.neighbours.put_far.Statement.{statement}
+use Rattle.wiring.proofs.neighbours.put_far.Tie as tie
+
+abbrev Inv-loop : tie.InvT-loop
+Inv-loop rows first words₀ n i₀ words i = (i ≤ n) × (length words ≡ length words₀) × FarSets (domainIn rows) i words
+
+abbrev μ-loop : tie.MeasureT-loop
+μ-loop rows first words₀ n i₀ words i = n - i
+
+expander-count-requires : tie.Need-expander-count-requires Inv-loop μ-loop
+expander-count-requires c κs = search needs
+
+loop-holds : tie.Need-loop-holds Inv-loop μ-loop
+loop-holds c = (omega arith, refl, λ j h. absurd (omega arith))
+
+far-word-requires : tie.Need-far-word-requires Inv-loop μ-loop
+far-word-requires c κs = c .before .before .before .before .before .before .pre .0
+
+cast-words : tie.Need-cast-words Inv-loop μ-loop
+cast-words c = search needs
+
+mul-words : tie.Need-mul-words Inv-loop μ-loop
+mul-words c = search needs
+
+slice-write-words : tie.Need-slice-write-words Inv-loop μ-loop
+slice-write-words c = omega (arith, c .before .before .before .before .before .before .before .pre .1, c .before .before .before .expander-count .ensures .0, c .before .before .loop .inv .1)
+
+add-i : tie.Need-add-i Inv-loop μ-loop
+add-i c = omega arith
+
+loop-less : tie.Need-loop-less Inv-loop μ-loop
+loop-less c = omega arith
+
+loop-again : tie.Need-loop-again Inv-loop μ-loop
+loop-again c =
+    let a = c .before .before .before .before .before .before .before .args in
+    let l = c .before .before .loop in
+    let d = domainIn (a .rows .now) in (
+      omega arith,
+      simp length-set (l .inv .1),
+      each-set (λ (j w : ℕ). FarSet d (expanderAt d j .phys) w) (l .i) _ 0 (l .words) (l .inv .2) (c .far-word .ensures) (omega (arith, c .before .before .before .before .before .before .before .pre .1, c .before .before .before .expander-count .ensures .0, l .inv .1)),
+    )
+
+same-length : tie.Need-same-length Inv-loop μ-loop
+same-length c = search needs
+
+returns : tie.Need-returns Inv-loop μ-loop
+returns c = let l = c .before .loop in subst (λ (n : ℕ). FarSets (domainIn (c .before .before .before .before .before .before .args .rows .now)) n (l .words)) (omega (arith, c .before .before .expander-count .ensures .0)) (l .inv .2)
+
+pub put-far-spec : {M : Type 1} → statement M
+put-far-spec = tie.close (tie.spec Inv-loop μ-loop expander-count-requires loop-holds far-word-requires cast-words mul-words slice-write-words add-i loop-less loop-again same-length returns)

@@ -1,0 +1,234 @@
+// Who has an address: the expander that has it, whether an end device at an earlier expander has it, and the
+// lowest phy of an expander with the same attached address. Search trees of the addresses answer exactly, for
+// all rows; addresses that share a key cost time alone.
+use crate::Phy;
+use crate::view;
+use frames::ExpanderNumber;
+use frames::PhyId;
+ghost use mathlib.Core.Path.{_≡_};
+ghost use Prim.Native.Nat.{_+_, _*_, _≤_, _<_};
+ghost use lib.ListN.{length, getD};
+ghost use Rattle.wiring.specs.Domain.{expanderAt, phyAt, numberOf};
+ghost use Rattle.wiring.specs.Rows.{domainIn};
+ghost use Rattle.wiring.specs.SearchTree.{keyIn, WalkTo};
+ghost use Rattle.wiring.specs.Addresses.{slotsBefore, slotOf, slotWord, addressFrom, numberIn, farNumber, lowestPhy, IndexRoom, Indexed};
+ghost use Rattle.wiring.specs.Addresses.{Searchable, Addable, AddedTo, FirstsTo, LowsBefore, LowsTo};
+
+// The key of an address among `size` roots.
+fn key_in(s: u64, size: usize) -> usize
+    requires { ⌜ 0 < size ⌝ }
+    ensures { λ r. ⌜ (r ≡ keyIn size s) × (r < size) ⌝ }
+{
+    let k = (s % 8192 + s / 8192 % 8192 + s / 67108864 % 8192) as usize;
+    k & (size - 1)
+}
+
+// The word with the address of a slot.
+fn slot_word(rows: &[u64], t: usize) -> u64
+    requires { ⌜ t < 8256 ⌝ }
+    ensures { λ r. ⌜ r ≡ getD (now (rows .entry)) (slotWord t) 0 ⌝ }
+{
+    if t < 64 {
+        return view::word_at(rows, 258 * t);
+    }
+    let k = t - 64;
+    view::word_at(rows, 2 * k + 2 + 2 * (k / 128))
+}
+
+// The cell at which the walk for address s ends, in a tree of slots from `from` on.
+fn find(rows: &[u64], from: usize, cells: &[u16], size: usize, s: u64) -> usize
+    requires { ⌜ Searchable (domainIn (now rows)) from size (now cells) ⌝ }
+    ensures { λ r. ⌜ WalkTo (addressFrom (domainIn (now (rows .entry))) from) size (now (cells .entry)) s r × (r < length (now (cells .entry))) ⌝ }
+{
+    let mut bits = s;
+    let mut c = key_in(s, size);
+    let mut v = cells[c] as usize;
+    while v > 0 {
+        if slot_word(rows, from + v - 1) == s {
+            return c;
+        }
+        c = size + 2 * (v - 1) + (bits % 2) as usize;
+        bits = bits / 2;
+        v = cells[c] as usize;
+    }
+    c
+}
+
+// Adds slot t, whose address is s, to a tree of the slots from `from` on, and yields the lowest of them with
+// this address.
+fn add(rows: &[u64], from: usize, cells: &mut [u16], size: usize, t: usize, s: u64) -> usize
+    requires { ⌜ Addable (domainIn (now rows)) from size (now cells) t s ⌝ }
+    ensures { λ r. ⌜ AddedTo (domainIn (now (rows .entry))) from size (now (cells .entry)) (now (cells .exit)) t s r ⌝ }
+{
+    let c = find(rows, from, cells, size, s);
+    let v = cells[c] as usize;
+    if v > 0 {
+        return from + v - 1;
+    }
+    cells[c] = (t - from + 1) as u16;
+    t
+}
+
+// Adds f, phy p of expander i, to the tree of the expander's attached phys, and writes the lowest of them with
+// its address. Nothing is done where nothing is attached.
+fn add_low(rows: &[u64], cells: &mut [u16], i: ExpanderNumber, p: PhyId, f: Phy, low: &mut [u8])
+    requires { ⌜ LowsTo (domainIn (now rows)) (i .0) (p .0) (now cells) (now low) × ((f ≡ phyAt (domainIn (now rows)) (i .0) (p .0)) × (p .0 < length (expanderAt (domainIn (now rows)) (i .0) .phys))) ⌝ }
+    ensures { λ _. ⌜ LowsTo (domainIn (now (rows .entry))) (i .0) (p .0 + 1) (now (cells .exit)) (now (low .exit)) ⌝ }
+{
+    if view::phy_type(f) == 0 {
+        return;
+    }
+    let from = 64 + 128 * (i.0 as usize);
+    let t = from + (p.0 as usize);
+    let r = add(rows, from, cells, 128, t, view::phy_address(f));
+    let k = 128 * (i.0 as usize) + (p.0 as usize);
+    low[k] = (r - from) as u8;
+}
+
+// The same of each phy of expander i.
+fn put_low(rows: &[u64], i: ExpanderNumber, low: &mut [u8])
+    requires { ⌜ LowsBefore (domainIn (now rows)) (i .0) (now low) ⌝ }
+    ensures { λ _. ⌜ LowsBefore (domainIn (now (rows .entry))) (i .0 + 1) (now (low .exit)) ⌝ }
+{
+    let n = view::phy_count(rows, i);
+    let mut cells = [0u16; 384];
+    let mut p: u8 = 0;
+    while p < n {
+        let f = view::phy_below(rows, i, PhyId(p));
+        add_low(rows, &mut cells[..], i, PhyId(p), f, low);
+        p += 1;
+    }
+}
+
+// Adds all expanders to the tree of devices, and writes for each the first with its address.
+fn put_expanders(rows: &[u64], cells: &mut [u16], size: usize, first: &mut [u16])
+    requires { ⌜ FirstsTo (domainIn (now rows)) 0 size (now cells) (now first) ⌝ }
+    ensures { λ _. ⌜ FirstsTo (domainIn (now (rows .entry))) 64 size (now (cells .exit)) (now (first .exit)) ⌝ }
+{
+    let n = view::expander_count(rows);
+    let mut j: u8 = 0;
+    while j < n {
+        let t = j as usize;
+        let s = view::expander_address(rows, ExpanderNumber(j));
+        first[t] = add(rows, 0, cells, size, t, s) as u16;
+        j += 1;
+    }
+}
+
+// The slot that a tree of devices has for address s, 65535 where there is none: an expander's, where one has it.
+fn look_up(rows: &[u64], cells: &[u16], size: usize, s: u64) -> u16
+    requires { ⌜ ((tree : Searchable (domainIn (now rows)) 0 size (now cells)) × (64 ≤ tree .count)) ⌝ }
+    ensures { λ r. ⌜ numberIn (domainIn (now (rows .entry))) r ≡ numberOf (domainIn (now (rows .entry))) s ⌝ }
+{
+    let c = find(rows, 0, cells, size, s);
+    let v = cells[c];
+    if v == 0 {
+        return 65535;
+    }
+    v - 1
+}
+
+// Writes who has the address of f, phy p of expander i, and adds it to the tree of devices where an end device
+// is attached. Nothing is done where nothing is attached.
+fn add_first(
+    rows: &[u64],
+    cells: &mut [u16],
+    size: usize,
+    i: ExpanderNumber,
+    p: PhyId,
+    f: Phy,
+    first: &mut [u16],
+)
+    requires { ⌜ FirstsTo (domainIn (now rows)) (slotOf (i .0) (p .0)) size (now cells) (now first) × ((f ≡ phyAt (domainIn (now rows)) (i .0) (p .0)) × (p .0 < length (expanderAt (domainIn (now rows)) (i .0) .phys))) ⌝ }
+    ensures { λ _. ⌜ FirstsTo (domainIn (now (rows .entry))) (slotOf (i .0) (p .0 + 1)) size (now (cells .exit)) (now (first .exit)) ⌝ }
+{
+    let device = view::phy_type(f);
+    if device == 0 {
+        return;
+    }
+    let t = 64 + 128 * (i.0 as usize) + (p.0 as usize);
+    let s = view::phy_address(f);
+    if device == 1 {
+        first[t] = add(rows, 0, cells, size, t, s) as u16;
+        return;
+    }
+    first[t] = look_up(rows, cells, size, s);
+}
+
+// The same of each phy of expander i.
+fn put_first(rows: &[u64], cells: &mut [u16], size: usize, i: ExpanderNumber, first: &mut [u16])
+    requires { ⌜ FirstsTo (domainIn (now rows)) (slotsBefore (i .0)) size (now cells) (now first) × (i .0 < length (domainIn (now rows))) ⌝ }
+    ensures { λ _. ⌜ FirstsTo (domainIn (now (rows .entry))) (slotsBefore (i .0 + 1)) size (now (cells .exit)) (now (first .exit)) ⌝ }
+{
+    let n = view::phy_count(rows, i);
+    let mut p: u8 = 0;
+    while p < n {
+        let f = view::phy_below(rows, i, PhyId(p));
+        add_first(rows, cells, size, i, PhyId(p), f, first);
+        p += 1;
+    }
+}
+
+// Writes both answers for all slots, with a tree that has room for them.
+fn put_all(rows: &[u64], cells: &mut [u16], size: usize, first: &mut [u16], low: &mut [u8])
+    requires { ⌜ FirstsTo (domainIn (now rows)) 0 size (now cells) (now first) × LowsBefore (domainIn (now rows)) 0 (now low) ⌝ }
+    ensures { λ _. ⌜ Indexed (domainIn (now (rows .entry))) (now (first .exit)) (now (low .exit)) ⌝ }
+{
+    put_expanders(rows, cells, size, first);
+    let n = view::expander_count(rows);
+    let mut i: u8 = 0;
+    while i < n {
+        put_first(rows, cells, size, ExpanderNumber(i), first);
+        put_low(rows, ExpanderNumber(i), low);
+        i += 1;
+    }
+}
+
+// Writes for each slot of a domain who has its address (`first`), and for each attached phy the lowest phy of
+// its expander with its address (`low`). Few expanders need a small tree.
+pub(crate) fn put_index(rows: &[u64], first: &mut [u16], low: &mut [u8])
+    requires { ⌜ IndexRoom (domainIn (now rows)) (now first) (now low) ⌝ }
+    ensures { λ _. ⌜ Indexed (domainIn (now (rows .entry))) (now (first .exit)) (now (low .exit)) ⌝ }
+{
+    let n = view::expander_count(rows);
+    if n <= 2 {
+        let mut cells = [0u16; 896];
+        put_all(rows, &mut cells[..], 256, first, low);
+        return;
+    }
+    if n <= 8 {
+        let mut cells = [0u16; 2432];
+        put_all(rows, &mut cells[..], 256, first, low);
+        return;
+    }
+    let mut cells = [0u16; 24704];
+    put_all(rows, &mut cells[..], 8192, first, low);
+}
+
+// The number of the expander that has the attached address of phy p of expander i, where the phy is attached to
+// an expander; the count of expanders where there is none. 0 past the end of the entries.
+pub fn far_number(rows: &[u64], first: &[u16], i: ExpanderNumber, p: PhyId) -> ExpanderNumber
+    ensures { λ r. ⌜ r .0 ≡ farNumber (domainIn (now (rows .entry))) (now (first .entry)) (i .0) (p .0) ⌝ }
+{
+    let t = 64 + 128 * (i.0 as usize) + (p.0 as usize);
+    if t >= first.len() {
+        return ExpanderNumber(0);
+    }
+    let v = first[t];
+    if v < 64 {
+        return ExpanderNumber(v as u8);
+    }
+    ExpanderNumber(view::expander_count(rows))
+}
+
+// The lowest phy of expander i with the attached address of its phy p, where that is attached. 0 past the end of
+// the entries.
+pub fn lowest_phy(low: &[u8], i: ExpanderNumber, p: PhyId) -> PhyId
+    ensures { λ r. ⌜ r .0 ≡ lowestPhy (now (low .entry)) (i .0) (p .0) ⌝ }
+{
+    let k = 128 * (i.0 as usize) + (p.0 as usize);
+    if k >= low.len() {
+        return PhyId(0);
+    }
+    PhyId(low[k])
+}
