@@ -5,7 +5,7 @@
  * valid and aligned for its length; where the length is 0 nothing is read or
  * written there, and in every call the pointer may be NULL. A lent buffer must
  * not overlap the file or another buffer of the same call. Nothing is kept
- * after a call returns. A call that takes a file uses some 420,000 bytes of
+ * after a call returns. A call that takes a file uses some 300,000 bytes of
  * stack (docs/BENCHMARK.md has the measured bytes).
  *
  * Refusals: bit 63 of the answer is set, and the answer is
