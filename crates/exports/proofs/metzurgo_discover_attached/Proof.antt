@@ -33,13 +33,4 @@ returns-3 c =
     sym (ap (attachedAddress) e)
 
 pub metzurgo-discover-attached-spec : {M : Type 1} → statement M
-metzurgo-discover-attached-spec =
-    tie.close
-    (tie.spec
-    read-discover-requires
-    enum-told
-    enum-told-2
-    enum-known-answer
-    returns
-    returns-2
-    returns-3)
+metzurgo-discover-attached-spec = tie.close (tie.spec read-discover-requires enum-told enum-told-2 enum-known-answer returns returns-2 returns-3)

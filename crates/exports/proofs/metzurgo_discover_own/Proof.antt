@@ -33,13 +33,4 @@ returns-3 c =
     sym (ap (ownAddress) e)
 
 pub metzurgo-discover-own-spec : {M : Type 1} → statement M
-metzurgo-discover-own-spec =
-    tie.close
-    (tie.spec
-    read-discover-requires
-    enum-told
-    enum-told-2
-    enum-known-answer
-    returns
-    returns-2
-    returns-3)
+metzurgo-discover-own-spec = tie.close (tie.spec read-discover-requires enum-told enum-told-2 enum-known-answer returns returns-2 returns-3)

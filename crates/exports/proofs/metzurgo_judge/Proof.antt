@@ -31,13 +31,4 @@ returns-2 c =
     sym (ap (packed number) e)
 
 pub metzurgo-judge-spec : {M : Type 1} → statement M
-metzurgo-judge-spec =
-    tie.close
-    (tie.spec
-    judge-requires
-    enum-known-answer
-    refusal-requires
-    enum-known-answer-2
-    cast-result
-    returns
-    returns-2)
+metzurgo-judge-spec = tie.close (tie.spec judge-requires enum-known-answer refusal-requires enum-known-answer-2 cast-result returns returns-2)

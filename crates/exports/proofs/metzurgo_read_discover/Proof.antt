@@ -45,17 +45,4 @@ returns-3 c =
     c .discover .ensures ∙ sym (ap (packed discovered) e)
 
 pub metzurgo-read-discover-spec : {M : Type 1} → statement M
-metzurgo-read-discover-spec =
-    tie.close
-    (tie.spec
-    read-discover-requires
-    enum-known-answer
-    refusal-requires
-    enum-known-answer-2
-    cast-result
-    add-result
-    enum-known-answer-3
-    discover-requires
-    returns
-    returns-2
-    returns-3)
+metzurgo-read-discover-spec = tie.close (tie.spec read-discover-requires enum-known-answer refusal-requires enum-known-answer-2 cast-result add-result enum-known-answer-3 discover-requires returns returns-2 returns-3)

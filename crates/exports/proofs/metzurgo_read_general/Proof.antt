@@ -49,19 +49,4 @@ returns-2 c =
     sym (ap (packed general) e)
 
 pub metzurgo-read-general-spec : {M : Type 1} → statement M
-metzurgo-read-general-spec =
-    tie.close
-    (tie.spec
-    read-general-requires
-    enum-known-answer
-    refusal-requires
-    enum-known-answer-2
-    cast-result
-    mul-result
-    cast-result-2
-    mul-result-2
-    add-result
-    cast-result-3
-    add-result-2
-    returns
-    returns-2)
+metzurgo-read-general-spec = tie.close (tie.spec read-general-requires enum-known-answer refusal-requires enum-known-answer-2 cast-result mul-result cast-result-2 mul-result-2 add-result cast-result-3 add-result-2 returns returns-2)

@@ -32,5 +32,4 @@ returns-2 c =
     c .request .ensures ∙ sym (ap (packed route) e)
 
 pub metzurgo-read-route-spec : {M : Type 1} → statement M
-metzurgo-read-route-spec =
-    tie.close (tie.spec read-route-requires enum-known-answer refusal-requires enum-known-answer-2 request-requires returns returns-2)
+metzurgo-read-route-spec = tie.close (tie.spec read-route-requires enum-known-answer refusal-requires enum-known-answer-2 request-requires returns returns-2)

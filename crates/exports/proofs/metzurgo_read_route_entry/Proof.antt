@@ -25,5 +25,4 @@ returns-2 c =
     sym (ap (routeEntry) e)
 
 pub metzurgo-read-route-entry-spec : {M : Type 1} → statement M
-metzurgo-read-route-entry-spec =
-    tie.close (tie.spec read-route-requires enum-told enum-known-answer returns returns-2)
+metzurgo-read-route-entry-spec = tie.close (tie.spec read-route-requires enum-told enum-known-answer returns returns-2)

@@ -46,18 +46,4 @@ returns-2 c =
     (sym (ap (packed counts) e), c .before .before .before .before .before .give-tables .ensures .words)
 
 pub metzurgo-tables-spec : {M : Type 1} → statement M
-metzurgo-tables-spec =
-    tie.close
-    (tie.spec
-    give-tables-requires
-    enum-known-answer
-    refusal-requires
-    enum-known-answer-2
-    cast-result
-    mul-result
-    cast-result-2
-    add-result
-    same-length
-    returns
-    same-length-2
-    returns-2)
+metzurgo-tables-spec = tie.close (tie.spec give-tables-requires enum-known-answer refusal-requires enum-known-answer-2 cast-result mul-result cast-result-2 add-result same-length returns same-length-2 returns-2)

@@ -37,15 +37,4 @@ returns-2 c =
     (c .end .ensures ∙ sym (ap (packed endPacked) e), c .before .before .before .before .before .before .trace .ensures .bytes)
 
 pub metzurgo-trace-spec : {M : Type 1} → statement M
-metzurgo-trace-spec =
-    tie.close
-    (tie.spec
-    trace-requires
-    enum-known-answer
-    refusal-requires
-    enum-known-answer-2
-    end-requires
-    same-length
-    returns
-    same-length-2
-    returns-2)
+metzurgo-trace-spec = tie.close (tie.spec trace-requires enum-known-answer refusal-requires enum-known-answer-2 end-requires same-length returns same-length-2 returns-2)

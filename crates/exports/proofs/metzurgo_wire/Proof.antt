@@ -34,14 +34,4 @@ returns-2 c =
     (sym (ap (packed number) e), c .before .before .before .before .before .wire .ensures .words)
 
 pub metzurgo-wire-spec : {M : Type 1} → statement M
-metzurgo-wire-spec =
-    tie.close
-    (tie.spec
-    wire-requires
-    enum-known-answer
-    refusal-requires
-    enum-known-answer-2
-    same-length
-    returns
-    same-length-2
-    returns-2)
+metzurgo-wire-spec = tie.close (tie.spec wire-requires enum-known-answer refusal-requires enum-known-answer-2 same-length returns same-length-2 returns-2)

@@ -34,14 +34,4 @@ returns-2 c =
     (sym (ap (packed forty) e), c .before .before .before .before .put-route .ensures .1)
 
 pub metzurgo-write-route-spec : {M : Type 1} → statement M
-metzurgo-write-route-spec =
-    tie.close
-    (tie.spec
-    put-route-requires
-    enum-known-answer
-    refusal-requires
-    enum-told
-    same-length
-    returns
-    same-length-2
-    returns-2)
+metzurgo-write-route-spec = tie.close (tie.spec put-route-requires enum-known-answer refusal-requires enum-told same-length returns same-length-2 returns-2)

@@ -74,6 +74,4 @@ returns-2 : tie.Need-returns-2 Inv-loop μ-loop
 returns-2 c = counts _ _ (omega arith)
 
 pub read-input-spec : {M : Type 1} → statement M
-read-input-spec =
-    tie.close
-    (tie.spec Inv-loop μ-loop loop-holds sub-read-some part-read-some-start part-read-some-end read-some-requires same-length returns add-n loop-less loop-again same-length-2 returns-2)
+read-input-spec = tie.close (tie.spec Inv-loop μ-loop loop-holds sub-read-some part-read-some-start part-read-some-end read-some-requires same-length returns add-n loop-less loop-again same-length-2 returns-2)

@@ -31,15 +31,4 @@ returns : tie.Need-returns
 returns c = omega arith
 
 pub refusal-spec : {M : Type 1} → statement M
-refusal-spec =
-    tie.close
-    (tie.spec
-    cast-result
-    mul-result
-    add-result
-    cast-result-2
-    mul-result-2
-    add-result-2
-    cast-result-3
-    add-result-3
-    returns)
+refusal-spec = tie.close (tie.spec cast-result mul-result add-result cast-result-2 mul-result-2 add-result-2 cast-result-3 add-result-3 returns)

@@ -32,5 +32,4 @@ returns-3 c =
     simp (eq-eqb _ _ (f .before .before .if1 .left), eq-eqb _ _ (f .if2 .left)) (c .is-length .ensures)
 
 pub is-fixed-spec : {M : Type 1} → statement M
-is-fixed-spec =
-    tie.close (tie.spec shared-slice-read-if1 returns shared-slice-read-if2 returns-2 shared-slice-read-is-length is-length-requires returns-3)
+is-fixed-spec = tie.close (tie.spec shared-slice-read-if1 returns shared-slice-read-if2 returns-2 shared-slice-read-is-length is-length-requires returns-3)

@@ -53,18 +53,4 @@ returns c =
     ∙ simp (f .put-number .ensures, f .before .before .before .before .clear-front .ensures, f .before .before .before .before .before .before .disable-byte .ensures)
 
 pub put-frame-spec : {M : Type 1} → statement M
-put-frame-spec =
-    tie.close
-    (tie.spec
-    disable-byte-requires
-    clear-front-requires
-    slice-write-buf
-    slice-write-buf-2
-    slice-write-buf-3
-    slice-write-buf-4
-    slice-write-buf-5
-    cast-put-number
-    put-number-requires
-    put-number-requires-2
-    same-length
-    returns)
+put-frame-spec = tie.close (tie.spec disable-byte-requires clear-front-requires slice-write-buf slice-write-buf-2 slice-write-buf-3 slice-write-buf-4 slice-write-buf-5 cast-put-number put-number-requires put-number-requires-2 same-length returns)

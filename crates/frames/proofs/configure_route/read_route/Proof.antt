@@ -62,19 +62,4 @@ returns-4 c =
     simp (eq-eqb _ _ (t .before .before .if1 .left), sym (t .before .is-fixed .ensures) ∙ not-false _ (t .if2 .left), le-leb _ _ (f .if3 .left), c .before .number-at .ensures .0, c .entry-in .ensures)
 
 pub read-route-spec : {M : Type 1} → statement M
-read-route-spec =
-    tie.close
-    (tie.spec
-    refused-requires
-    returns
-    is-fixed-requires
-    refused-requires-2
-    returns-2
-    shared-slice-read-phy
-    refused-requires-3
-    returns-3
-    shared-slice-read-t9
-    number-at-requires
-    cast-t14
-    entry-in-requires
-    returns-4)
+read-route-spec = tie.close (tie.spec refused-requires returns is-fixed-requires refused-requires-2 returns-2 shared-slice-read-phy refused-requires-3 returns-3 shared-slice-read-t9 number-at-requires cast-t14 entry-in-requires returns-4)

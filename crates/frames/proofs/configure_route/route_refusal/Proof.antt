@@ -46,5 +46,4 @@ returns-4 c =
     simp (sym (t .before .is-length .ensures) ∙ not-false _ (t .if1 .left), le-leb (a .request .phy .0) 127 (omega arith), le-leb 40 (length (a .buf .now)) (omega arith))
 
 pub route-refusal-spec : {M : Type 1} → statement M
-route-refusal-spec =
-    tie.close (tie.spec is-length-requires refused-requires returns refused-requires-2 returns-2 refused-requires-3 returns-3 returns-4)
+route-refusal-spec = tie.close (tie.spec is-length-requires refused-requires returns refused-requires-2 returns-2 refused-requires-3 returns-3 returns-4)

@@ -32,12 +32,4 @@ returns c =
     put-as (c .before .before .put-bytes .ensures) (f .ensures .1 .1 ∙ decimal-is (c .before .before .before .before .before .before .before .before .args .n) (f .result) (f .ensures .1 .0) m)
 
 pub put-decimal-spec : {M : Type 1} → statement M
-put-decimal-spec =
-    tie.close
-    (tie.spec
-    decimal-requires
-    array-share-prefix-digits
-    slice-aggregate-put-bytes
-    put-bytes-requires
-    same-length
-    returns)
+put-decimal-spec = tie.close (tie.spec decimal-requires array-share-prefix-digits slice-aggregate-put-bytes put-bytes-requires same-length returns)

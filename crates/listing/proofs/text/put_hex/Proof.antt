@@ -32,12 +32,4 @@ returns c =
     put-as (c .before .before .put-bytes .ensures) (f .ensures .1 .1 ∙ hex-is (c .before .before .before .before .before .before .before .before .args .w) (f .result) (f .ensures .1 .0 .0) m)
 
 pub put-hex-spec : {M : Type 1} → statement M
-put-hex-spec =
-    tie.close
-    (tie.spec
-    hex-requires
-    array-share-prefix-digits
-    slice-aggregate-put-bytes
-    put-bytes-requires
-    same-length
-    returns)
+put-hex-spec = tie.close (tie.spec hex-requires array-share-prefix-digits slice-aggregate-put-bytes put-bytes-requires same-length returns)

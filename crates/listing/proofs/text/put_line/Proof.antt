@@ -61,15 +61,4 @@ returns c =
     (omega arith)
 
 pub put-line-spec : {M : Type 1} → statement M
-put-line-spec =
-    tie.close
-    (tie.spec
-    cast-put-field
-    put-field-requires
-    cast-put-field-2
-    put-field-requires-2
-    cast-put-field-3
-    put-field-requires-3
-    put-entry-requires
-    same-length
-    returns)
+put-line-spec = tie.close (tie.spec cast-put-field put-field-requires cast-put-field-2 put-field-requires-2 cast-put-field-3 put-field-requires-3 put-entry-requires same-length returns)

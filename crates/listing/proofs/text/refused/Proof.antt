@@ -60,15 +60,4 @@ returns c =
     (put-within t (omega arith), t)
 
 pub refused-spec : {M : Type 1} → statement M
-refused-spec =
-    tie.close
-    (tie.spec
-    slice-aggregate-put-bytes
-    put-bytes-requires
-    cast-put-field
-    put-field-requires
-    cast-put-field-2
-    put-field-requires-2
-    cast-put-field-3
-    put-field-requires-3
-    returns)
+refused-spec = tie.close (tie.spec slice-aggregate-put-bytes put-bytes-requires cast-put-field put-field-requires cast-put-field-2 put-field-requires-2 cast-put-field-3 put-field-requires-3 returns)

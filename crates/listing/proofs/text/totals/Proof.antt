@@ -52,13 +52,4 @@ returns c =
     (put-within t (omega arith), t)
 
 pub totals-spec : {M : Type 1} → statement M
-totals-spec =
-    tie.close
-    (tie.spec
-    slice-aggregate-put-bytes
-    put-bytes-requires
-    put-field-requires
-    slice-aggregate-put-bytes-2
-    put-bytes-requires-2
-    put-field-requires-2
-    returns)
+totals-spec = tie.close (tie.spec slice-aggregate-put-bytes put-bytes-requires put-field-requires slice-aggregate-put-bytes-2 put-bytes-requires-2 put-field-requires-2 returns)

@@ -65,17 +65,4 @@ returns c =
     omega (arith, count-none d _ (phys-last (a .i .0) n (l .p) (omega arith)))
 
 pub count-at-spec : {M : Type 1} → statement M
-count-at-spec =
-    tie.close
-    (tie.spec
-    Inv-loop
-    μ-loop
-    phy-count-requires
-    loop-holds
-    is-table-requires
-    cast-sum
-    add-sum
-    add-p
-    loop-less
-    loop-again
-    returns)
+count-at-spec = tie.close (tie.spec Inv-loop μ-loop phy-count-requires loop-holds is-table-requires cast-sum add-sum add-p loop-less loop-again returns)

@@ -15,9 +15,4 @@ returns : tie.Need-returns
 returns c = ap (λ n. eqb n 2) (c .phy-attribute .ensures ∙ ap attributeOf (c .before .phy-at .ensures))
 
 pub is-table-spec : {M : Type 1} → statement M
-is-table-spec =
-    tie.close
-    (tie.spec
-    phy-at-requires
-    phy-attribute-requires
-    returns)
+is-table-spec = tie.close (tie.spec phy-at-requires phy-attribute-requires returns)

@@ -53,16 +53,4 @@ returns c =
     omega (arith, count-none d _ (from-last d (l .i) (omega arith)))
 
 pub table-count-spec : {M : Type 1} → statement M
-table-count-spec =
-    tie.close
-    (tie.spec
-    Inv-loop
-    μ-loop
-    expander-count-requires
-    loop-holds
-    count-at-requires
-    add-sum
-    add-i
-    loop-less
-    loop-again
-    returns)
+table-count-spec = tie.close (tie.spec Inv-loop μ-loop expander-count-requires loop-holds count-at-requires add-sum add-i loop-less loop-again returns)

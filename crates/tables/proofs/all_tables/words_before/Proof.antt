@@ -56,18 +56,4 @@ returns c =
     (l .inv .2 ∙ ap (λ n. sizes d (placesFrom 0 (take n d))) e, omega arith)
 
 pub words-before-spec : {M : Type 1} → statement M
-words-before-spec =
-    tie.close
-    (tie.spec
-    Inv-loop
-    μ-loop
-    loop-holds
-    count-at-requires
-    index-count-requires
-    cast-sum
-    mul-sum
-    add-sum
-    add-j
-    loop-less
-    loop-again
-    returns)
+words-before-spec = tie.close (tie.spec Inv-loop μ-loop loop-holds count-at-requires index-count-requires cast-sum mul-sum add-sum add-j loop-less loop-again returns)

@@ -60,17 +60,4 @@ returns-3 c =
     grown-more (a .m) (a .part .now) (a .j .0) (add-by room l (a .j .0) (c .before .before .has-number .ensures) (c .before .if1 .left) free) (omega arith)
 
 pub add-number-spec : {M : Type 1} → statement M
-add-number-spec =
-    tie.close
-    (tie.spec
-    slice-reshare-prefix-has-number
-    slice-aggregate-has-number
-    has-number-requires
-    same-length
-    returns
-    same-length-2
-    returns-2
-    slice-write-part
-    add-result
-    same-length-3
-    returns-3)
+add-number-spec = tie.close (tie.spec slice-reshare-prefix-has-number slice-aggregate-has-number has-number-requires same-length returns same-length-2 returns-2 slice-write-part add-result same-length-3 returns-3)

@@ -46,16 +46,4 @@ returns c =
     fill-end (a .n) (l .i) (a .part .now) (l .part) (l .inv .1 .1 .1) (omega arith) (omega arith)
 
 pub clear-from-spec : {M : Type 1} → statement M
-clear-from-spec =
-    tie.close
-    (tie.spec
-    Inv-loop
-    μ-loop
-    loop-holds
-    mul-part
-    slice-write-part
-    add-i
-    loop-less
-    loop-again
-    same-length
-    returns)
+clear-from-spec = tie.close (tie.spec Inv-loop μ-loop loop-holds mul-part slice-write-part add-i loop-less loop-again same-length returns)

@@ -61,16 +61,4 @@ returns c =
     }
 
 pub copy-lists-spec : {M : Type 1} → statement M
-copy-lists-spec =
-    tie.close
-    (tie.spec
-    Inv-loop
-    μ-loop
-    loop-holds
-    shared-slice-read-t11
-    copy-own-requires
-    add-k
-    loop-less
-    loop-again
-    same-length
-    returns)
+copy-lists-spec = tie.close (tie.spec Inv-loop μ-loop loop-holds shared-slice-read-t11 copy-own-requires add-k loop-less loop-again same-length returns)

@@ -89,21 +89,4 @@ returns-2 c =
     (part-own (domainIn (a .rows .now)) (a .lists .now) (s .pre .0) (a .i .0) (omega arith)))
 
 pub copy-own-spec : {M : Type 1} → statement M
-copy-own-spec =
-    tie.close
-    (tie.spec
-    expander-count-requires
-    returns
-    cast-a
-    mul-a
-    add-from
-    mul-to
-    shared-slice-read-to
-    add-to
-    mul-copy-words
-    sub-copy-words
-    part-copy-words-start
-    part-copy-words-end
-    copy-words-requires
-    same-length
-    returns-2)
+copy-own-spec = tie.close (tie.spec expander-count-requires returns cast-a mul-a add-from mul-to shared-slice-read-to add-to mul-copy-words sub-copy-words part-copy-words-start part-copy-words-end copy-words-requires same-length returns-2)

@@ -58,19 +58,4 @@ returns c =
     }
 
 pub copy-words-spec : {M : Type 1} → statement M
-copy-words-spec =
-    tie.close
-    (tie.spec
-    Inv-loop
-    μ-loop
-    loop-holds
-    mul-part
-    shared-slice-read-part
-    mul-part-2
-    slice-write-part
-    add-to
-    add-k
-    loop-less
-    loop-again
-    same-length
-    returns)
+copy-words-spec = tie.close (tie.spec Inv-loop μ-loop loop-holds mul-part shared-slice-read-part mul-part-2 slice-write-part add-to add-k loop-less loop-again same-length returns)

@@ -105,20 +105,4 @@ returns-2 c =
     grown-same (c .before .before .append-numbers .ensures) (ap (λ (l : List ℕ). take (a .m) (a .order .now) ++ l) (r .list))
 
 pub append-below-spec : {M : Type 1} → statement M
-append-below-spec =
-    tie.close
-    (tie.spec
-    expander-count-requires
-    returns
-    cast-a
-    mul-a
-    add-from
-    shared-slice-read-to
-    cast-to
-    add-to
-    sub-append-numbers
-    part-append-numbers-start
-    part-append-numbers-end
-    append-numbers-requires
-    same-length
-    returns-2)
+append-below-spec = tie.close (tie.spec expander-count-requires returns cast-a mul-a add-from shared-slice-read-to cast-to add-to sub-append-numbers part-append-numbers-start part-append-numbers-end append-numbers-requires same-length returns-2)

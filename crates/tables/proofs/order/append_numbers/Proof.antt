@@ -52,17 +52,4 @@ returns c =
     }
 
 pub append-numbers-spec : {M : Type 1} → statement M
-append-numbers-spec =
-    tie.close
-    (tie.spec
-    Inv-loop
-    μ-loop
-    loop-holds
-    shared-slice-read-order
-    slice-write-order
-    add-to
-    add-k
-    loop-less
-    loop-again
-    same-length
-    returns)
+append-numbers-spec = tie.close (tie.spec Inv-loop μ-loop loop-holds shared-slice-read-order slice-write-order add-to add-k loop-less loop-again same-length returns)

@@ -63,16 +63,4 @@ returns c =
     omega arith
 
 pub count-words-spec : {M : Type 1} → statement M
-count-words-spec =
-    tie.close
-    (tie.spec
-    Inv-loop
-    μ-loop
-    loop-holds
-    shared-slice-read-t10
-    own-count-requires
-    add-sum
-    add-k
-    loop-less
-    loop-again
-    returns)
+count-words-spec = tie.close (tie.spec Inv-loop μ-loop loop-holds shared-slice-read-t10 own-count-requires add-sum add-k loop-less loop-again returns)

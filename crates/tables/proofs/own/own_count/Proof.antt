@@ -33,12 +33,4 @@ returns-2 c =
     (n, omega (arith, n, own-few (a .rows .now) (a .i .0)))
 
 pub own-count-spec : {M : Type 1} → statement M
-own-count-spec =
-    tie.close
-    (tie.spec
-    expander-count-requires
-    returns
-    cast-result
-    shared-slice-read-result
-    cast-result-2
-    returns-2)
+own-count-spec = tie.close (tie.spec expander-count-requires returns cast-result shared-slice-read-result cast-result-2 returns-2)

@@ -22,10 +22,4 @@ returns-2 c =
     simp (ne-eqb (typeOf (a .f)) 0 (λ e. omega arith)) (ap (λ n. eqb n (a .s)) (c .phy-address .ensures))
 
 pub phy-bears-spec : {M : Type 1} → statement M
-phy-bears-spec =
-    tie.close
-    (tie.spec
-    phy-type-requires
-    returns
-    phy-address-requires
-    returns-2)
+phy-bears-spec = tie.close (tie.spec phy-type-requires returns phy-address-requires returns-2)

@@ -34,6 +34,4 @@ returns-2 c =
     grown-more (a .m) (a .part .now) (c .word-of .result) (rw (t, c .word-of .ensures)) (omega arith)
 
 pub put-word-spec : {M : Type 1} → statement M
-put-word-spec =
-    tie.close
-    (tie.spec returns word-of-requires mul-part slice-write-part add-result same-length returns-2)
+put-word-spec = tie.close (tie.spec returns word-of-requires mul-part slice-write-part add-result same-length returns-2)

@@ -18,10 +18,4 @@ returns-2 : tie.Need-returns-2
 returns-2 c = simp (ne-eqb (typeOf (c .before .before .before .args .f)) 0 (λ e. omega arith)) (c .phy-address .ensures)
 
 pub word-of-spec : {M : Type 1} → statement M
-word-of-spec =
-    tie.close
-    (tie.spec
-    phy-type-requires
-    returns
-    phy-address-requires
-    returns-2)
+word-of-spec = tie.close (tie.spec phy-type-requires returns phy-address-requires returns-2)

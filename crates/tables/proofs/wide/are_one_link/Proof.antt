@@ -36,13 +36,4 @@ returns-3 c =
     simp (c .before .phy-address .ensures, c .phy-address2 .ensures) (sym e)
 
 pub are-one-link-spec : {M : Type 1} → statement M
-are-one-link-spec =
-    tie.close
-    (tie.spec
-    is-down-requires
-    returns
-    is-down-requires-2
-    returns-2
-    phy-address-requires
-    phy-address-requires-2
-    returns-3)
+are-one-link-spec = tie.close (tie.spec is-down-requires returns is-down-requires-2 returns-2 phy-address-requires phy-address-requires-2 returns-3)

@@ -20,10 +20,4 @@ returns-2 : tie.Need-returns-2
 returns-2 c = simp (le-leb 2 (typeOf (c .before .before .before .args .f)) (omega arith)) (ap (λ n. eqb n 2) (c .phy-attribute .ensures))
 
 pub is-down-spec : {M : Type 1} → statement M
-is-down-spec =
-    tie.close
-    (tie.spec
-    phy-type-requires
-    returns
-    phy-attribute-requires
-    returns-2)
+is-down-spec = tie.close (tie.spec phy-type-requires returns phy-attribute-requires returns-2)

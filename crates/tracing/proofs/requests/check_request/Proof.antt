@@ -82,19 +82,4 @@ returns-5 c =
     (le-leb (needed d) (a .words) (omega arith)) (le-leb (length d) (a .bytes) (omega arith)) (ne-eqb (a .s) 0 (λ e. omega arith)))
 
 pub check-request-spec : {M : Type 1} → statement M
-check-request-spec =
-    tie.close
-    (tie.spec
-    is-allowed-requires
-    refuse-requires
-    returns
-    needed-words-requires
-    refuse-requires-2
-    returns-2
-    expander-count-requires
-    cast-if3
-    refuse-requires-3
-    returns-3
-    refuse-requires-4
-    returns-4
-    returns-5)
+check-request-spec = tie.close (tie.spec is-allowed-requires refuse-requires returns needed-words-requires refuse-requires-2 returns-2 expander-count-requires cast-if3 refuse-requires-3 returns-3 refuse-requires-4 returns-4 returns-5)

@@ -42,12 +42,4 @@ returns-3 c =
     ∙ sym (allowed-by d (a .start .0) (a .arrival .0) (lt-ltb (a .start .0) (length d) (omega arith)) e refl)
 
 pub is-allowed-spec : {M : Type 1} → statement M
-is-allowed-spec =
-    tie.close
-    (tie.spec
-    expander-count-requires
-    returns
-    returns-2
-    phy-at-requires
-    phy-type-requires
-    returns-3)
+is-allowed-spec = tie.close (tie.spec expander-count-requires returns returns-2 phy-at-requires phy-type-requires returns-3)

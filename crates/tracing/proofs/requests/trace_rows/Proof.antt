@@ -44,13 +44,4 @@ returns-2 c =
     (ap (checkAnswer d) (sym (c .before .before .before .before .enum-told .given .1)) ∙ e) (c .before .before .walk .ensures)
 
 pub trace-rows-spec : {M : Type 1} → statement M
-trace-rows-spec =
-    tie.close
-    (tie.spec
-    check-request-requires
-    enum-known-r
-    enum-told
-    walk-requires
-    returns
-    same-length
-    returns-2)
+trace-rows-spec = tie.close (tie.spec check-request-requires enum-known-r enum-told walk-requires returns same-length returns-2)

@@ -29,12 +29,4 @@ returns-3 c =
     rw (ne-eqb (addressOf (a .f)) (a .came) (λ e. c .if2 .left (c .before .phy-address .ensures ∙ e)), eq-eqb (typeOf (a .f)) 1 (omega arith))
 
 pub arrive-unless-spec : {M : Type 1} → statement M
-arrive-unless-spec =
-    tie.close
-    (tie.spec
-    phy-type-requires
-    move-unless-requires
-    returns
-    phy-address-requires
-    returns-2
-    returns-3)
+arrive-unless-spec = tie.close (tie.spec phy-type-requires move-unless-requires returns phy-address-requires returns-2 returns-3)

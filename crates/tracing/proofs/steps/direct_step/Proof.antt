@@ -43,14 +43,4 @@ returns-2 c =
     c .table-step .ensures ∙ direct-none d (a .i .0) (a .came) after e
 
 pub direct-step-spec : {M : Type 1} → statement M
-direct-step-spec =
-    tie.close
-    (tie.spec
-    pick-bearing-requires
-    enum-known-p
-    phy-at-requires
-    arrive-unless-requires
-    enum-told
-    table-step-requires
-    returns
-    returns-2)
+direct-step-spec = tie.close (tie.spec pick-bearing-requires enum-known-p phy-at-requires arrive-unless-requires enum-told table-step-requires returns returns-2)

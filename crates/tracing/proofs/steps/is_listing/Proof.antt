@@ -61,15 +61,4 @@ returns-3 c =
     (c .lists .ensures ∙ in-stretch d (a .words .now) (a .i .0) (a .p .0) (a .s) (c .before .index-count .ensures) o)
 
 pub is-listing-spec : {M : Type 1} → statement M
-is-listing-spec =
-    tie.close
-    (tie.spec
-    phy-at-requires
-    phy-type-requires
-    returns
-    phy-attribute-requires
-    returns-2
-    index-count-requires
-    cast-lists
-    lists-requires
-    returns-3)
+is-listing-spec = tie.close (tie.spec phy-at-requires phy-type-requires returns phy-attribute-requires returns-2 index-count-requires cast-lists lists-requires returns-3)

@@ -18,5 +18,4 @@ returns-2 : tie.Need-returns-2
 returns-2 c = rw (le-leb 2 (typeOf (c .before .before .before .args .f)) (omega arith), c .phy-attribute .ensures)
 
 pub is-subtracting-spec : {M : Type 1} → statement M
-is-subtracting-spec =
-    tie.close (tie.spec phy-type-requires returns phy-attribute-requires returns-2)
+is-subtracting-spec = tie.close (tie.spec phy-type-requires returns phy-attribute-requires returns-2)

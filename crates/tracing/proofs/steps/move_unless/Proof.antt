@@ -26,5 +26,4 @@ returns-2 c =
     (c .before .before .if1 .left) (c .before .number-of .ensures) (c .phy-far .ensures)
 
 pub move-unless-spec : {M : Type 1} → statement M
-move-unless-spec =
-    tie.close (tie.spec phy-address-requires returns number-of-requires phy-far-requires returns-2)
+move-unless-spec = tie.close (tie.spec phy-address-requires returns number-of-requires phy-far-requires returns-2)

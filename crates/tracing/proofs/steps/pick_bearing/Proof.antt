@@ -64,17 +64,4 @@ returns-2 c =
     pick-end (bearing d (a .i .0) (a .s)) (c .before .before .phy-count .result) (l .p) (l .inv .1) (omega arith)
 
 pub pick-bearing-spec : {M : Type 1} → statement M
-pick-bearing-spec =
-    tie.close
-    (tie.spec
-    Inv-loop
-    μ-loop
-    phy-count-requires
-    loop-holds
-    phy-at-requires
-    is-bearing-requires
-    returns
-    add-p
-    loop-less
-    loop-again
-    returns-2)
+pick-bearing-spec = tie.close (tie.spec Inv-loop μ-loop phy-count-requires loop-holds phy-at-requires is-bearing-requires returns add-p loop-less loop-again returns-2)

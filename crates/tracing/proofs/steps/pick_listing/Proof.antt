@@ -91,19 +91,4 @@ returns-2 c =
     pick-end (listing (domainIn (a .rows .now)) (a .words .now) (a .i .0) (a .s)) n (l .p) (l .inv .3) (omega arith)
 
 pub pick-listing-spec : {M : Type 1} → statement M
-pick-listing-spec =
-    tie.close
-    (tie.spec
-    Inv-loop
-    μ-loop
-    phy-count-requires
-    words-before-requires
-    loop-holds
-    is-listing-requires
-    returns
-    size-at-requires
-    add-at
-    add-p
-    loop-less
-    loop-again
-    returns-2)
+pick-listing-spec = tie.close (tie.spec Inv-loop μ-loop phy-count-requires words-before-requires loop-holds is-listing-requires returns size-at-requires add-at add-p loop-less loop-again returns-2)

@@ -66,17 +66,4 @@ returns-2 c =
     pick-end (subtracting d (a .i .0)) (c .before .before .phy-count .result) (l .p) (l .inv .1) (omega arith)
 
 pub pick-subtracting-spec : {M : Type 1} → statement M
-pick-subtracting-spec =
-    tie.close
-    (tie.spec
-    Inv-loop
-    μ-loop
-    phy-count-requires
-    loop-holds
-    phy-at-requires
-    is-subtracting-requires
-    returns
-    add-p
-    loop-less
-    loop-again
-    returns-2)
+pick-subtracting-spec = tie.close (tie.spec Inv-loop μ-loop phy-count-requires loop-holds phy-at-requires is-subtracting-requires returns add-p loop-less loop-again returns-2)

@@ -34,13 +34,4 @@ returns-2 c =
     (ap pickAnswer (sym (c .enum-told .given .1)) ∙ c .before .before .pick-subtracting .ensures)
 
 pub subtractive-step-spec : {M : Type 1} → statement M
-subtractive-step-spec =
-    tie.close
-    (tie.spec
-    pick-subtracting-requires
-    enum-known-p
-    phy-at-requires
-    move-unless-requires
-    enum-told
-    returns
-    returns-2)
+subtractive-step-spec = tie.close (tie.spec pick-subtracting-requires enum-known-p phy-at-requires move-unless-requires enum-told returns returns-2)

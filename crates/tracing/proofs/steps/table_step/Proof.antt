@@ -40,14 +40,4 @@ returns-2 c =
     c .subtractive-step .ensures ∙ table-none d (a .i .0) (a .came) (subtractiveStep d (a .i .0) (a .came)) e
 
 pub table-step-spec : {M : Type 1} → statement M
-table-step-spec =
-    tie.close
-    (tie.spec
-    pick-listing-requires
-    enum-known-p
-    phy-at-requires
-    move-unless-requires
-    enum-told
-    subtractive-step-requires
-    returns
-    returns-2)
+table-step-spec = tie.close (tie.spec pick-listing-requires enum-known-p phy-at-requires move-unless-requires enum-told subtractive-step-requires returns returns-2)

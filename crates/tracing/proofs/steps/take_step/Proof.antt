@@ -35,6 +35,4 @@ returns-2 c =
     ∙ sym (step-by d (a .words .now) (a .i .0) (a .arrival .0) (a .s) e)
 
 pub take-step-spec : {M : Type 1} → statement M
-take-step-spec =
-    tie.close
-    (tie.spec expander-address-requires returns came-from-requires direct-step-requires returns-2)
+take-step-spec = tie.close (tie.spec expander-address-requires returns came-from-requires direct-step-requires returns-2)

@@ -55,18 +55,4 @@ returns-3 c =
     lists-end (a .s) (l .left) (l .k) (a .words .now) (l .inv) (omega arith)
 
 pub lists-spec : {M : Type 1} → statement M
-lists-spec =
-    tie.close
-    (tie.spec
-    Inv-loop
-    μ-loop
-    loop-holds
-    returns
-    mul-if2
-    shared-slice-read-if2
-    returns-2
-    add-k
-    sub-left
-    loop-less
-    loop-again
-    returns-3)
+lists-spec = tie.close (tie.spec Inv-loop μ-loop loop-holds returns mul-if2 shared-slice-read-if2 returns-2 add-k sub-left loop-less loop-again returns-3)

@@ -42,12 +42,4 @@ returns-2 c =
     omega arith
 
 pub size-at-spec : {M : Type 1} → statement M
-size-at-spec =
-    tie.close
-    (tie.spec
-    phy-at-requires
-    phy-attribute-requires
-    returns
-    index-count-requires
-    cast-result
-    returns-2)
+size-at-spec = tie.close (tie.spec phy-at-requires phy-attribute-requires returns index-count-requires cast-result returns-2)

@@ -166,36 +166,4 @@ returns-5 c =
     (l .inv .3) (l .inv .2) (omega arith) (omega arith))
 
 pub walk-spec : {M : Type 1} → statement M
-walk-spec =
-    tie.close
-    (tie.spec
-    Inv-loop
-    μ-loop
-    expander-count-requires
-    loop-holds
-    cast-passed
-    slice-write-passed
-    add-k
-    take-step-requires
-    enum-told
-    ended-requires
-    same-length
-    returns
-    enum-known-t
-    ended-requires-2
-    same-length-2
-    returns-2
-    enum-told-2
-    ended-requires-3
-    same-length-3
-    returns-3
-    enum-told-3
-    ended-requires-4
-    same-length-4
-    returns-4
-    enum-known-t-2
-    loop-less
-    loop-again
-    ended-requires-5
-    same-length-5
-    returns-5)
+walk-spec = tie.close (tie.spec Inv-loop μ-loop expander-count-requires loop-holds cast-passed slice-write-passed add-k take-step-requires enum-told ended-requires same-length returns enum-known-t ended-requires-2 same-length-2 returns-2 enum-told-2 ended-requires-3 same-length-3 returns-3 enum-told-3 ended-requires-4 same-length-4 returns-4 enum-known-t-2 loop-less loop-again ended-requires-5 same-length-5 returns-5)

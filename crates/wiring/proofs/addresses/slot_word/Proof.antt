@@ -32,15 +32,4 @@ returns-2 : tie.Need-returns-2
 returns-2 c = search (needs, le-ltb)
 
 pub slot-word-spec : {M : Type 1} → statement M
-slot-word-spec =
-    tie.close
-    (tie.spec
-    mul-word-at
-    word-at-requires
-    returns
-    mul-word-at-2
-    add-word-at
-    mul-word-at-3
-    add-word-at-2
-    word-at-requires-2
-    returns-2)
+slot-word-spec = tie.close (tie.spec mul-word-at word-at-requires returns mul-word-at-2 add-word-at mul-word-at-3 add-word-at-2 word-at-requires-2 returns-2)

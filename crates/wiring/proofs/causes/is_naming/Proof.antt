@@ -29,6 +29,4 @@ returns-3 c =
     simp (le-leb 2 (typeOf (a .f)) (omega arith), eq-eqb (addressOf (a .f)) (a .s) (omega arith), phy-far .ensures)
 
 pub is-naming-spec : {M : Type 1} → statement M
-is-naming-spec =
-    tie.close
-    (tie.spec phy-type-requires returns phy-address-requires returns-2 phy-far-requires returns-3)
+is-naming-spec = tie.close (tie.spec phy-type-requires returns phy-address-requires returns-2 phy-far-requires returns-3)

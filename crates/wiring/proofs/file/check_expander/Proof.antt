@@ -45,15 +45,4 @@ returns-3 c =
     simp (e, p)
 
 pub check-expander-spec : {M : Type 1} → statement M
-check-expander-spec =
-    tie.close
-    (tie.spec
-    expander-unit-requires
-    enum-known-unit
-    enum-known-unit-2
-    check-phys-requires
-    enum-known-phys
-    enum-known-phys-2
-    returns
-    returns-2
-    returns-3)
+check-expander-spec = tie.close (tie.spec expander-unit-requires enum-known-unit enum-known-unit-2 check-phys-requires enum-known-phys enum-known-phys-2 returns returns-2 returns-3)

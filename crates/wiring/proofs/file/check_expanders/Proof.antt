@@ -90,24 +90,4 @@ returns-3 c =
     c .domain-refused .ensures ∙ expanders-more _ _ _ _ _ (take (l .i) (l .seen)) (l .inv .1 .1) (omega arith) (f .if1 .left)
 
 pub check-expanders-spec : {M : Type 1} → statement M
-check-expanders-spec =
-    tie.close
-    (tie.spec
-    Inv-loop
-    μ-loop
-    loop-holds
-    cast-k
-    array-share-prefix-seen
-    slice-aggregate-check-expander
-    check-expander-requires
-    enum-known-unit
-    returns
-    enum-known-unit-2
-    mul-seen
-    array-write-seen
-    add-i
-    loop-less
-    loop-again
-    returns-2
-    domain-refused-requires
-    returns-3)
+check-expanders-spec = tie.close (tie.spec Inv-loop μ-loop loop-holds cast-k array-share-prefix-seen slice-aggregate-check-expander check-expander-requires enum-known-unit returns enum-known-unit-2 mul-seen array-write-seen add-i loop-less loop-again returns-2 domain-refused-requires returns-3)

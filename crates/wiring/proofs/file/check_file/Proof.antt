@@ -49,17 +49,4 @@ returns-4 c =
     c .check-expanders .ensures ∙ sym (file-by _ _ (le-leb _ _ (f .before .before .if1 .left)) (eq-eqb _ _ (f .if2 .left)) w)
 
 pub check-file-spec : {M : Type 1} → statement M
-check-file-spec =
-    tie.close
-    (tie.spec
-    domain-refused-requires
-    returns
-    shared-slice-read-if2
-    domain-refused-requires-2
-    returns-2
-    shared-slice-read-count
-    is-within-requires
-    domain-refused-requires-3
-    returns-3
-    check-expanders-requires
-    returns-4)
+check-file-spec = tie.close (tie.spec domain-refused-requires returns shared-slice-read-if2 domain-refused-requires-2 returns-2 shared-slice-read-count is-within-requires domain-refused-requires-3 returns-3 check-expanders-requires returns-4)

@@ -47,17 +47,4 @@ returns-2 : tie.Need-returns-2 Inv-loop μ-loop
 returns-2 c = phys-end _ _ _ _ _ _ (c .before .loop .inv .1) (omega arith)
 
 pub check-phys-spec : {M : Type 1} → statement M
-check-phys-spec =
-    tie.close
-    (tie.spec
-    Inv-loop
-    μ-loop
-    loop-holds
-    phy-unit-requires
-    enum-known-unit
-    returns
-    enum-known-unit-2
-    add-p
-    loop-less
-    loop-again
-    returns-2)
+check-phys-spec = tie.close (tie.spec Inv-loop μ-loop loop-holds phy-unit-requires enum-known-unit returns enum-known-unit-2 add-p loop-less loop-again returns-2)

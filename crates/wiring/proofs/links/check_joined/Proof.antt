@@ -83,19 +83,4 @@ returns-3 c =
     joined-end _ _ (l .i) (l .inv .1 .1 .1 .1) (omega arith)
 
 pub check-joined-spec : {M : Type 1} → statement M
-check-joined-spec =
-    tie.close
-    (tie.spec
-    Inv-loop
-    μ-loop
-    expander-count-requires
-    returns
-    run-rounds-requires
-    loop-holds
-    has-requires
-    check-refused-requires
-    returns-2
-    add-i
-    loop-less
-    loop-again
-    returns-3)
+check-joined-spec = tie.close (tie.spec Inv-loop μ-loop expander-count-requires returns run-rounds-requires loop-holds has-requires check-refused-requires returns-2 add-i loop-less loop-again returns-3)

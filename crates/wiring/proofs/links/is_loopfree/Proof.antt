@@ -28,5 +28,4 @@ returns c =
     loopfree-word d (c .run-rounds .result) (rw e at (c .run-rounds .ensures))
 
 pub is-loopfree-spec : {M : Type 1} → statement M
-is-loopfree-spec =
-    tie.close (tie.spec expander-count-requires all-of-requires run-rounds-requires returns)
+is-loopfree-spec = tie.close (tie.spec expander-count-requires all-of-requires run-rounds-requires returns)

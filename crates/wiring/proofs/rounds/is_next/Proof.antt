@@ -34,14 +34,4 @@ returns-5 : tie.Need-returns-5
 returns-5 c = sym (next-by _ _ _ _ (ne-eqb _ _ (c .before .before .if1 .left)) (sym (c .before .has3 .ensures) ∙ c .if4 .left) refl)
 
 pub is-next-spec : {M : Type 1} → statement M
-is-next-spec =
-    tie.close
-    (tie.spec
-    has-requires
-    returns
-    has-requires-2
-    returns-2
-    returns-3
-    has-requires-3
-    returns-4
-    returns-5)
+is-next-spec = tie.close (tie.spec has-requires returns has-requires-2 returns-2 returns-3 has-requires-3 returns-4 returns-5)

@@ -84,20 +84,4 @@ returns c =
     ∙ sym (set-word (roundTest (s .args .k) (length d) (neighbours d) (members (length d) (s .args .set))) (length d))
 
 pub round-spec : {M : Type 1} → statement M
-round-spec =
-    tie.close
-    (tie.spec
-    Inv-loop
-    μ-loop
-    expander-count-requires
-    loop-holds
-    cast-at
-    mul-is-next
-    shared-slice-read-is-next
-    is-next-requires
-    cast-next
-    shl-next
-    add-v
-    loop-less
-    loop-again
-    returns)
+round-spec = tie.close (tie.spec Inv-loop μ-loop expander-count-requires loop-holds cast-at mul-is-next shared-slice-read-is-next is-next-requires cast-next shl-next add-v loop-less loop-again returns)

@@ -52,15 +52,4 @@ returns c =
     record { below = l .inv .1 .1 .0; run = rounds-end _ _ (l .i) _ _ _ (l .inv .1 .1 .1) (omega arith) }
 
 pub run-rounds-spec : {M : Type 1} → statement M
-run-rounds-spec =
-    tie.close
-    (tie.spec
-    Inv-loop
-    μ-loop
-    expander-count-requires
-    loop-holds
-    round-requires
-    add-i
-    loop-less
-    loop-again
-    returns)
+run-rounds-spec = tie.close (tie.spec Inv-loop μ-loop expander-count-requires loop-holds round-requires add-i loop-less loop-again returns)

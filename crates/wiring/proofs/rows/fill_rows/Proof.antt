@@ -106,29 +106,4 @@ returns-2 : tie.Need-returns-2 Inv-loop μ-loop
 returns-2 c = let l = c .before .loop in rows-end _ _ _ _ _ (l .rows) (l .inv .1 .1) (omega arith)
 
 pub fill-rows-spec : {M : Type 1} → statement M
-fill-rows-spec =
-    tie.close
-    (tie.spec
-    Inv-loop
-    μ-loop
-    loop-holds
-    array-share-prefix-none
-    slice-aggregate-expander-unit
-    expander-unit-requires
-    enum-told
-    same-length
-    returns
-    enum-known-unit
-    cast-a
-    mul-a
-    add-e
-    mul-put-row
-    sub-put-row
-    part-put-row-start
-    part-put-row-end
-    put-row-requires
-    add-i
-    loop-less
-    loop-again
-    same-length-2
-    returns-2)
+fill-rows-spec = tie.close (tie.spec Inv-loop μ-loop loop-holds array-share-prefix-none slice-aggregate-expander-unit expander-unit-requires enum-told same-length returns enum-known-unit cast-a mul-a add-e mul-put-row sub-put-row part-put-row-start part-put-row-end put-row-requires add-i loop-less loop-again same-length-2 returns-2)

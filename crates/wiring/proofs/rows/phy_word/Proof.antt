@@ -50,21 +50,4 @@ returns-2 : tie.Need-returns-2
 returns-2 c = sym (ap phyWord (c .before .before .before .before .phy2 .given .1))
 
 pub phy-word-spec : {M : Type 1} → statement M
-phy-word-spec =
-    tie.close
-    (tie.spec
-    enum-known-phy
-    cast-result
-    mul-result
-    enum-known-phy-2
-    cast-result-2
-    mul-result-2
-    add-result
-    cast-result-3
-    mul-result-3
-    add-result-2
-    cast-result-4
-    mul-result-4
-    add-result-3
-    returns
-    returns-2)
+phy-word-spec = tie.close (tie.spec enum-known-phy cast-result mul-result enum-known-phy-2 cast-result-2 mul-result-2 add-result cast-result-3 mul-result-3 add-result-2 cast-result-4 mul-result-4 add-result-3 returns returns-2)

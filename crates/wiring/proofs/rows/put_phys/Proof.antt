@@ -101,27 +101,4 @@ returns c =
     }
 
 pub put-phys-spec : {M : Type 1} → statement M
-put-phys-spec =
-    tie.close
-    (tie.spec
-    Inv-loop
-    μ-loop
-    loop-holds
-    phy-unit-requires
-    phy-got-requires
-    cast-k
-    mul-k
-    add-k
-    phy-address-requires
-    mul-row
-    slice-write-row
-    phy-word-requires
-    add-row
-    mul-row-2
-    slice-write-row-2
-    next-got-requires
-    add-p
-    loop-less
-    loop-again
-    same-length
-    returns)
+put-phys-spec = tie.close (tie.spec Inv-loop μ-loop loop-holds phy-unit-requires phy-got-requires cast-k mul-k add-k phy-address-requires mul-row slice-write-row phy-word-requires add-row mul-row-2 slice-write-row-2 next-got-requires add-p loop-less loop-again same-length returns)

@@ -74,20 +74,4 @@ returns c =
     }
 
 pub put-row-spec : {M : Type 1} → statement M
-put-row-spec =
-    tie.close
-    (tie.spec
-    head-word-requires
-    cast-k
-    mul-k
-    add-k
-    mul-clear
-    sub-clear
-    part-clear-start
-    part-clear-end
-    clear-requires
-    slice-write-row
-    slice-write-row-2
-    put-phys-requires
-    same-length
-    returns)
+put-row-spec = tie.close (tie.spec head-word-requires cast-k mul-k add-k mul-clear sub-clear part-clear-start part-clear-end clear-requires slice-write-row slice-write-row-2 put-phys-requires same-length returns)

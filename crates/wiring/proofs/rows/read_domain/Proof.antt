@@ -53,17 +53,4 @@ returns-3 c =
     (sym (f .check-file .ensures) ∙ ap readAnswer (u .answer2 .given .1)) (omega arith) (r .fill-rows .ensures)
 
 pub read-domain-spec : {M : Type 1} → statement M
-read-domain-spec =
-    tie.close
-    (tie.spec
-    check-file-requires
-    enum-known-answer
-    enum-known-answer-2
-    cast-if1
-    mul-if1
-    domain-refused-requires
-    returns
-    fill-rows-requires
-    returns-2
-    same-length
-    returns-3)
+read-domain-spec = tie.close (tie.spec check-file-requires enum-known-answer enum-known-answer-2 cast-if1 mul-if1 domain-refused-requires returns fill-rows-requires returns-2 same-length returns-3)

@@ -91,23 +91,4 @@ returns-3 c =
     c .unit-of .ensures ∙ sym (expander-unit-by _ _ _ _ _ _ _ t q (sym (n .address-at .ensures)) (sym (g .before .before .is-free .ensures)))
 
 pub expander-unit-spec : {M : Type 1} → statement M
-expander-unit-spec =
-    tie.close
-    (tie.spec
-    has-bytes-requires
-    expander-refused-requires
-    returns
-    address-at-requires
-    is-free-requires
-    add-from
-    add-next
-    sub-read-general
-    part-read-general-start
-    part-read-general-end
-    read-general-requires
-    enum-known-frame
-    expander-refused-requires-2
-    enum-known-frame-2
-    unit-of-requires
-    returns-2
-    returns-3)
+expander-unit-spec = tie.close (tie.spec has-bytes-requires expander-refused-requires returns address-at-requires is-free-requires add-from add-next sub-read-general part-read-general-start part-read-general-end read-general-requires enum-known-frame expander-refused-requires-2 enum-known-frame-2 unit-of-requires returns-2 returns-3)

@@ -42,5 +42,4 @@ returns-3 c =
     (ap (λ g. good (parsed (Present g) (f .before .before .args .next))) (c .fields-of .ensures))
 
 pub phy-of-spec : {M : Type 1} → statement M
-phy-of-spec =
-    tie.close (tie.spec is-placed-requires phy-refused-requires returns is-ranged-requires phy-refused-requires-2 returns-2 fields-of-requires returns-3)
+phy-of-spec = tie.close (tie.spec is-placed-requires phy-refused-requires returns is-ranged-requires phy-refused-requires-2 returns-2 fields-of-requires returns-3)

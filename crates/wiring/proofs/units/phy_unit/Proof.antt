@@ -80,22 +80,4 @@ returns-4 c =
     c .phy-of .ensures ∙ sym (phy-unit-by _ _ _ _ _ _ (sym (f .before .has-bytes .ensures) ∙ not-false _ (f .if1 .left)) q)
 
 pub phy-unit-spec : {M : Type 1} → statement M
-phy-unit-spec =
-    tie.close
-    (tie.spec
-    has-bytes-requires
-    phy-refused-requires
-    returns
-    add-next
-    sub-read-discover
-    part-read-discover-start
-    part-read-discover-end
-    read-discover-requires
-    enum-known-frame
-    phy-refused-requires-2
-    enum-known-frame-2
-    enum-known-frame-3
-    phy-of-requires
-    returns-2
-    returns-3
-    returns-4)
+phy-unit-spec = tie.close (tie.spec has-bytes-requires phy-refused-requires returns add-next sub-read-discover part-read-discover-start part-read-discover-end read-discover-requires enum-known-frame phy-refused-requires-2 enum-known-frame-2 enum-known-frame-3 phy-of-requires returns-2 returns-3 returns-4)

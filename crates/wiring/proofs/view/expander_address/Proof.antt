@@ -30,6 +30,4 @@ returns-2 c =
     sym (ap (λ (e : Expander). e .address) (no-expander (a .rows .now) (a .i .0) (omega arith)))
 
 pub expander-address-spec : {M : Type 1} → statement M
-expander-address-spec =
-    tie.close
-    (tie.spec expander-count-requires cast-word-at mul-word-at word-at-requires returns returns-2)
+expander-address-spec = tie.close (tie.spec expander-count-requires cast-word-at mul-word-at word-at-requires returns returns-2)

@@ -29,13 +29,4 @@ returns-2 : tie.Need-returns-2
 returns-2 c = let a = c .before .before .before .before .args in no-head (a .rows .now) (a .i .0) (omega arith)
 
 pub head-word-spec : {M : Type 1} → statement M
-head-word-spec =
-    tie.close
-    (tie.spec
-    expander-count-requires
-    cast-word-at
-    mul-word-at
-    add-word-at
-    word-at-requires
-    returns
-    returns-2)
+head-word-spec = tie.close (tie.spec expander-count-requires cast-word-at mul-word-at add-word-at word-at-requires returns returns-2)

@@ -54,16 +54,4 @@ returns-2 c =
     omega arith
 
 pub number-of-spec : {M : Type 1} → statement M
-number-of-spec =
-    tie.close
-    (tie.spec
-    Inv-loop
-    μ-loop
-    expander-count-requires
-    loop-holds
-    expander-address-requires
-    returns
-    add-i
-    loop-less
-    loop-again
-    returns-2)
+number-of-spec = tie.close (tie.spec Inv-loop μ-loop expander-count-requires loop-holds expander-address-requires returns add-i loop-less loop-again returns-2)

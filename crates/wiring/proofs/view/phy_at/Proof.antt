@@ -49,19 +49,4 @@ returns-2 : tie.Need-returns-2
 returns-2 c = let a = c .before .before .before .before .args in sym (no-phy (a .rows .now) (a .i .0) (a .p .0) (omega arith))
 
 pub phy-at-spec : {M : Type 1} → statement M
-phy-at-spec =
-    tie.close
-    (tie.spec
-    phy-count-requires
-    cast-k
-    mul-k
-    add-k
-    cast-k-2
-    mul-k-2
-    add-k-2
-    word-at-requires
-    add-word-at
-    word-at-requires-2
-    phy-from-requires
-    returns
-    returns-2)
+phy-at-spec = tie.close (tie.spec phy-count-requires cast-k mul-k add-k cast-k-2 mul-k-2 add-k-2 word-at-requires add-word-at word-at-requires-2 phy-from-requires returns returns-2)

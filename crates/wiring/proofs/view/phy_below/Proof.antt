@@ -42,17 +42,4 @@ returns c h =
     c .phy-from .ensures ∙ ap₂ phyIn (c .before .before .word-at .ensures) (c .before .word-at2 .ensures) ∙ sym q
 
 pub phy-below-spec : {M : Type 1} → statement M
-phy-below-spec =
-    tie.close
-    (tie.spec
-    cast-k
-    mul-k
-    add-k
-    cast-k-2
-    mul-k-2
-    add-k-2
-    word-at-requires
-    add-word-at
-    word-at-requires-2
-    phy-from-requires
-    returns)
+phy-below-spec = tie.close (tie.spec cast-k mul-k add-k cast-k-2 mul-k-2 add-k-2 word-at-requires add-word-at word-at-requires-2 phy-from-requires returns)
