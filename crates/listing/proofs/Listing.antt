@@ -12,13 +12,12 @@ use Rattle.wiring.specs.Domain.{Domain, expanderAt}
 use Rattle.wiring.specs.Causes.{Place}
 use Rattle.wiring.specs.Rows.{domainIn, RowsRead}
 use Rattle.wiring.proofs.Results.{good-one, then-good}
-use Rattle.wiring.proofs.Accepted.{wired-read}
 use Rattle.wiring.proofs.Opening.{opened}
 use Rattle.tables.specs.Tables.{table, tablePlaces, tables, needed}
 use Rattle.tables.specs.Judge.{judged, tableCall, Counted, countsIn, wordsAfter, TablesDone}
 use Rattle.tables.specs.declared.TablesGiven.the-variants.{Counts}
 use Rattle.tables.proofs.Tables.{table-length, tables-length}
-use Rattle.tables.proofs.Given.{judged-wired, tableCall-iff}
+use Rattle.tables.proofs.Given.{judged-read, tableCall-iff}
 use Rattle.listing.specs.Text.{lineOf, totalsOf}
 use Rattle.listing.specs.Lines.{tableLines, placeLines, linesOf, joined, entryLines, listingOf}
 
@@ -88,7 +87,7 @@ listed file before after lent words n t w eb el r g =
     let d : Domain = a .0 in
     let c = tableCall-iff file (length lent) d .0 (a .1) in
     let o = opened file before after eb (Expanders n) r in
-    let e : domainIn (take (258 * n) after) ≡ d = good-one _ _ (sym (o .0) ∙ wired-read file d (judged-wired file d (c .0))) in
+    let e : domainIn (take (258 * n) after) ≡ d = good-one _ _ (sym (o .0) ∙ judged-read file d (c .0) .0) in
     let f = good-one _ _ (a .2) in
     let q : words ≡ tables d ++ drop (needed d) lent = g .words ∙ ap (λ (x : Result Domain). wordsAfter x lent) (a .1) in
     let l : linesOf (domainIn (take (258 * n) after)) words ≡ entryLines d =

@@ -12,8 +12,8 @@ use Rattle.wiring.specs.Domain.{Domain, expanderAt, phyAt, routes}
 use Rattle.wiring.specs.Causes.{Place, places}
 use Rattle.wiring.specs.Rows.{domainIn}
 use Rattle.wiring.proofs.Members.{was-true}
-use Rattle.wiring.proofs.Wires.{routes-range}
-use Rattle.wiring.proofs.InRows.{in-range, head-in, domain-few}
+use Rattle.wiring.proofs.Wires.{expander-range, routes-range}
+use Rattle.wiring.proofs.InRows.{head-in, domain-few}
 use Rattle.tables.specs.Tables.{tablePlaces, needed}
 use Rattle.tables.specs.Filling.{withTables}
 use Rattle.listing.specs.Text.{lineOf}
@@ -69,7 +69,7 @@ module _ (rows : List ℕ) where
   table-fits : (i p : ℕ) → T (routes 2 (phyAt d i p)) → (i < 256) × (p < 256) × (expanderAt d i .indexes ≤ 65536)
   table-fits i p t =
       let l = routes-range d 2 i p t (omega arith) in
-      let h = in-range d i p l in
+      let h = expander-range d i p l in
       let e = head-in rows i h in
       let f = domain-few rows in
       let a = e .indexes in

@@ -1,18 +1,22 @@
--- Cause 14 by own lists is cause 14, on every domain that was read from a file.
-use Prim.Native.Nat.{ℕ}
+-- Cause 14 by own lists is cause 14, on every domain that is read.
+use Prim.Native.Nat.{ℕ, _≤_}
 use mathlib.Core.Path.{_≡_, refl, sym, _∙_, ap}
 use mathlib.Core.Bool.{Bool, cond, _&&_}
 use mathlib.Core.List.{List, [], _∷_, flatMap}
+use native.Mathlib.Omega.{arith}
 use lib.ListN.{length}
 use lib.Dec.{ltb}
 use Rattle.wiring.specs.Frames.{Result, refused, good, then, refusal}
+use Rattle.wiring.specs.declared.Limits.{Limits}
 use Rattle.wiring.specs.Domain.{Domain, expanderAt, phyAt, routes}
+use Rattle.wiring.specs.Read.{Read}
 use Rattle.wiring.specs.File.{limits, domainRead}
 use Rattle.wiring.specs.Causes.{Place, places, firstIn, firstOf, wiredDomain}
 use Rattle.wiring.specs.Links.{linkedDomain, checkedDomain}
 use Rattle.wiring.proofs.Results.{then-good, good-then}
 use Rattle.wiring.proofs.Wires.{Wired}
-use Rattle.wiring.proofs.Accepted.{Linked, wired-same, wired-wires, linked-iff, linked-same}
+use Rattle.wiring.proofs.Read.{read-good}
+use Rattle.wiring.proofs.Accepted.{Linked, wired-same, wired-iff, linked-iff, linked-same}
 use Rattle.tables.specs.Judge.{overlong, judgedDomain}
 use Rattle.tables.specs.Own.{own, ownList}
 use Rattle.tables.specs.Prepared.{orderList, overOwn, judgedOwn, Same, Lawful, Fillable}
@@ -34,12 +38,12 @@ law-order : (d : Domain) → Wired d → Linked d → Same d
 unfolding ownList orderList
 law-order d w r x p = law d w r x p ∙ ap (flatMap (own d)) (sym (order-levels d w r x p))
 
--- it holds of a domain that was read from a file
+-- it holds of a domain that is read, and so of one that was read from a file
+pub read-lawful : (most : Limits) (d : Domain) → Read most d → most .phys ≤ 255 → Lawful d
+read-lawful most d g m f = let p = checked-passes d d f in law-order d (wired-iff most d g m .0 (p .1)) (linked-iff d .0 (p .2))
+
 pub lawful : (file : List ℕ) (d : Domain) → domainRead limits file ≡ good d → Lawful d
-lawful file d e f =
-    let p = checked-passes d d f in
-    let w = wired-wires file d (good-then (domainRead limits file) wiredDomain d d e (p .1)) in
-    law-order d w (linked-iff d .0 (p .2))
+lawful file d e = read-lawful limits d (read-good limits file d e) (omega arith)
 
 -- two tests that agree have the same lowest place
 first-same : (k : ℕ) (f g : ℕ → ℕ → Bool) (qs : List Place) (d : Domain) → ((i p : ℕ) → f i p ≡ g i p) → firstIn k f qs d ≡ firstIn k g qs d

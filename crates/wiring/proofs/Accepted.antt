@@ -1,232 +1,62 @@
--- What the causes leave of a domain: 1 to 6 of one that is read, 7 to 10 of one that is wired, 11 to 13 of one that is linked.
+-- What the causes leave of a domain that is read: 7 to 10 of one that is wired, 11 to 13 of one that is linked.
 use mathlib.Core.Path.{_≡_, refl, sym, ap, subst, _∙_}
 use mathlib.Core.Logic.{_⊎_, inl, inr, _≢_, _↔_, ⊎-elim, by-cases}
-use mathlib.Core.List.{List, [], _∷_, _++_}
+use mathlib.Core.List.{List, [], _∷_}
 use mathlib.Core.Bool.{Bool, true, false, cond, not, _||_, _&&_}
-use Prim.Native.Nat.{ℕ, zero, suc, _+_, _≤_, _<_}
+use Prim.Native.Nat.{ℕ, zero, suc, _≤_, _<_}
 use native.Mathlib.Omega.{arith}
 use native.Mathlib.Decide.{ℕ-discrete, decLt}
-use lib.ListN.{length, getD, take, drop}
-use lib.Dec.{T, eqb, ltb, leb, eqb→eq, ltb→lt, lt→ltb, leb→le, not-T, T-not}
-use Rattle.frames.specs.Bytes.{byte, numberAt}
-use Rattle.frames.specs.Refusals.{Result, refused, good, refusal}
-use Rattle.frames.specs.ReportGeneral.{generalRead}
-use Rattle.frames.specs.Discovery.{Discovered, vacant, fields, discoverRead}
+use lib.ListN.{length, getD, take, List·getD-eq-default}
+use lib.Dec.{T, eqb, ltb, eqb→eq, ltb→lt, lt→ltb, not-T, T-not}
+use Rattle.frames.specs.Refusals.{refused, good, refusal}
 use Rattle.wiring.specs.declared.Limits.{Limits}
-use Rattle.wiring.specs.declared.ExpanderUnit.{ExpanderUnit}
 use Rattle.wiring.specs.declared.Phy.{Phy}
 use Rattle.wiring.specs.declared.Phy.the-variants.{Vacant, Present}
-use Rattle.wiring.specs.Lists.{upTo, any, In, isIn}
+use Rattle.wiring.specs.Lists.{upTo, any, In, Distinct}
 use Rattle.wiring.specs.Domain.{Expander, Domain, noExpander, expanderAt, phyAt, addressOf, farOf, attributeOf, routes, attached, toEnd, toExpander, numberOf}
-use Rattle.wiring.specs.File.{limits, Parsed, parsed, placed, phyOf, phyUnit, phyUnits, expanderUnit, expanderOf, expanders, domainRead}
+use Rattle.wiring.specs.Read.{ReadPhy, ReadExpander, addresses, Read}
+use Rattle.wiring.specs.File.{limits, domainRead}
 use Rattle.wiring.specs.Causes.{Place, place, places, farPhy, names, unanswered, endAt, claimed, clash, clashing, fixed, firstIn, firstOf, wiredDomain, wired}
 use Rattle.wiring.specs.Graph.{loopfree}
 use Rattle.wiring.specs.Neighbours.{neighbours}
 use Rattle.wiring.specs.Links.{unlooped, joined, joinedIn, tableToTable, linkedDomain}
 use Rattle.wiring.proofs.Results.{never, good-one, unless-good, good-unless, then-good, good-then}
-use Rattle.wiring.proofs.Members.{tests, and-left, and-right, or-cases, not-not, is-true, is-false, was-true, eq→eqb, all-cons, any-of, of-any, in-left, in-right, in-getD, getD-in, in-take, take-in, in-upTo, numbers-below}
+use Rattle.wiring.proofs.Read.{read-good}
+use Rattle.wiring.proofs.Members.{tests, or-cases, not-not, is-true, is-false, was-true, eq→eqb, in-cast, all-cons, any-of, of-any, in-getD, getD-in, in-take, take-in, map-in, in-upTo, numbers-below}
 use Rattle.wiring.proofs.Loops.{loopfree-iff}
 use Rattle.wiring.proofs.Reach.{reached-iff}
-use Rattle.wiring.proofs.Wires.{LoopIn, ChainIn, To, Plain, Wired, end-attached, expander-attached, routes-one, plain-attribute, numberOf-is, phy-range, in-range, routes-range, in-places, adj-symmetric}
+use Rattle.wiring.proofs.Wires.{LoopIn, ChainIn, To, Plain, Wired, end-attached, expander-attached, routes-one, plain-attribute, numberOf-is, expander-range, phy-range, in-range, routes-range, in-places, adj-symmetric}
 
--- a unit's refusal with its place is still a refusal
-placed-good : {A : Type 0} (i p : ℕ) (x : Result A) (a : A) → placed i p x ≡ good a → x ≡ good a
-placed-good i p (refused r) a e = never (refusal (r .number) i p) a e
-placed-good i p (good b) a e = e
+-- what causes 1 to 6 leave, expander by expander and phy by phy
+numbers-differ : (d : Domain) → Distinct (addresses d) → (j : ℕ) → j < length d → numberOf d (expanderAt d j .address) ≡ j
+unfolding numberOf
+numbers-differ [] g j h = absurd (omega arith)
+numbers-differ (e ∷ d) g zero h = rw (is-true (eqb (e .address) (e .address)) (eq→eqb (e .address) (e .address) refl)) refl
+numbers-differ (e ∷ d) g (suc j) h =
+    let a = expanderAt d j .address in
+    let here : In a (addresses d) = map-in (λ e. e .address) d (expanderAt d j) (in-getD d noExpander j (omega arith)) in
+    let n : ¬ (T (eqb (e .address) a)) = λ t. g .0 (in-cast (addresses d) (eqb→eq (e .address) a t) here) in
+    rw (is-false (eqb (e .address) a) n) (ap suc (numbers-differ d (g .1) j (omega arith)))
 
--- causes 1 to 6
-pub record GoodPhy (φ : Phy) : Type 0 where
-  pub plain : Plain φ
-  pub borne : T (attached φ) → addressOf φ ≢ 0
+read-plain : (φ : Phy) → ReadPhy φ → Plain φ
+read-plain (Vacant r) h = tt
+read-plain (Present f) h = (h .device, h .attribute)
 
-no-phy : (r : ℕ) → GoodPhy (Vacant r)
-no-phy r = record { plain = tt; borne = λ t. absurd t }
+read-borne : (φ : Phy) → ReadPhy φ → T (attached φ) → addressOf φ ≢ 0
+read-borne (Vacant r) h t = absurd t
+read-borne (Present f) h t = h .borne (λ e. T-not (eqb (f .device) 0) t (eq→eqb (f .device) 0 e))
 
-phyOf-good : (own i p : ℕ) (f : Discovered) (φ : Phy) → phyOf own i p f ≡ good φ → GoodPhy φ
-phyOf-good own i p (vacant r) φ e = subst GoodPhy (good-one (Vacant r) φ e) (no-phy r)
-phyOf-good own i p (fields f) φ e =
-    let five = unless-good (eqb (f .identifier .0) p && eqb (f .own) own) (refusal 5 i p) _ φ e in
-    let six = unless-good (leb (f .device) 3 && (leb (f .attribute) 2 && (eqb (f .device) 0 || not (eqb (f .attached) 0)))) (refusal 6 i p) _ φ (five .1) in
-    let t = six .0 in
-    let φ′ = Present (record { device = f .device; attribute = f .attribute; address = f .attached; far = f .far }) in
-    subst GoodPhy (good-one φ′ φ (six .1)) (record {
-      plain = (search (tests, leb→le), search (tests, leb→le));
-      borne = λ u a. ⊎-elim (T-not (eqb (f .device) 0) u) (λ v. T-not (eqb (f .attached) 0) v (eq→eqb (f .attached) 0 a))
-          (or-cases (eqb (f .device) 0) (not (eqb (f .attached) 0)) (search tests));
-    })
+module _ (most : Limits) (d : Domain) (g : Read most d) where
+  pub read-expander : (i : ℕ) → i < length d → ReadExpander most (expanderAt d i)
+  read-expander i h = g .each (expanderAt d i) (in-getD d noExpander i h)
 
--- as many phys, all of them good; past the end there is a vacant one
-record GoodPhys (count : ℕ) (φs : List Phy) : Type 0 where
-  size : length φs ≡ count
-  all : (q : ℕ) → GoodPhy (getD φs q (Vacant 0))
+  pub read-phy : (i p : ℕ) → p < length (expanderAt d i .phys) → ReadPhy (phyAt d i p)
+  read-phy i p h = read-expander i (expander-range d i p h) .phys (phyAt d i p) (in-getD (expanderAt d i .phys) (Vacant 0) p h)
 
-good-cons : (count : ℕ) (φ : Phy) (φs : List Phy) → GoodPhy φ → GoodPhys count φs → GoodPhys (suc count) (φ ∷ φs)
-good-cons count φ φs g r = record { size = ap suc (r .size); all = go }
-  where
-    go : (q : ℕ) → GoodPhy (getD (φ ∷ φs) q (Vacant 0))
-    go zero = g
-    go (suc q) = r .all q
-
-phyUnit-good : (file : List ℕ) (own i p at : ℕ) (u : Parsed Phy) → phyUnit file own i p at ≡ good u → GoodPhy (u .value)
-unfolding phyUnit
-phyUnit-good file own i p at u e =
-    let a = unless-good (leb (at + 52) (length file)) (refusal 1 i p) _ u e in
-    let b = then-good (placed i p (discoverRead (take 52 (drop at file)))) _ u (a .1) in
-    let c = then-good (phyOf own i p (b .0)) _ u (b .2) in
-    subst (λ v. GoodPhy (v .value)) (good-one (parsed (c .0) (at + 52)) u (c .2)) (phyOf-good own i p (b .0) (c .0) (c .1))
-
-phyUnits-good : (file : List ℕ) (own i count p at : ℕ) (φs : Parsed (List Phy)) → phyUnits file own i count p at ≡ good φs → GoodPhys count (φs .value)
-unfolding phyUnits
-phyUnits-good file own i zero p at φs e =
-    subst (λ v. GoodPhys 0 (v .value)) (good-one (parsed [] at) φs e) (record { size = refl; all = λ q. no-phy 0 })
-phyUnits-good file own i (suc count) p at φs e =
-    let a = then-good (phyUnit file own i p at) _ φs e in
-    let b = then-good (phyUnits file own i count (p + 1) (a .0 .next)) _ φs (a .2) in
-    subst (λ v. GoodPhys (suc count) (v .value)) (good-one (parsed (a .0 .value ∷ b .0 .value) (b .0 .next)) φs (b .2))
-    (good-cons count (a .0 .value) (b .0 .value) (phyUnit-good file own i p at (a .0) (a .1))
-    (phyUnits-good file own i count (p + 1) (a .0 .next) (b .0) (b .1)))
-
-record GoodUnit (most : Limits) (seen : List ℕ) (u : ExpanderUnit) : Type 0 where
-  borne : u .address ≢ 0
-  new : ¬ (In (u .address) seen)
-  some : 1 ≤ u .phys
-  few : u .phys ≤ most .phys
-
-expanderUnit-good : (most : Limits) (file seen : List ℕ) (i at : ℕ) (u : Parsed ExpanderUnit) → expanderUnit most file seen i at ≡ good u
-    → GoodUnit most seen (u .value)
-unfolding expanderUnit
-expanderUnit-good most file seen i at u e =
-    let own = numberAt file at 8 in
-    let a = unless-good (leb (at + 36) (length file)) (refusal 1 i 0) _ u e in
-    let b = then-good (placed i 0 (generalRead (take 28 (drop (at + 8) file)))) _ u (a .1) in
-    let g = b .0 in
-    let c = unless-good (leb 1 (g .phys) && leb (g .phys) (most .phys)) (refusal 3 i 0) _ u (b .2) in
-    let f = unless-good (not (eqb own 0) && not (isIn own seen)) (refusal 4 i 0) _ u (c .1) in
-    let three = c .0 in
-    let v : ExpanderUnit = record { address = own; indexes = g .indexes; phys = g .phys; configurable = g .configurable } in
-    subst (λ v. GoodUnit most seen (v .value)) (good-one (parsed v (at + 36)) u (f .1)) (record {
-      borne = λ z. T-not (eqb own 0) (and-left (not (eqb own 0)) (not (isIn own seen)) (f .0)) (eq→eqb own 0 z);
-      new = λ h. T-not (isIn own seen) (and-right (not (eqb own 0)) (not (isIn own seen)) (f .0)) (search tests);
-      some = search (tests, leb→le);
-      few = search (tests, leb→le);
-    })
-
--- the expanders that follow those with the addresses in `seen`
-record Rest (most : Limits) (seen : List ℕ) (count : ℕ) (d : Domain) : Type 0 where
-  size : length d ≡ count
-  borne : (j : ℕ) → j < length d → expanderAt d j .address ≢ 0
-  new : (j : ℕ) → j < length d → ¬ (In (expanderAt d j .address) seen)
-  number : (j : ℕ) → j < length d → numberOf d (expanderAt d j .address) ≡ j
-  some : (j : ℕ) → j < length d → 1 ≤ length (expanderAt d j .phys)
-  few : (j : ℕ) → length (expanderAt d j .phys) ≤ most .phys
-  phys : (j p : ℕ) → GoodPhy (phyAt d j p)
-
-no-rest : (most : Limits) (seen : List ℕ) → Rest most seen 0 []
-no-rest most seen = record {
-  size = refl;
-  borne = λ j h. absurd (omega arith);
-  new = λ j h. absurd (omega arith);
-  number = λ j h. absurd (omega arith);
-  some = λ j h. absurd (omega arith);
-  few = λ j. omega arith;
-  phys = λ j p. no-phy 0;
-}
-
-module _ (most : Limits) (seen : List ℕ) (count : ℕ) (u : ExpanderUnit) (φs : List Phy) (d : Domain) (g : GoodUnit most seen u) (s : GoodPhys (u .phys) φs)
-    (r : Rest most (seen ++ (u .address ∷ [])) count d) where
-  abbrev whole : Domain
-  whole = expanderOf u φs ∷ d
-
-  rest-borne : (j : ℕ) → j < length whole → expanderAt whole j .address ≢ 0
-  rest-borne zero h = g .borne
-  rest-borne (suc j) h = r .borne j (omega arith)
-
-  rest-new : (j : ℕ) → j < length whole → ¬ (In (expanderAt whole j .address) seen)
-  rest-new zero h = g .new
-  rest-new (suc j) h = λ k. r .new j (omega arith) (in-left seen (u .address ∷ []) (expanderAt d j .address) k)
-
-  rest-number : (j : ℕ) → j < length whole → numberOf whole (expanderAt whole j .address) ≡ j
-  unfolding numberOf
-  rest-number zero h = rw (is-true (eqb (u .address) (u .address)) (eq→eqb (u .address) (u .address) refl)) refl
-  rest-number (suc j) h =
-      let a = expanderAt d j .address in
-      let n : ¬ (T (eqb (u .address) a)) = λ t. r .new j (omega arith) (in-right seen (u .address ∷ []) a (inl (sym (eqb→eq (u .address) a t)))) in
-      rw (is-false (eqb (u .address) a) n) (ap suc (r .number j (omega arith)))
-
-  rest-some : (j : ℕ) → j < length whole → 1 ≤ length (expanderAt whole j .phys)
-  rest-some zero h = omega (arith, g .some, s .size)
-  rest-some (suc j) h = r .some j (omega arith)
-
-  rest-few : (j : ℕ) → length (expanderAt whole j .phys) ≤ most .phys
-  rest-few zero = omega (arith, g .few, s .size)
-  rest-few (suc j) = r .few j
-
-  rest-phys : (j p : ℕ) → GoodPhy (phyAt whole j p)
-  rest-phys zero p = s .all p
-  rest-phys (suc j) p = r .phys j p
-
-  rest-cons : (e : Domain) → _≡_ {A = Result Domain} (good whole) (good e) → Rest most seen (suc count) e
-  rest-cons e q =
-      subst (Rest most seen (suc count)) (good-one whole e q)
-      (record { size = ap suc (r .size); borne = rest-borne; new = rest-new; number = rest-number; some = rest-some; few = rest-few; phys = rest-phys })
-
-expanders-good : (most : Limits) (file : List ℕ) (count i at : ℕ) (seen : List ℕ) (d : Domain) → expanders most file count i at seen ≡ good d
-    → Rest most seen count d
-unfolding expanders
-expanders-good most file zero i at seen d e =
-    subst (Rest most seen 0) (good-one [] d (unless-good (eqb at (length file)) (refusal 1 i 0) _ d e .1)) (no-rest most seen)
-expanders-good most file (suc count) i at seen d e =
-    let a = then-good (expanderUnit most file seen i at) _ d e in
-    let u = a .0 .value in
-    let b = then-good (phyUnits file (u .address) i (u .phys) 0 (a .0 .next)) _ d (a .2) in
-    let c = then-good (expanders most file count (i + 1) (b .0 .next) (seen ++ (u .address ∷ []))) _ d (b .2) in
-    rest-cons most seen count u (b .0 .value) (c .0)
-    (expanderUnit-good most file seen i at (a .0) (a .1))
-    (phyUnits-good file (u .address) i (u .phys) 0 (a .0 .next) (b .0) (b .1))
-    (expanders-good most file count (i + 1) (b .0 .next) (seen ++ (u .address ∷ [])) (c .0) (c .1))
-    d (c .2)
-
--- what causes 1 to 6 leave
-pub record Read (most : Limits) (d : Domain) : Type 0 where
-  pub some : 0 < length d
-  pub expanders : length d ≤ most .expanders
-  pub somePhys : (i : ℕ) → i < length d → 1 ≤ length (expanderAt d i .phys)
-  pub phys : (i : ℕ) → length (expanderAt d i .phys) ≤ most .phys
-  pub number : (i : ℕ) → i < length d → numberOf d (expanderAt d i .address) ≡ i
-  pub borne : (i : ℕ) → i < length d → expanderAt d i .address ≢ 0
-  pub plain : (i p : ℕ) → Plain (phyAt d i p)
-  pub attachedBorne : (i p : ℕ) → T (attached (phyAt d i p)) → addressOf (phyAt d i p) ≢ 0
-
-pub read-good : (most : Limits) (file : List ℕ) (d : Domain) → domainRead most file ≡ good d → Read most d
-unfolding domainRead
-read-good most file d e =
-    let a = unless-good (leb 2 (length file)) (refusal 1 0 0) _ d e in
-    let b = unless-good (eqb (byte file 0) 0x10) (refusal 2 0 0) _ d (a .1) in
-    let c = unless-good (leb 1 (byte file 1) && leb (byte file 1) (most .expanders)) (refusal 3 0 0) _ d (b .1) in
-    let three = c .0 in
-    let r = expanders-good most file (byte file 1) 0 2 [] d (c .1) in
-    let x : 1 ≤ byte file 1 = search (tests, leb→le) in
-    let y : byte file 1 ≤ most .expanders = search (tests, leb→le) in
-    record {
-      some = omega (arith, r .size);
-      expanders = omega (arith, r .size);
-      somePhys = r .some;
-      phys = r .few;
-      number = r .number;
-      borne = r .borne;
-      plain = λ i p. r .phys i p .plain;
-      attachedBorne = λ i p. r .phys i p .borne;
-    }
-
--- what causes 1 to 6 leave of a file, in numbers
-pub some-expander : (file : List ℕ) (d : Domain) → domainRead limits file ≡ good d → 0 < length d
-some-expander file d e = read-good limits file d e .some
-
-pub few-expanders : (file : List ℕ) (d : Domain) → domainRead limits file ≡ good d → length d ≤ 64
-few-expanders file d e = read-good limits file d e .expanders
-
-pub few-phys : (file : List ℕ) (d : Domain) (i : ℕ) → domainRead limits file ≡ good d → length (expanderAt d i .phys) ≤ 128
-few-phys file d i e = read-good limits file d e .phys i
+  -- past the end there is a vacant phy
+  all-plain : (i p : ℕ) → Plain (phyAt d i p)
+  all-plain i p = by-cases (decLt p (length (expanderAt d i .phys))) (λ h. read-plain (phyAt d i p) (read-phy i p h))
+      (λ h. subst Plain (sym (List·getD-eq-default (expanderAt d i .phys) (Vacant 0) (omega arith))) tt)
 
 -- a search over places that finds none
 pub firstIn-good : (k : ℕ) (test : ℕ → ℕ → Bool) (qs : List Place) (d e : Domain) → firstIn k test qs d ≡ good e
@@ -369,14 +199,14 @@ module _ (most : Limits) (d : Domain) (g : Read most d) (s : Passed d) where
   routed : (i p : ℕ) → T (toExpander (phyAt d i p)) → T (routes 1 (phyAt d i p)) ⊎ T (routes 2 (phyAt d i p))
   routed i p t =
       let a = attributeOf (phyAt d i p) in
-      let h = plain-attribute (phyAt d i p) (g .plain i p) (expander-attached (phyAt d i p) t) in
+      let h = plain-attribute (phyAt d i p) (all-plain most d g i p) (expander-attached (phyAt d i p) t) in
       by-cases (ℕ-discrete a 1) (λ e. inl (eq→eqb a 1 e))
       (λ k. by-cases (ℕ-discrete a 0) (λ e. absurd (no-direct i p t (eq→eqb a 0 e))) (λ l. inr (eq→eqb a 2 (omega arith))))
 
   own-address : (i p j : ℕ) → T (toEnd (phyAt d i p)) → j < length d → addressOf (phyAt d i p) ≢ expanderAt d j .address
   unfolding claimed
   own-address i p j t h e =
-      let n = ap (numberOf d) e ∙ g .number j h in
+      let n = ap (numberOf d) e ∙ numbers-differ d (g .differ) j h in
       let k = lt→ltb (numberOf d (addressOf (phyAt d i p))) (length d) (omega arith) in
       s .eight i p (search tests)
 
@@ -417,11 +247,11 @@ module _ (most : Limits) (d : Domain) (g : Read most d) (s : Passed d) where
 
   pub passed-wires : most .phys ≤ 255 → Wired d
   passed-wires m = record {
-    number = g .number;
-    borne = g .borne;
-    few = λ i p t. let a = in-range d i p t .1 in let b = g .phys i in omega arith;
-    plain = g .plain;
-    attachedBorne = g .attachedBorne;
+    number = numbers-differ d (g .differ);
+    borne = λ j h. read-expander most d g j h .borne;
+    few = λ i p t. let a = in-range d i p t in omega (arith, a .1, read-expander most d g i (a .0) .few);
+    plain = all-plain most d g;
+    attachedBorne = λ i p t. read-borne (phyAt d i p) (read-phy most d g i p (in-range d i p t .1)) t;
     routing = routed;
     answer = answered;
     back = named-back;

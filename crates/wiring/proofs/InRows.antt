@@ -16,6 +16,7 @@ use Rattle.wiring.specs.declared.Phy.the-variants.{Vacant, Present}
 use Rattle.wiring.specs.Domain.{Domain, Expander, noExpander, expanderAt, phyAt, attributeOf, numberOf}
 use Rattle.wiring.specs.Rows.{phyIn, physIn, rowIn, rowsIn, domainIn}
 use Rattle.wiring.specs.Checks.{HeadIn}
+use Rattle.wiring.proofs.Wires.{expander-range}
 
 length-rowsIn : (k : ℕ) (ws : List ℕ) → length (rowsIn k ws) ≡ k
 unfolding rowsIn
@@ -97,15 +98,9 @@ module _ (ws : List ℕ) (i : ℕ) where
       ∙ phy-in (min 128 (getD r 1 0 / 65536 % 256)) (drop 2 r) p (rw second m)
       ∙ rw (getD-drop 2 r (2 * p) 0, getD-drop 2 r (2 * p + 1) 0, getD-drop (258 * i) ws (2 + 2 * p) 0, getD-drop (258 * i) ws (2 + (2 * p + 1)) 0, a, b)
 
--- an expander with phys is in the domain
-pub in-range : (d : Domain) (i p : ℕ) → p < length (expanderAt d i .phys) → i < length d
-in-range [] i p h = absurd (omega arith)
-in-range (e ∷ d) zero p h = omega arith
-in-range (e ∷ d) (suc i) p h = let l = in-range d i p h in omega arith
-
 pub phy-at-in : (ws : List ℕ) (i p : ℕ) → p < length (expanderAt (domainIn ws) i .phys)
     → phyAt (domainIn ws) i p ≡ phyIn (getD ws (258 * i + 2 + 2 * p) 0) (getD ws (258 * i + 2 + 2 * p + 1) 0)
-phy-at-in ws i p h = phy-of-row ws i p (in-range (domainIn ws) i p h) h
+phy-at-in ws i p h = phy-of-row ws i p (expander-range (domainIn ws) i p h) h
 
 -- a routing attribute in rows has two bits
 attribute-in : (s w : ℕ) → attributeOf (phyIn s w) < 4

@@ -1,9 +1,8 @@
 pub mod Members
 pub mod Results
 pub mod Reading
-pub mod Ranges
+pub mod Read
 pub mod Filling
-pub mod Again
 pub mod Back
 pub mod RowsRead
 pub mod InRows

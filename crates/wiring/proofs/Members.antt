@@ -130,10 +130,6 @@ module _ {A : Type 0} where
   unfolding keep
   keep-more f x l t = rw (is-true (f x) t) refl
 
-  pub keep-less : (f : A → Bool) (x : A) (l : List A) → ¬ (T (f x)) → keep f (x ∷ l) ≡ keep f l
-  unfolding keep
-  keep-less f x l k = rw (is-false (f x) k) refl
-
   pub keeps : (f : A → Bool) (l : List A) (w : A) → In w l → T (f w) → In w (keep f l)
   unfolding keep
   keeps f [] w h t = h

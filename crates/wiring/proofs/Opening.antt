@@ -14,7 +14,7 @@ use Rattle.wiring.specs.declared.DomainRead.the-variants.{Refused, Expan
 use Rattle.wiring.specs.Domain.{Domain}
 use Rattle.wiring.specs.File.{limits, domainRead}
 use Rattle.wiring.specs.Rows.{domainIn, rowsRead, countOf, RowsRead}
-use Rattle.wiring.proofs.Accepted.{few-expanders}
+use Rattle.wiring.proofs.Read.{read-good}
 
 -- what the answer of the reader says of the file
 abbrev pub Opened : List ℕ → DomainRead → List ℕ → Type 0
@@ -23,7 +23,7 @@ Opened file (Expanders n) rows = (domainRead limits file ≡ good (domainIn (tak
 
 module _ (file before after : List ℕ) (e : length before ≡ 16512) where
   fits : (d : Domain) → domainRead limits file ≡ good d → leb (258 * length d) (length before) ≡ true
-  fits d q = let h = few-expanders file d q in le-leb (258 * length d) (length before) (omega arith)
+  fits d q = let h = read-good limits file d q .few in le-leb (258 * length d) (length before) (omega arith)
 
   -- reading with room for every row
   roomy : (d : Domain) → domainRead limits file ≡ good d → rowsRead file (length before) ≡ good d
@@ -52,7 +52,7 @@ module _ (file before after : List ℕ) (e : length before ≡ 16512) where
           let b : n ≡ length d = cc in
           let h : domainIn (take (258 * length d) after) ≡ d = rw (roomy d q) at (r .holds) in
           let k : domainIn (take (258 * n) after) ≡ d = ap (λ (m : ℕ). domainIn (take (258 * m) after)) b ∙ h in
-          let f = few-expanders file d q in
+          let f = read-good limits file d q .few in
           (q ∙ ap good (sym k), (omega arith, b ∙ ap length (sym k)))
 
 -- the same of an answer that was matched

@@ -19,17 +19,18 @@ module _ {A : Type 0} where
   pub held : (P : A → Type 0) (x : Result A) (a : A) → Holds P x → x ≡ good a → P a
   held P x a h q = subst (Holds P) q h
 
-  pub yields : (P : A → Type 0) (x : Result A) → ((a : A) → x ≡ good a → P a) → Holds P x
-  yields P (refused r) h = tt
-  yields P (good a) h = h a refl
+  pub weaker : (P Q : A → Type 0) (x : Result A) → Holds P x → ((a : A) → P a → Q a) → Holds Q x
+  weaker P Q (refused r) h f = tt
+  weaker P Q (good a) h f = f a h
 
   pub unless-holds : (P : A → Type 0) (b : Bool) (r : Refusal) (x : Result A) → (b ≡ true → Holds P x) → Holds P (unless b r x)
   unless-holds P true r x h = h refl
   unless-holds P false r x h = tt
 
-pub then-holds : {A B : Type 0} (P : B → Type 0) (x : Result A) (k : A → Result B) → ((a : A) → x ≡ good a → Holds P (k a)) → Holds P (then x k)
-then-holds P (refused r) k h = tt
-then-holds P (good a) k h = h a refl
+pub then-holds : {A B : Type 0} (P : A → Type 0) (Q : B → Type 0) (x : Result A) (k : A → Result B) → Holds P x
+    → ((a : A) → x ≡ good a → P a → Holds Q (k a)) → Holds Q (then x k)
+then-holds P Q (refused r) k h f = tt
+then-holds P Q (good a) k h f = f a refl h
 
 -- what is good came of something good
 module _ {A : Type 0} where

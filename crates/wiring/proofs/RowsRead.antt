@@ -12,12 +12,12 @@ use Rattle.frames.specs.declared.Refusal.{Refusal}
 use Rattle.wiring.specs.declared.DomainRead.{DomainRead}
 use Rattle.wiring.specs.declared.DomainRead.the-variants.{Refused, Expanders}
 use Rattle.wiring.specs.Domain.{Domain}
+use Rattle.wiring.specs.Read.{Bytes}
 use Rattle.wiring.specs.File.{limits, domainRead}
 use Rattle.wiring.specs.Rows.{rowsOf, readAnswer, rowsFor, rowsRead, countOf, rowsAfter, rowsHold, RowsRead}
 use Rattle.wiring.specs.Fill.{domainGot, pasted}
 use Rattle.wiring.proofs.Results.{never}
-use Rattle.wiring.proofs.Ranges.{Bytes}
-use Rattle.wiring.proofs.Again.{known}
+use Rattle.wiring.proofs.Read.{read-good, read-fits, read-again}
 use Rattle.wiring.proofs.Back.{length-rowsOf, domain-back}
 
 promise : (file : List ℕ) (answer : DomainRead) (ws ws′ : List ℕ) (y : Result Domain) → rowsRead file (length ws) ≡ y
@@ -64,8 +64,8 @@ module _ (file ws : List ℕ) where
   rows-full ws′ n b q h w =
       let c = counted (domainRead limits file) n q in
       let d = c .domain in
-      let k = known limits file d (omega arith) b (c .is) in
+      let g = read-good limits file d (c .is) in
       let e : rowsFor (length ws) d ≡ good d = rw (le-leb (258 * length d) (length ws) (omega (arith, c .count))) in
-      let v : ws′ ≡ rowsOf d ++ drop (258 * length d) ws = w ∙ all-pasted n d (c .count) (k .again) in
-      let t : take (258 * length d) ws′ ≡ rowsOf d = ap (take (258 * length d)) v ∙ take-at (rowsOf d) _ (258 * length d) (length-rowsOf d (k .fits)) in
-      promise file (Expanders n) ws ws′ (good d) (rows-by file (length ws) _ (c .is) ∙ e) (ap good (c .count)) v (rw t (domain-back file d b (c .is)))
+      let v : ws′ ≡ rowsOf d ++ drop (258 * length d) ws = w ∙ all-pasted n d (c .count) (read-again limits file d (c .is)) in
+      let t : take (258 * length d) ws′ ≡ rowsOf d = ap (take (258 * length d)) v ∙ take-at (rowsOf d) _ (258 * length d) (length-rowsOf d g) in
+      promise file (Expanders n) ws ws′ (good d) (rows-by file (length ws) _ (c .is) ∙ e) (ap good (c .count)) v (rw t (domain-back d g (read-fits limits file d b (c .is))))

@@ -5,11 +5,11 @@ use mathlib.Core.List.{List, [], _∷_, _++_, map, flatMap}
 use mathlib.Core.Bool.{Bool, true, false, cond, _&&_}
 use Prim.Native.Nat.{ℕ, zero, suc, _+_, _-_, _*_, _/_, _%_, _^_, _≤_, _<_}
 use native.Mathlib.Decide.{ℕ-discrete}
-use native.Mathlib.Nat.{pow-suc, mod-eq-of-lt, div-eq-of-lt}
+use native.Mathlib.Nat.{pow-suc, mod-eq-of-lt}
 use native.Mathlib.Numerals.{add-one}
 use native.Mathlib.Omega.{arith}
 use lib.ListN.{length, length-append}
-use lib.Pow.{pow-mono, high, low, field, mod-mod-pow}
+use lib.Pow.{high, low, field, mod-mod-pow}
 use lib.Bits.{bitAnd, and-mask, and-block, and-self, and-zero-l, and-zero-r}
 use lib.Count.{ones, ones-cat}
 use Rattle.wiring.specs.Lists.{numbers, upTo, keep}
@@ -136,13 +136,6 @@ word-bit t n j h =
     ∙ ap (λ (v : ℕ). wordBelow t n % 2 ^ v / 2 ^ j) e
     ∙ ap (λ (v : ℕ). v / 2 ^ j) (word-low t n (suc j) h ∙ word-top t j)
     ∙ high (bitOf (t j)) j (word-lt t j)
-
-pub word-bit-past : (t : ℕ → Bool) (n j : ℕ) → n ≤ j → bitAnd (wordBelow t n / 2 ^ j) 1 ≡ 0
-word-bit-past t n j h =
-    let l = word-lt t n in
-    let m = pow-mono {i = n} {j = j} h in
-    let k : wordBelow t n < 2 ^ j = omega arith in
-    ap (λ (v : ℕ). bitAnd v 1) (div-eq-of-lt k) ∙ and-zero-l 1
 
 -- the neighbour words
 pub neighbour-word : (d : Domain) (i : ℕ) → neighbourWord d i ≡ wordBelow (neighbours d i) (length d)

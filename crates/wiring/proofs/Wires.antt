@@ -80,15 +80,8 @@ attached-cases φ t =
     go : (m : ℕ) → m ≢ 1 → m ≢ 0 → 2 ≤ m
     go m a b = omega arith
 
-pub end-no-expander : (φ : Phy) → T (toEnd φ) → T (toExpander φ) → ⊥
-end-no-expander φ t u = let e = eqb→eq (typeOf φ) 1 t in let f = leb→le 2 (typeOf φ) u in omega arith
-
 pub routes-one : (a b : ℕ) (φ : Phy) → T (routes a φ) → T (routes b φ) → a ≡ b
 routes-one a b φ t u = sym (eqb→eq (attributeOf φ) a t) ∙ eqb→eq (attributeOf φ) b u
-
-pub plain-type : (φ : Phy) → Plain φ → typeOf φ ≤ 3
-plain-type (Vacant r) h = omega arith
-plain-type (Present f) h = h .0
 
 pub plain-attribute : (φ : Phy) → Plain φ → T (attached φ) → attributeOf φ ≤ 2
 plain-attribute (Vacant r) h t = absurd t

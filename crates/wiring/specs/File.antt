@@ -1,6 +1,6 @@
 -- The domain file: causes 1 to 6, unit by unit, and in each unit number by number.
 use Prim.Native.Nat.{ℕ, zero, suc, _+_}
-use mathlib.Core.Bool.{not, _||_, _&&_}
+use mathlib.Core.Bool.{Bool, true, false, not, _||_, _&&_}
 use mathlib.Core.List.{List, [], _∷_, _++_}
 use lib.ListN.{length, take, drop}
 use lib.Dec.{eqb, leb}
@@ -8,8 +8,10 @@ use Rattle.frames.specs.Bytes.{byte, numberAt}
 use Rattle.frames.specs.Refusals.{Result, refused, good, unless, then, refusal}
 use Rattle.frames.specs.ReportGeneral.{generalRead}
 use Rattle.frames.specs.Discovery.{Discovered, vacant, fields, discoverRead}
+use Rattle.frames.specs.declared.Discover.{Discover}
 use Rattle.wiring.specs.declared.Limits.{Limits}
 use Rattle.wiring.specs.declared.ExpanderUnit.{ExpanderUnit}
+use Rattle.wiring.specs.declared.PhyFields.{PhyFields}
 use Rattle.wiring.specs.declared.Phy.{Phy}
 use Rattle.wiring.specs.declared.Phy.the-variants.{Vacant, Present}
 use Rattle.wiring.specs.Lists.{isIn}
@@ -33,13 +35,18 @@ module _ {A : Type 0} where
   placed i p (refused r) = refused (refusal (r .number) i p)
   placed i p (good a) = good a
 
+-- the fields of a phy that is not vacant; where nothing is attached (true), the attached address and phy are ignored, and are 0
+abbrev pub fieldsOf : Bool → Discover → PhyFields
+fieldsOf true f = record { device = f .device; attribute = f .attribute; address = 0; far = record { 0 = 0 } }
+fieldsOf false f = record { device = f .device; attribute = f .attribute; address = f .attached; far = f .far }
+
 -- 5: phy identifier or own address differs from position; 6: type, attribute or attached address
 abbrev pub phyOf : ℕ → ℕ → ℕ → Discovered → Result Phy
 phyOf own i p (vacant result) = good (Vacant result)
 phyOf own i p (fields f) =
     unless (eqb (f .identifier .0) p && eqb (f .own) own) (refusal 5 i p)
     (unless (leb (f .device) 3 && (leb (f .attribute) 2 && (eqb (f .device) 0 || not (eqb (f .attached) 0)))) (refusal 6 i p)
-    (good (Present (record { device = f .device; attribute = f .attribute; address = f .attached; far = f .far }))))
+    (good (Present (fieldsOf (eqb (f .device) 0) f))))
 
 -- the unit of phy p of expander i, whose address is `own`, at offset `at`
 unfoldable pub phyUnit : List ℕ → ℕ → ℕ → ℕ → ℕ → Result (Parsed Phy)

@@ -20,7 +20,7 @@ ghost use lib.Dec.{eqb, leb};
 ghost use Rattle.frames.specs.Refusals.{then};
 ghost use Rattle.frames.specs.Discovery.{fields};
 ghost use Rattle.wiring.specs.Lists.{isIn};
-ghost use Rattle.wiring.specs.File.{phyOf, phyUnit, expanderUnit};
+ghost use Rattle.wiring.specs.File.{fieldsOf, phyOf, phyUnit, expanderUnit};
 ghost use Rattle.wiring.specs.Units.{phyAnswer, expanderAnswer, endsAt, unitOf};
 
 // Whether a file has n bytes from offset `at` on.
@@ -59,6 +59,27 @@ fn is_ranged(f: Discover) -> bool
     f.attached != 0
 }
 
+// The fields of a phy; where nothing is attached, with address 0 and phy 0.
+fn fields_of(f: Discover) -> PhyFields
+    ensures { λ r. ⌜ r ≡ fieldsOf (eqb (f .device) 0) f ⌝ }
+{
+    if f.device == 0 {
+        return PhyFields {
+            device: f.device,
+            attribute: f.attribute,
+            address: 0,
+            far: PhyId(0),
+        };
+    }
+    let far = f.far;
+    PhyFields {
+        device: f.device,
+        attribute: f.attribute,
+        address: f.attached,
+        far: far,
+    }
+}
+
 // Causes 5 and 6 of a phy that is not vacant; `next` is the place after its unit.
 fn phy_of(f: Discover, own: u64, i: ExpanderNumber, p: PhyId, next: usize) -> PhyRead
     ensures { λ r. ⌜ phyAnswer r ≡ then (phyOf own (i .0) (p .0) (fields f)) (endsAt next) ⌝ }
@@ -69,13 +90,7 @@ fn phy_of(f: Discover, own: u64, i: ExpanderNumber, p: PhyId, next: usize) -> Ph
     if !is_ranged(f) {
         return refusals::phy_refused(6, i, p);
     }
-    let far = f.far;
-    let phy = PhyFields {
-        device: f.device,
-        attribute: f.attribute,
-        address: f.attached,
-        far: far,
-    };
+    let phy = fields_of(f);
     PhyRead::Read(Phy::Present(phy), next)
 }
 

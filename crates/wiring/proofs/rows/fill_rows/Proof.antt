@@ -6,7 +6,7 @@ use lib.ListN.{length, length-take, length-drop}
 use borrow.Author.Needs.{needs}
 use borrow.Rule.Slice.PartMut.{same-len-mid}
 use Rattle.wiring.proofs.Filling.{rows-stop, rows-end, rows-go}
-use Rattle.wiring.proofs.Ranges.{few-phys}
+use Rattle.wiring.proofs.Read.{few-phys}
 use Rattle.wiring.specs.Fill.{pasted, domainGot}
 use Rattle.wiring.specs.Units.{expanderAnswer}
 use Rattle.wiring.proofs.rows.fill_rows.Statement.{statement}

@@ -1,6 +1,10 @@
-use mathlib.Core.Path.{sym, _∙_}
+-- `phy_of` answers causes 5 and 6 of a phy, and else its fields: one return for each cause that holds, and one where none does.
+use mathlib.Core.Path.{sym, _∙_, ap}
 use borrow.Author.Needs.{needs}
 use borrow.Author.Tests.{not-true, not-false}
+use Rattle.frames.specs.Refusals.{good}
+use Rattle.wiring.specs.declared.Phy.the-variants.{Present}
+use Rattle.wiring.specs.File.{parsed}
 use Rattle.wiring.proofs.units.phy_of.Statement.{statement}
 use Rattle.wiring.proofs.units.phy_of.Tie as tie
 
@@ -28,11 +32,15 @@ returns-2 c =
     simp (sym (f .before .is-placed .ensures) ∙ not-false _ (f .if1 .left), sym (t .before .is-ranged .ensures) ∙ not-true _ (t .if2 .taken))
     (c .phy-refused2 .ensures)
 
+fields-of-requires : tie.Need-fields-of-requires
+fields-of-requires c κs = search needs
+
 returns-3 : tie.Need-returns-3
 returns-3 c =
     let f = c .before .before .before in
     simp (sym (f .before .is-placed .ensures) ∙ not-false _ (f .if1 .left), sym (c .before .before .is-ranged .ensures) ∙ not-false _ (c .before .if2 .left))
+    (ap (λ g. good (parsed (Present g) (f .before .before .args .next))) (c .fields-of .ensures))
 
 pub phy-of-spec : {M : Type 1} → statement M
 phy-of-spec =
-    tie.close (tie.spec is-placed-requires phy-refused-requires returns is-ranged-requires phy-refused-requires-2 returns-2 returns-3)
+    tie.close (tie.spec is-placed-requires phy-refused-requires returns is-ranged-requires phy-refused-requires-2 returns-2 fields-of-requires returns-3)
