@@ -4,11 +4,11 @@
     check_samples.py [--harness PROGRAM] [--routes PROGRAM] [--samples FOLDER]
 
 The calls are made by the test harness, on the archive. Each refused sample is
-built and called a second time, repaired. Every file built is printed and built
-again. With --routes the program lists every file, and its listing is compared
-with the words of the table call. docs/FILE-FORMAT.md, docs/RIG-TEXT.md and
-samples/README.md are compared with the samples. Ends with 1 where anything
-differs, and where a refusal number has no sample.
+built and called a second time, repaired. A sample has no warnings. Every file
+built is printed and built again. With --routes the program lists every file, and
+its listing is compared with the words of the table call. docs/FILE-FORMAT.md,
+docs/RIG-TEXT.md and samples/README.md are compared with the samples. Ends with 1
+where anything differs, and where a refusal number has no sample.
 """
 
 import argparse
@@ -171,7 +171,7 @@ class Check:
         printed, notice = rigfile.print_file(file)
         if notice:
             raise Wrong(f"printed: {notice}")
-        if build(printed, "printed: ") != file:
+        if build(printed, "printed: ", strict=False) != file:
             raise Wrong("printed and built again, the file differs")
         self.files += 1
         self.built.write_bytes(file)
@@ -247,11 +247,11 @@ class Check:
             self.compare(call.call, call.answer, call.written, "with ignored bits set: ")
 
 
-def build(text, when=""):
-    try:
-        return rigfile.build(text)
-    except rigfile.TextError as error:
-        raise Wrong(f"{when}{error}") from None
+def build(text, when="", strict=True):
+    reader = rigfile.Reader(text, strict)
+    if reader.errors:
+        raise Wrong(f"{when}{reader.errors[0]}")
+    return reader.rig.file()
 
 
 def first_block(page, heading):

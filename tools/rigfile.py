@@ -1,11 +1,12 @@
 #!/usr/bin/env python3
 """Makes a domain file from a text, and prints a domain file as text.
 
-    rigfile.py build IN OUT    the text IN becomes the domain file OUT
-    rigfile.py print FILE      the domain file FILE as text
+    rigfile.py build [--strict] IN OUT    the text IN becomes the domain file OUT
+    rigfile.py print FILE                 the domain file FILE as text
 
-A hyphen stands for standard input or output. An error in a text is reported
-with its line, and OUT is not written. Whether a rig can work is not tested here:
+A hyphen stands for standard input or output. All errors in a text are reported,
+each with its line, and OUT is not written. What looks like a slip of the pen is a
+warning, or an error with --strict. Whether a rig can work is not tested here:
 that is for the program routes and the calls of include/metzurgo.h.
 """
 
@@ -21,7 +22,8 @@ the lines of a text (docs/RIG-TEXT.md describes them; # starts a comment):
   phy NUMBER ATTRIBUTE [to NAME.PHY | to DRIVE | empty]
   phy NUMBER vacant [RESULT]
 
-An attribute is direct, subtractive or table. A cable between expanders may be
+An attribute is direct, subtractive or table. What stands after an expander's
+address or a phy's number may stand in any order. A cable between expanders may be
 named at one end or at both. FIRST-LAST in place of a phy number means several.
 
 lines that alter the file after it is laid out, for files that are to be refused:
@@ -38,6 +40,11 @@ END_DEVICE, EDGE_EXPANDER, FANOUT_EXPANDER = 1, 2, 3
 VACANT = 0x16  # the SMP function result PHY VACANT
 MOST = 255  # expanders and phys: their counts are one byte
 NAME = r"[A-Za-z][A-Za-z0-9_-]*"
+EXPANDER_FORM = "an expander line is: expander NAME ADDRESS [R NUMBER] [configurable] [fanout]"
+PHY_FORM = (
+    "a phy line is: phy NUMBER ATTRIBUTE [to NAME.PHY | to DRIVE | empty],"
+    " or: phy NUMBER vacant [RESULT]"
+)
 
 # The fixed bytes of each unit, by the words of a set line.
 HEADER_FIXED = {"byte 0": 0x10}
@@ -66,6 +73,14 @@ class TextError(Exception):
         self.line = line
 
 
+class TextErrors(Exception):
+    """All errors in a text, in the order of their lines."""
+
+    def __init__(self, errors):
+        super().__init__("\n".join(map(str, errors)))
+        self.errors = errors
+
+
 # ------------------------------------------------------------------ the rig
 
 
@@ -83,6 +98,10 @@ class Expander:
         self.type = FANOUT_EXPANDER if fanout else EDGE_EXPANDER
         self.phys = []
         self.set = {}
+
+    def phy(self, number):
+        """The phy of this number, or None."""
+        return next((phy for phy in self.phys if phy.number == number), None)
 
     def fields(self):
         return {
@@ -138,6 +157,10 @@ class Rig:
 
     def fields(self):
         return {**HEADER_FIXED, "count": len(self.expanders), **self.set}
+
+    def length(self):
+        """The length of the file before it is cut."""
+        return 2 + sum(36 + 52 * len(expander.phys) for expander in self.expanders)
 
     def laid_out(self):
         """The file before it is cut."""
@@ -226,9 +249,10 @@ def number(line, text, low, high, what):
 
 
 def address(line, text):
-    if not re.fullmatch(r"[0-9A-Fa-f]{16}h?", text):
+    match = re.fullmatch(r"(?:0x)?([0-9A-Fa-f]{16})|([0-9A-Fa-f]{16})h", text)
+    if not match:
         raise TextError(line, f'"{text}" is not an address (16 hexadecimal digits)')
-    return int(text[:16], 16)
+    return int(match[1] or match[2], 16)
 
 
 def phy_numbers(line, text, high):
@@ -244,16 +268,52 @@ def phy_numbers(line, text, high):
 
 
 class Reader:
-    """Reads a text into a rig."""
+    """Reads a text into a rig. Its errors and warnings are kept, by line.
 
-    def __init__(self, text):
+    What a line brings is kept before the rest of the line is tested, so that an error
+    is seldom the cause of others.
+    """
+
+    def __init__(self, text, strict=False):
         self.rig = Rig()
+        self.errors, self.warnings = [], []
         self.names = {}  # drives and expanders
+        self.next_phy = 0  # its number, or None after a number that cannot be read
         self.ends = []  # a phy, its device's name, the phy number or None
         self.sets = []
         self.set_at = {}  # the line of each field that is set
         self.appended = []
         self.cut = None
+        for line, content in enumerate(text.split("\n"), 1):
+            words = content.partition("#")[0].split()
+            if words:
+                self.attempt(self.line, line, *words)
+        for end in self.ends:
+            self.attempt(self.join, *end)
+        for phy, _, _ in self.ends:
+            self.attempt(self.cable, phy)
+        for line, words in self.sets:
+            self.attempt(self.set, line, words)
+        for (unit, field), line in self.set_at.items():
+            self.attempt(self.check_set, line, unit, field)
+        if self.cut:
+            self.attempt(self.check_cut, *self.cut)
+        self.rig.appended = b"".join(self.appended)
+        for line, message in self.slips():
+            if strict:
+                self.errors.append(TextError(line, message))
+            else:
+                self.warnings.append(TextError(line, f"warning: {message}"))
+        self.errors.sort(key=lambda error: error.line)
+        self.warnings.sort(key=lambda warning: warning.line)
+
+    def attempt(self, act, *arguments):
+        try:
+            act(*arguments)
+        except TextError as error:
+            self.errors.append(error)
+
+    def line(self, line, kind, *words):
         kinds = {
             "drive": self.drive,
             "expander": self.expander,
@@ -262,25 +322,10 @@ class Reader:
             "cut": self.cut_later,
             "append": self.append,
         }
-        for line, content in enumerate(text.split("\n"), 1):
-            words = content.partition("#")[0].split()
-            if not words:
-                continue
-            if words[0] not in kinds:
-                known = ", ".join(kinds)
-                raise TextError(line, f'"{words[0]}" is not the start of a line ({known})')
-            kinds[words[0]](line, words[1:])
-        self.join()
-        for line, words in self.sets:
-            self.set(line, words)
-        self.check_set()
-        if self.cut:
-            line, length = self.cut
-            whole = len(self.rig.laid_out())
-            if length > whole:
-                raise TextError(line, f"the file has {whole} bytes and cannot be cut to {length}")
-            self.rig.cut = length
-        self.rig.appended = b"".join(self.appended)
+        if kind not in kinds:
+            known = ", ".join(kinds)
+            raise TextError(line, f'"{kind}" is not the start of a line ({known})')
+        kinds[kind](line, list(words))
 
     def new_name(self, line, name, device):
         if not re.fullmatch(NAME, name):
@@ -293,112 +338,119 @@ class Reader:
         self.names[name] = device
 
     def drive(self, line, words):
+        drive = Drive("".join(words[:1]), None, line)
+        self.rig.drives.append(drive)
+        if words:
+            self.attempt(self.new_name, line, words[0], drive)
         if len(words) != 2:
             raise TextError(line, "a drive line is: drive NAME ADDRESS")
-        drive = Drive(words[0], address(line, words[1]), line)
-        self.new_name(line, words[0], drive)
-        self.rig.drives.append(drive)
+        drive.address = address(line, words[1])
 
     def expander(self, line, words):
-        form = "an expander line is: expander NAME ADDRESS [R NUMBER] [configurable] [fanout]"
-        if len(words) < 2:
-            raise TextError(line, form)
-        expander = Expander(words[0], address(line, words[1]), line=line)
-        self.new_name(line, words[0], expander)
-        rest = words[2:]
-        if rest[:1] == ["R"]:
-            if len(rest) < 2:
-                raise TextError(line, form)
-            expander.indexes = number(line, rest[1], 0, 65535, "R")
-            rest = rest[2:]
-        if rest[:1] == ["configurable"]:
-            expander.configurable = True
-            rest = rest[1:]
-        if rest[:1] == ["fanout"]:
-            expander.type = FANOUT_EXPANDER
-            rest = rest[1:]
-        if rest:
-            raise TextError(line, form)
-        if len(self.rig.expanders) == MOST:
-            raise TextError(line, f"more than {MOST} expanders cannot be counted in a file")
+        expander = Expander("".join(words[:1]), 0, line=line)
         self.rig.expanders.append(expander)
+        self.next_phy = 0
+        if words:
+            self.attempt(self.new_name, line, words[0], expander)
+        if len(words) < 2:
+            raise TextError(line, EXPANDER_FORM)
+        if len(self.rig.expanders) > MOST:
+            raise TextError(line, f"more than {MOST} expanders cannot be counted in a file")
+        self.attempt(self.options, line, expander, words[2:])
+        expander.address = address(line, words[1])
+
+    def options(self, line, expander, words):
+        given = {}
+        rest = iter(words)
+        for word in rest:
+            known = word in ("R", "configurable", "fanout") and word not in given
+            given[word] = next(rest, None) if word == "R" else word
+            if not known or given[word] is None:
+                raise TextError(line, EXPANDER_FORM)
+        expander.configurable = "configurable" in given
+        expander.type = FANOUT_EXPANDER if "fanout" in given else EDGE_EXPANDER
+        expander.indexes = number(line, given.get("R", "0"), 0, 65535, "R")
 
     def phy(self, line, words):
-        form = (
-            "a phy line is: phy NUMBER ATTRIBUTE [to NAME.PHY | to DRIVE | empty],"
-            " or: phy NUMBER vacant [RESULT]"
-        )
         if not self.rig.expanders:
             raise TextError(line, "a phy line comes after the line of its expander")
-        if len(words) < 2:
-            raise TextError(line, form)
         expander = self.rig.expanders[-1]
+        expected, self.next_phy = self.next_phy, None
+        if not words:
+            raise TextError(line, PHY_FORM)
         numbers = phy_numbers(line, words[0], MOST - 1)
-        if numbers[0] != len(expander.phys):
+        self.next_phy = numbers[-1] + 1
+        phys = [Phy(expander, number, line=line) for number in numbers]
+        expander.phys.extend(phys)
+        self.attempt(self.attribute, line, phys, words[1:])
+        if expected not in (None, numbers[0]):
             raise TextError(
-                line, f"the next phy of {expander.name} is {len(expander.phys)}, not {numbers[0]}"
+                line, f"the next phy of {expander.name} is {expected}, not {numbers[0]}"
             )
-        kind, rest = words[1], words[2:]
-        attribute = result = 0
-        ends = [None] * len(numbers)
+
+    def attribute(self, line, phys, words):
+        """The attribute of phys and what they are cabled to, or that they are vacant."""
+        if words[:1] == ["to"]:
+            words = words[2:] + words[:2]
+        elif words[:1] == ["empty"]:
+            words = words[1:] + words[:1]
+        if not words:
+            raise TextError(line, PHY_FORM)
+        kind, *rest = words
         if kind == "vacant":
             if len(rest) > 1:
-                raise TextError(line, form)
+                raise TextError(line, PHY_FORM)
             result = VACANT
             if rest:
                 result = number(line, rest[0], 1, 255, "the function result of a vacant phy")
-        elif kind not in ATTRIBUTES:
+            for phy in phys:
+                phy.result = result
+            return
+        cabled = len(rest) == 2 and rest[0] == "to"
+        if cabled:
+            self.attempt(self.ends_of, line, phys, rest[1])
+        if kind not in ATTRIBUTES:
             known = ", ".join(ATTRIBUTES)
             raise TextError(line, f'"{kind}" is not a routing attribute ({known}) or vacant')
-        else:
-            attribute = ATTRIBUTES.index(kind)
-            if rest == ["empty"]:
-                ends = ["empty"] * len(numbers)
-            elif len(rest) == 2 and rest[0] == "to":
-                ends = self.ends_of(line, rest[1], len(numbers))
-            elif rest:
-                raise TextError(line, form)
-        for phy_number, end in zip(numbers, ends):
-            phy = Phy(expander, phy_number, attribute, result, line)
-            expander.phys.append(phy)
-            if end == "empty":
-                phy.named = end
-            elif end:
-                self.ends.append((phy, *end))
+        if rest and rest != ["empty"] and not cabled:
+            raise TextError(line, PHY_FORM)
+        for phy in phys:
+            phy.attribute = ATTRIBUTES.index(kind)
+            phy.named = "empty" if rest == ["empty"] else None
 
-    def ends_of(self, line, text, count):
-        """Names and phy numbers of NAME, NAME.PHY or NAME.FIRST-LAST."""
-        name, dot, phys = text.partition(".")
-        if not re.fullmatch(NAME, name) or (dot and not phys):
+    def ends_of(self, line, phys, text):
+        """Keeps the far ends of phys: NAME, NAME.PHY or NAME.FIRST-LAST."""
+        name, dot, numbers = text.partition(".")
+        if not re.fullmatch(NAME, name) or (dot and not numbers):
             raise TextError(line, f'"{text}" is neither NAME.PHY nor the name of a drive')
-        numbers = phy_numbers(line, phys, 255) if dot else [None]
-        if len(numbers) != count:
-            raise TextError(line, f"{count} phys here, but {len(numbers)} in {text}")
-        return [(name, number) for number in numbers]
+        numbers = phy_numbers(line, numbers, 255) if dot else [None]
+        self.ends.extend((phy, name, number) for phy, number in zip(phys, numbers))
+        if len(numbers) != len(phys):
+            raise TextError(line, f"{len(phys)} phys here, but {len(numbers)} in {text}")
 
-    def join(self):
-        """Finds what is named, and fills in the far ends of cables."""
-        for phy, name, far in self.ends:
-            device = self.names.get(name)
-            if device is None:
-                raise TextError(phy.line, f"there is no drive or expander named {name}")
-            if isinstance(device, Drive):
-                phy.named = (device, far or 0)
-            elif far is None:
-                raise TextError(
-                    phy.line, f"{name} is an expander: name its phy too, as in {name}.0"
-                )
-            elif far >= len(device.phys):
-                raise TextError(phy.line, f"{name} has no phy {far}")
-            else:
-                phy.named = (device, far)
-        for phy, _, _ in self.ends:
-            device, far = phy.named
-            if isinstance(device, Expander):
-                self.cable(phy, device.phys[far])
-            phy.attached = phy.named
+    def join(self, phy, name, far):
+        """Finds what is named."""
+        device = self.names.get(name)
+        if device is None:
+            raise TextError(phy.line, f"there is no drive or expander named {name}")
+        if isinstance(device, Drive):
+            far = far or 0
+        elif far is None:
+            raise TextError(phy.line, f"{name} is an expander: name its phy too, as in {name}.0")
+        elif not device.phy(far):
+            raise TextError(phy.line, f"{name} has no phy {far}")
+        phy.named = (device, far)
 
-    def cable(self, phy, far):
+    def cable(self, phy):
+        """Attaches what was found, at both ends of a cable between expanders."""
+        if not phy.named:
+            return
+        device, number = phy.named
+        if isinstance(device, Expander):
+            self.far_end(phy, device.phy(number))
+        phy.attached = phy.named
+
+    def far_end(self, phy, far):
         near_end = (phy.expander, phy.number)
         if far.result:
             raise TextError(
@@ -411,13 +463,35 @@ class Reader:
         end = far.named or far.attached
         if end and end != near_end:
             other, number = end
-            line = far.line if far.named else other.phys[number].line
+            line = far.line if far.named else other.phy(number).line
             raise TextError(
                 phy.line,
                 f"{phy} is cabled to {far}, which is cabled to {other.name}.{number}"
                 f" (line {line})",
             )
         far.attached = near_end
+
+    def slips(self):
+        """What can be built and can hardly be meant: lines and messages."""
+        drives = [device for device in self.names.values() if isinstance(device, Drive)]
+        first = {}
+        for drive in drives:
+            other = first.setdefault(drive.address, drive)
+            if other is not drive and drive.address is not None:
+                at = f"{other.name} (line {other.line})"
+                yield drive.line, f"{drive.name} has the address of {at}"
+        first = {}
+        for phy, _, _ in self.ends:
+            if phy.named and phy.named[0] in drives:
+                other = first.setdefault(phy.named, phy)
+                if other is not phy:
+                    drive, number = phy.named
+                    at = f"{drive.name}.{number}"
+                    yield phy.line, f"{phy} is cabled to {at}, as {other} is (line {other.line})"
+        cabled = [drive for drive, _ in first]
+        for drive in drives:
+            if drive not in cabled:
+                yield drive.line, f"no phy is cabled to {drive.name}"
 
     # Deviations.
 
@@ -456,19 +530,18 @@ class Reader:
             raise TextError(line, f"there is no expander named {name}")
         if not dot:
             return expander, "an expander", EXPANDER_SET
-        phy = number(line, phy, 0, MOST, "a phy number")
-        if phy >= len(expander.phys):
-            raise TextError(line, f"{name} has no phy {phy}")
-        phy = expander.phys[phy]
+        phy_number = number(line, phy, 0, MOST, "a phy number")
+        phy = expander.phy(phy_number)
+        if not phy:
+            raise TextError(line, f"{name} has no phy {phy_number}")
         if phy.result:
             return phy, "a vacant phy", dict.fromkeys(PHY_FIXED, 255)
         return phy, "a phy", PHY_SET
 
-    def check_set(self):
+    def check_set(self, line, unit, field):
         """Where nothing is attached, the attached address and phy are ignored and not kept."""
-        for (unit, field), line in self.set_at.items():
-            if field.startswith("attached") and unit.fields()["type"] == 0:
-                raise TextError(line, f"nothing is attached at {unit}: set its type too")
+        if field.startswith("attached") and unit.fields()["type"] == 0:
+            raise TextError(line, f"nothing is attached at {unit}: set its type too")
 
     def cut_later(self, line, words):
         if len(words) != 1:
@@ -476,6 +549,12 @@ class Reader:
         if self.cut:
             raise TextError(line, f"the file is already cut (line {self.cut[0]})")
         self.cut = line, number(line, words[0], 0, 999_999_999, "a length")
+
+    def check_cut(self, line, length):
+        whole = self.rig.length()
+        if length > whole:
+            raise TextError(line, f"the file has {whole} bytes and cannot be cut to {length}")
+        self.rig.cut = length
 
     def append(self, line, words):
         for word in words or [""]:
@@ -488,7 +567,10 @@ class Reader:
 
 def build(text):
     """The domain file of a text."""
-    return Reader(text).rig.file()
+    reader = Reader(text)
+    if reader.errors:
+        raise TextErrors(reader.errors)
+    return reader.rig.file()
 
 
 # ------------------------------------------------------------ printing files
@@ -682,6 +764,7 @@ def main(arguments=None):
         "build", help="make a domain file from a text", epilog=FORM,
         formatter_class=argparse.RawDescriptionHelpFormatter,
     )
+    command.add_argument("--strict", action="store_true", help="make warnings errors")
     command.add_argument("IN", help="the text")
     command.add_argument("OUT", help="the domain file")
     command = commands.add_parser("print", help="print a domain file as text")
@@ -690,13 +773,15 @@ def main(arguments=None):
     try:
         if options.command == "build":
             try:
-                file = build(read_bytes(options.IN).decode("utf-8-sig"))
+                reader = Reader(read_bytes(options.IN).decode("utf-8-sig"), options.strict)
             except UnicodeDecodeError:
                 print(f"{options.IN}: this is not a text", file=sys.stderr)
                 return 1
-            except TextError as error:
-                print(f"{options.IN}: {error}", file=sys.stderr)
+            for note in sorted(reader.errors + reader.warnings, key=lambda note: note.line):
+                print(f"{options.IN}: {note}", file=sys.stderr)
+            if reader.errors:
                 return 1
+            file = reader.rig.file()
             if options.OUT == "-":
                 sys.stdout.buffer.write(file)
             else:

@@ -1,9 +1,10 @@
 #!/usr/bin/env python3
-"""Tests of rigfile.py: what is built, what is printed, and every error with its line."""
+"""Tests of rigfile.py: what is built, what is printed, every error and warning with its line."""
 
 import ast
 import contextlib
 import io
+import itertools
 import re
 import sys
 import tempfile
@@ -73,7 +74,7 @@ ERRORS = [
         " expander NAME ADDRESS [R NUMBER] [configurable] [fanout]",
     ),
     (
-        "expander top 5000000000000010 configurable R 4",
+        "expander top 5000000000000010 fanout R 4 fanout",
         "line 1: an expander line is:"
         " expander NAME ADDRESS [R NUMBER] [configurable] [fanout]",
     ),
@@ -86,6 +87,11 @@ ERRORS = [
     ),
     # phys
     ("phy 0 direct\n" + TOP, "line 1: a phy line comes after the line of its expander"),
+    (
+        TOP + "phy",
+        "line 2: a phy line is: phy NUMBER ATTRIBUTE [to NAME.PHY | to DRIVE | empty],"
+        " or: phy NUMBER vacant [RESULT]",
+    ),
     (
         TOP + "phy 0",
         "line 2: a phy line is: phy NUMBER ATTRIBUTE [to NAME.PHY | to DRIVE | empty],"
@@ -199,6 +205,37 @@ ERRORS = [
 ]
 
 
+# A text, and its warnings.
+WARNINGS = [
+    (
+        PAIR.replace("b1\n", "a1\n"),
+        ["line 2: warning: B1 has the address of A1 (line 1)"],
+    ),
+    (
+        "drive C1 0x50000000000000a1\n" + PAIR + "drive D1 50000000000000A1h\n",
+        [
+            "line 1: warning: no phy is cabled to C1",
+            "line 2: warning: A1 has the address of C1 (line 1)",
+            "line 11: warning: D1 has the address of C1 (line 1)",
+            "line 11: warning: no phy is cabled to D1",
+        ],
+    ),
+    (
+        PAIR.replace("direct to B1", "direct to A1.0").replace("direct empty", "direct to A1"),
+        [
+            "line 2: warning: no phy is cabled to B1",
+            "line 8: warning: bottom.1 is cabled to A1.0, as top.1 is (line 5)",
+            "line 9: warning: bottom.2 is cabled to A1.0, as top.1 is (line 5)",
+        ],
+    ),
+    (
+        PAIR.replace("phy 1 direct to A1", "phy 1-2 direct to A1.1-2\nphy 3 direct to A1.2"),
+        ["line 6: warning: top.3 is cabled to A1.2, as top.2 is (line 5)"],
+    ),
+    (PAIR.replace("direct empty", "direct to A1.1"), []),
+]
+
+
 def run(*arguments):
     """Exit code, standard output and standard error of a command."""
     out, err = io.StringIO(), io.StringIO()
@@ -214,18 +251,60 @@ class Errors(unittest.TestCase):
     def test_messages(self):
         for text, message in ERRORS:
             with self.subTest(message=message):
-                with self.assertRaises(rigfile.TextError) as raised:
-                    rigfile.build(text)
-                self.assertEqual(message, str(raised.exception))
+                self.assertEqual([message], errors_of(text))
+
+    def test_all_errors(self):
+        text = (
+            "drive A1 a1\nexpander 1top 10 fanout fanout\nphy 0 tabel to low.0\n"
+            "phy 2 direct to A1\nphy x direct\nphy 4 direct to B1\nexpander low 5000000000000020\n"
+            "set low.7 type 9\nphy 0-1 table to A1.1-0\nhub\nset low.0 type 9\ncut 999"
+        )
+        self.assertEqual(
+            [
+                'line 1: "a1" is not an address (16 hexadecimal digits)',
+                'line 2: "1top" is not a name (a letter, then letters, digits, - or _)',
+                "line 2: an expander line is:"
+                " expander NAME ADDRESS [R NUMBER] [configurable] [fanout]",
+                'line 2: "10" is not an address (16 hexadecimal digits)',
+                'line 3: "tabel" is not a routing attribute (direct, subtractive, table) or vacant',
+                "line 4: the next phy of 1top is 1, not 2",
+                'line 5: "x" is not a number (a phy number)',
+                "line 6: there is no drive or expander named B1",
+                "line 8: low has no phy 7",
+                "line 9: 1-0 is not a range of phys (the lower number comes first)",
+                'line 10: "hub" is not the start of a line'
+                " (drive, expander, phy, set, cut, append)",
+                "line 11: type is 0 to 7, not 9",
+                "line 12: the file has 334 bytes and cannot be cut to 999",
+            ],
+            errors_of(text),
+        )
+
+    def test_one_error_is_not_the_cause_of_others(self):
+        lines = PAIR.splitlines()
+        for at, line in enumerate(lines):
+            start, _, last = line.rpartition(" ")
+            for wrong in (f"{start} {last}.", f"{start} {last} {last}"):
+                text = "\n".join(lines[:at] + [wrong] + lines[at + 1 :])
+                with self.subTest(wrong=wrong):
+                    self.assertEqual(1, len(errors_of(text)))
+
+    def test_warnings(self):
+        for text, warnings in WARNINGS:
+            with self.subTest(warnings=warnings):
+                self.assertEqual(warnings, [str(note) for note in rigfile.Reader(text).warnings])
+                self.assertEqual([], errors_of(text))
+                strict = rigfile.Reader(text, strict=True)
+                errors = [warning.replace("warning: ", "") for warning in warnings]
+                self.assertEqual(errors, [str(error) for error in strict.errors])
+                self.assertEqual([], strict.warnings)
 
     def test_every_error_is_tested(self):
         source = Path(rigfile.__file__).read_text(encoding="utf-8")
         places = [node for node in ast.walk(ast.parse(source)) if raises_text_error(node)]
         reached = set()
         for text, _ in ERRORS:
-            try:
-                rigfile.build(text)
-            except rigfile.TextError as error:
+            for error in rigfile.Reader(text).errors:
                 reached.add(traceback.extract_tb(error.__traceback__)[-1].lineno)
         self.assertTrue(places)
         for node in places:
@@ -236,9 +315,16 @@ class Errors(unittest.TestCase):
         page = (ROOT / "docs/RIG-TEXT.md").read_text(encoding="utf-8")
         example = re.search(r"^```\n(.*?)^```$", page, re.M | re.S)[1]
         message = re.search(r"with `bottom\.3` in line 5,\s+`(line 5: [^`]*)`", page)[1]
-        with self.assertRaises(rigfile.TextError) as raised:
-            rigfile.build(example.replace("bottom.0", "bottom.3"))
-        self.assertEqual(message, str(raised.exception))
+        self.assertEqual([message], errors_of(example.replace("bottom.0", "bottom.3")))
+
+
+def errors_of(text):
+    """The errors of a text, as build reports them."""
+    try:
+        rigfile.build(text)
+    except rigfile.TextErrors as errors:
+        return str(errors).split("\n")
+    return []
 
 
 def raises_text_error(node):
@@ -272,6 +358,18 @@ class Built(unittest.TestCase):
 
     def test_numbers(self):
         other = PAIR.replace("R 4", "R 04h").replace("10 R", "10h R").replace("a1\n", "A1h\n")
+        self.assertEqual(self.pair, rigfile.build(other))
+        self.assertEqual(self.pair, rigfile.build(PAIR.replace(" 50", " 0x50")))
+
+    def test_options_in_any_order(self):
+        options = ("R 4", "configurable", "fanout")
+        files = {
+            rigfile.build(PAIR.replace("R 4 configurable", " ".join(order)))
+            for order in itertools.permutations(options)
+        }
+        self.assertEqual({rigfile.build(PAIR.replace("R 4", "R 4 fanout"))}, files)
+        other = re.sub(r"(direct|table|subtractive) (to \S+|empty)", r"\2 \1", PAIR)
+        self.assertIn("phy 0 to bottom.0 table\n", other)
         self.assertEqual(self.pair, rigfile.build(other))
 
     def test_ranges(self):
@@ -425,6 +523,31 @@ class Commands(unittest.TestCase):
         self.assertEqual(f"{self.text}: line 10: the next phy of bottom is 3, not 4\n", err)
         self.assertFalse(self.file.exists())
 
+    def test_all_errors_are_reported(self):
+        self.text.write_text("hub\n" + PAIR + "drive\n", encoding="utf-8")
+        code, out, err = run("build", self.text, self.file)
+        self.assertEqual((1, ""), (code, out))
+        known = "(drive, expander, phy, set, cut, append)"
+        self.assertEqual(
+            f'{self.text}: line 1: "hub" is not the start of a line {known}\n'
+            f"{self.text}: line 11: a drive line is: drive NAME ADDRESS\n",
+            err,
+        )
+
+    def test_warnings_are_errors_where_strict(self):
+        text = PAIR.replace("direct to B1", "direct")
+        self.text.write_text(text, encoding="utf-8")
+        code, out, err = run("build", "--strict", self.text, self.file)
+        self.assertEqual((1, ""), (code, out))
+        self.assertEqual(f"{self.text}: line 2: no phy is cabled to B1\n", err)
+        self.assertFalse(self.file.exists())
+        code, out, err = run("build", self.text, self.file)
+        self.assertEqual((0, ""), (code, out))
+        self.assertEqual(f"{self.text}: line 2: warning: no phy is cabled to B1\n", err)
+        self.assertEqual(rigfile.build(text), self.file.read_bytes())
+        self.text.write_text(PAIR, encoding="utf-8")
+        self.assertEqual((0, "", ""), run("build", "--strict", self.text, self.file))
+
     def test_a_mark_at_the_start_of_a_text(self):
         self.text.write_text(PAIR, encoding="utf-8-sig")
         self.assertEqual(0, run("build", self.text, self.file)[0])
@@ -448,7 +571,8 @@ class Commands(unittest.TestCase):
     def test_help(self):
         code, out, _ = run("--help")
         self.assertEqual(0, code)
-        for part in ("build IN OUT", "print FILE", "expander NAME ADDRESS", "cut LENGTH"):
+        parts = ("build [--strict] IN OUT", "print FILE", "expander NAME ADDRESS", "cut LENGTH")
+        for part in parts:
             self.assertIn(part, out)
         self.assertEqual(2, run()[0])
 
