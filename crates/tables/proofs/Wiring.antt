@@ -7,3 +7,4 @@ pub use Rattle.wiring.proofs.Wires.{routes-range, in-places, differ, far-below,
 pub use Rattle.wiring.proofs.Results.{good-one, unless-good, then-good}
 pub use Rattle.wiring.proofs.Accepted.{wired-wires}
 pub use Rattle.wiring.proofs.Opening.{opened-as, opened-fits}
+pub use Rattle.wiring.proofs.ShortFile.{short-file}

@@ -8,6 +8,7 @@ pub use Rattle.wiring.specs.Domain.{Expander, Domain, noExpander, expanderAt, p
 pub use Rattle.wiring.specs.Domain.{attached, toEnd, toExpander, bears}
 unfoldable pub use Rattle.wiring.specs.Domain.{numberOf}
 pub use Rattle.wiring.specs.File.{limits, domainRead}
+pub use Rattle.wiring.specs.ShortFile.{shortFile}
 pub use Rattle.wiring.specs.Rows.{domainIn}
 pub use Rattle.wiring.specs.Causes.{Place, place, places, farPhy, wired}
 unfoldable pub use Rattle.wiring.specs.Causes.{phyPlaces, placesFrom}

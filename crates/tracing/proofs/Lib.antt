@@ -8,3 +8,4 @@ pub mod OwnStretch
 pub mod Arrives
 pub mod Demand
 pub mod Pair
+pub mod LongFrames

@@ -4,7 +4,7 @@ use mathlib.Core.Path.{_≡_, refl}
 use mathlib.Core.List.{List, [], _∷_, _++_, flatMap}
 use lib.ListN.{length, drop, replicate, set}
 use Rattle.tables.specs.Wiring.{Result, refused, good, then, refusal}
-use Rattle.tables.proofs.Opened.{numberAt, bytesOf, generalFixed, generalRead, discoverFixed, discoverRead, numbers, any, keep, isIn, numberOf, phyUnit, phyUnits, expanderUnit, expanders, domainRead, unanswered, endAt, claimed, clash, clashing, fixed, phyPlaces, placesFrom, firstIn, wiredDomain, strip, reach, cabled, neighbours, unlooped, joined, joinedIn, tableToTable, linkedDomain}
+use Rattle.tables.proofs.Opened.{numberAt, bytesOf, frameSize, generalFixed, generalRead, discoverFixed, discoverRead, numbers, any, keep, isIn, numberOf, sizeAt, phyUnit, phyUnits, expanderUnit, expanders, headerUnit, domainRead, unanswered, endAt, claimed, clash, clashing, fixed, phyPlaces, placesFrom, firstIn, wiredDomain, strip, reach, cabled, neighbours, unlooped, joined, joinedIn, tableToTable, linkedDomain}
 use Rattle.tables.specs.Levels.{once, belowPhys, below, nextLevel, levelsFrom, levels}
 use Rattle.tables.specs.Tables.{heldBy, gives, give, giveAll, levelList, table, tablePlaces, tables, size, sizes}
 use Rattle.tables.specs.Judge.{overlong, judgedDomain, judged, expandersIn, tableCall, countsIn, wordsAfter}
@@ -69,8 +69,8 @@ pub record PairRig : Type 0 where
 
 pub pair-rig : PairRig
 unfolding general discover pair words trace
-    numberAt bytesOf generalFixed generalRead discoverFixed discoverRead
-    numbers any keep isIn numberOf phyUnit phyUnits expanderUnit expanders domainRead
+    numberAt bytesOf frameSize generalFixed generalRead discoverFixed discoverRead
+    numbers any keep isIn numberOf sizeAt phyUnit phyUnits expanderUnit expanders headerUnit domainRead
     unanswered endAt claimed clash clashing fixed phyPlaces placesFrom firstIn wiredDomain
     strip reach cabled neighbours unlooped joined joinedIn tableToTable linkedDomain
     once belowPhys below nextLevel levelsFrom levels flatMap

@@ -3,28 +3,32 @@
 use Prim.Native.Nat.{ℕ, zero, suc, _+_, _^_, _≤_, _<_}
 use mathlib.Core.Path.{_≡_, refl, sym, ap}
 use mathlib.Core.Logic.{_≢_, inl, ⊎-elim}
-use mathlib.Core.Bool.{Bool, true, false, not, _||_, _&&_}
+use mathlib.Core.Bool.{Bool, true, false, not, _&&_}
 use mathlib.Core.List.{List, [], _∷_, _++_}
 use native.Mathlib.Nat.{pow-suc}
 use native.Mathlib.Omega.{arith}
 use lib.ListN.{length, take, drop}
 use lib.Seq.{getD-drop}
 use lib.Dec.{eqb, leb}
-use borrow.Author.Tests.{eqb-true, eqb-false, leb-true, not-true}
+use borrow.Author.Tests.{ne-eqb, eqb-false, leb-true, not-true}
 use Rattle.frames.specs.Bytes.{byte, numberAt}
-use Rattle.frames.specs.Refusals.{Result, refused, good}
-use Rattle.frames.specs.ReportGeneral.{generalFixed, generalRead}
-use Rattle.frames.specs.Discovery.{Discovered, vacant, fields, discoverFixed, discoverFields, byResult, discoverRead}
+use Rattle.frames.specs.Refusals.{Result, refused, good, unless, then, refusal}
+use Rattle.frames.specs.Sizes.{frameSize, byItself}
+use Rattle.frames.specs.ReportGeneral.{generalFixed, generalIn, generalRead}
+use Rattle.frames.specs.Discovery.{Discovered, vacant, fields, discoverFixed, discoverFields, byResult, discoverIn, discoverRead}
 use Rattle.frames.specs.declared.General.{General}
 use Rattle.frames.specs.declared.Discover.{Discover}
+use Rattle.frames.specs.declared.Response.{Response}
+use Rattle.frames.specs.declared.Response.the-variants.{ReportGeneral, Discover as DiscoverResponse}
 use Rattle.wiring.specs.declared.Limits.{Limits}
 use Rattle.wiring.specs.declared.ExpanderUnit.{ExpanderUnit}
+use Rattle.wiring.specs.declared.PhyFields.{PhyFields}
 use Rattle.wiring.specs.declared.Phy.{Phy}
 use Rattle.wiring.specs.declared.Phy.the-variants.{Present}
 use Rattle.wiring.specs.Lists.{any, In, isIn, Distinct}
 use Rattle.wiring.specs.Domain.{Expander, Domain}
 use Rattle.wiring.specs.Read.{ReadPhy, ReadExpander, addresses, Read, Bytes, FitsPhy, FitsExpander, FitsDomain}
-use Rattle.wiring.specs.File.{Parsed, placed, fieldsOf, phyOf, phyUnit, phyUnits, expanderUnit, expanderOf, expanders, domainRead}
+use Rattle.wiring.specs.File.{Parsed, parsed, placed, sizeAt, frameAt, fieldsOf, ranged, phyOf, phyUnit, phyUnits, unitOf, unitTested, expanderUnit, expanderOf, expanders, headerUnit, domainRead}
 use Rattle.wiring.specs.Fill.{physGot, domainGot}
 use Rattle.wiring.proofs.Results.{Holds, held, weaker, unless-holds, then-holds, both}
 use Rattle.wiring.proofs.Members.{was-false, in-cast, all-cons, in-left, in-right, isIn-of}
@@ -48,6 +52,13 @@ number-fits s i (suc width) b =
     rw (pow-suc 256 width) (omega arith)
 
 -- one frame
+itself-holds : {A : Type 0} (P : A → Type 0) (kind : Response) (rest : List ℕ → Result A) (s : List ℕ) → Holds P (rest s) → Holds P (byItself kind rest s)
+itself-holds P kind rest s h = go (frameSize kind s)
+  where
+    go : (x : Result ℕ) → Holds P (then x (λ n. unless (eqb (length s) n) (refusal 1 0 0) (rest s)))
+    go (refused r) = tt
+    go (good n) = unless-holds P (eqb (length s) n) (refusal 1 0 0) (rest s) (λ _. h)
+
 record GeneralFacts (s : List ℕ) (g : General) : Type 0 where
   configurable : g .configurable ≤ 1
   indexes : Bytes s → g .indexes < 65536
@@ -56,7 +67,7 @@ record GeneralFacts (s : List ℕ) (g : General) : Type 0 where
 general-facts : (s : List ℕ) → Holds (GeneralFacts s) (generalRead s)
 unfolding generalRead
 general-facts s =
-    unless-holds (GeneralFacts s) (eqb (length s) 28) _ _ (λ _. unless-holds (GeneralFacts s) (generalFixed s) _ _ (λ _.
+    itself-holds (GeneralFacts s) ReportGeneral generalIn s (unless-holds (GeneralFacts s) (generalFixed s) _ _ (λ _.
     record { configurable = omega arith; indexes = λ b. number-fits s 6 2 b; phys = λ b. b 9 }))
 
 abbrev DiscoveredFacts : List ℕ → Discovered → Type 0
@@ -66,7 +77,7 @@ DiscoveredFacts s (fields f) = Bytes s → (f .attached < 2 ^ 64) × (f .far .0 
 discover-facts : (s : List ℕ) → Holds (DiscoveredFacts s) (discoverRead s)
 unfolding discoverRead
 discover-facts s =
-    unless-holds (DiscoveredFacts s) (eqb (length s) 52) _ _ (λ _. unless-holds (DiscoveredFacts s) (discoverFixed s) _ _ (λ _.
+    itself-holds (DiscoveredFacts s) DiscoverResponse discoverIn s (unless-holds (DiscoveredFacts s) (discoverFixed s) _ _ (λ _.
     go (eqb (byte s 2) 0) refl))
   where
     go : (b : Bool) → eqb (byte s 2) 0 ≡ b → DiscoveredFacts s (byResult b (byte s 2) (discoverFields s))
@@ -77,35 +88,60 @@ placed-holds : {A : Type 0} (P : A → Type 0) (i p : ℕ) (x : Result A) → Ho
 placed-holds P i p (refused r) h = tt
 placed-holds P i p (good a) h = h
 
+-- a frame in a file, of either size: what holds of it read by itself
+frame-holds : {A : Type 0} (P : A → Type 0) (kind : Response) (read : List ℕ → Result A) (file : List ℕ) (from : ℕ)
+    → ((n : ℕ) → Holds P (read (take n (drop from file)))) → Holds (λ f. P (f .value)) (frameAt kind read file from)
+frame-holds {A} P kind read file from h = go (sizeAt kind file from)
+  where
+    ends : (next : ℕ) (x : Result A) → Holds P x → Holds (λ f. P (f .value)) (then x (λ a. good (parsed a next)))
+    ends next (refused r) h = tt
+    ends next (good a) h = h
+
+    go : (x : Result ℕ) → Holds (λ f. P (f .value)) (then x (λ n. then (read (take n (drop from file))) (λ a. good (parsed a (from + n)))))
+    go (refused r) = tt
+    go (good n) = ends (from + n) (read (take n (drop from file))) (h n)
+
+general-at : (file : List ℕ) (from n : ℕ) → Holds (GeneralFacts file) (generalRead (take n (drop from file)))
+general-at file from n =
+    let s = take n (drop from file) in
+    weaker (GeneralFacts s) (GeneralFacts file) (generalRead s) (general-facts s) (λ g f.
+    record { configurable = f .configurable; indexes = λ b. f .indexes (part n from file b); phys = λ b. f .phys (part n from file b) })
+
+discover-at : (file : List ℕ) (from n : ℕ) → Holds (DiscoveredFacts file) (discoverRead (take n (drop from file)))
+discover-at file from n =
+    let s = take n (drop from file) in
+    weaker (DiscoveredFacts s) (DiscoveredFacts file) (discoverRead s) (discover-facts s) whole
+  where
+    whole : (f : Discovered) → DiscoveredFacts (take n (drop from file)) f → DiscoveredFacts file f
+    whole (vacant result) h = (h .0, λ b. h .1 (part n from file b))
+    whole (fields f) h = λ b. h (part n from file b)
+
 -- a phy
 record PhyFacts (s : List ℕ) (φ : Phy) : Type 0 where
   read : ReadPhy φ
   fits : Bytes s → FitsPhy φ
 
-fields-facts : (s : List ℕ) (f : Discover) (none : Bool) → eqb (f .device) 0 ≡ none → f .device ≤ 3 → f .attribute ≤ 2
-    → (eqb (f .device) 0 || not (eqb (f .attached) 0)) ≡ true → DiscoveredFacts s (fields f) → PhyFacts s (Present (fieldsOf none f))
-fields-facts s f true q h k a d = record {
-  read = record { device = h; attribute = k; borne = λ n _. n (eqb-true (f .device) 0 q); bare = λ _. (refl, refl) };
-  fits = λ b. (omega arith, omega arith);
-}
-fields-facts s f false q h k a d = record {
-  read = record {
-    device = h;
-    attribute = k;
-    borne = λ _. eqb-false (f .attached) 0 (not-true _ (rw q at a));
-    bare = λ e. absurd (eqb-false (f .device) 0 q e);
-  };
-  fits = d;
-}
+-- fields that cause 6 leaves
+ranged-facts : (f : PhyFields) → ranged f ≡ true → (f .device ≤ 3) × ((f .attribute ≤ 2) × (f .device ≢ 0 → f .address ≢ 0))
+ranged-facts f t =
+    let u = both (leb (f .device) 3) _ t in
+    let v = both (leb (f .attribute) 2) _ (u .1) in
+    (leb-true (f .device) 3 (u .0), (leb-true (f .attribute) 2 (v .0), λ n. eqb-false (f .address) 0 (not-true _ (rw (ne-eqb (f .device) 0 n) at (v .1)))))
+
+fields-facts : (s : List ℕ) (f : Discover) (none : Bool) → eqb (f .device) 0 ≡ none → ranged (fieldsOf none f) ≡ true → DiscoveredFacts s (fields f)
+    → PhyFacts s (Present (fieldsOf none f))
+fields-facts s f true q t d =
+    let r = ranged-facts (fieldsOf true f) t in
+    record { read = record { device = r .0; attribute = r .1 .0; borne = r .1 .1; bare = λ _. (refl, refl) }; fits = λ b. (omega arith, omega arith) }
+fields-facts s f false q t d =
+    let r = ranged-facts (fieldsOf false f) t in
+    record { read = record { device = r .0; attribute = r .1 .0; borne = r .1 .1; bare = λ e. absurd (eqb-false (f .device) 0 q e) }; fits = d }
 
 phyOf-facts : (s : List ℕ) (own i p : ℕ) (f : Discovered) → DiscoveredFacts s f → Holds (PhyFacts s) (phyOf own i p f)
 phyOf-facts s own i p (vacant result) h = record { read = h .0; fits = h .1 }
 phyOf-facts s own i p (fields f) h =
     unless-holds (PhyFacts s) (eqb (f .identifier .0) p && eqb (f .own) own) _ _ (λ _.
-    unless-holds (PhyFacts s) (leb (f .device) 3 && (leb (f .attribute) 2 && (eqb (f .device) 0 || not (eqb (f .attached) 0)))) _ _ (λ t.
-    let u = both (leb (f .device) 3) _ t in
-    let v = both (leb (f .attribute) 2) _ (u .1) in
-    fields-facts s f (eqb (f .device) 0) refl (leb-true (f .device) 3 (u .0)) (leb-true (f .attribute) 2 (v .0)) (v .1) h))
+    unless-holds (PhyFacts s) (ranged (fieldsOf (eqb (f .device) 0) f)) _ _ (λ t. fields-facts s f (eqb (f .device) 0) refl t h))
 
 module _ (file : List ℕ) where
   abbrev UnitFacts : Parsed Phy → Type 0
@@ -114,11 +150,10 @@ module _ (file : List ℕ) where
   phyUnit-facts : (own i p at : ℕ) → Holds UnitFacts (phyUnit file own i p at)
   unfolding phyUnit
   phyUnit-facts own i p at =
-      let s = take 52 (drop at file) in
-      unless-holds UnitFacts (leb (at + 52) (length file)) _ _ (λ _.
-      then-holds (DiscoveredFacts s) UnitFacts (placed i p (discoverRead s)) _ (placed-holds (DiscoveredFacts s) i p (discoverRead s) (discover-facts s)) (λ f _ d.
-      then-holds (PhyFacts s) UnitFacts (phyOf own i p f) _ (phyOf-facts s own i p f d) (λ φ _ g.
-      record { read = g .read; fits = λ b. g .fits (part 52 at file b) })))
+      let P : Parsed Discovered → Type 0 = λ f. DiscoveredFacts file (f .value) in
+      let x = frameAt DiscoverResponse discoverRead file at in
+      then-holds P UnitFacts (placed i p x) _ (placed-holds P i p x (frame-holds (DiscoveredFacts file) DiscoverResponse discoverRead file at (discover-at file at))) (λ f _ d.
+      then-holds (PhyFacts file) UnitFacts (phyOf own i p (f .value)) _ (phyOf-facts file own i p (f .value) d) (λ φ _ g. g))
 
   -- as many phys
   record PhysFacts (own i count p at : ℕ) (us : Parsed (List Phy)) : Type 0 where
@@ -150,24 +185,27 @@ module _ (most : Limits) (file : List ℕ) where
   unfolding expanderUnit isIn any
   expanderUnit-facts seen i at =
       let own = numberAt file at 8 in
-      let s = take 28 (drop (at + 8) file) in
       let P = ExpanderFacts most file seen i at in
-      unless-holds P (leb (at + 36) (length file)) _ _ (λ long.
-      then-holds (GeneralFacts s) P (placed i 0 (generalRead s)) _ (placed-holds (GeneralFacts s) i 0 (generalRead s) (general-facts s)) (λ g q f.
-      unless-holds P (leb 1 (g .phys) && leb (g .phys) (most .phys)) _ _ (λ three.
-      unless-holds P (not (eqb own 0) && not (isIn own seen)) _ _ (λ four.
-      let n = both (leb 1 (g .phys)) _ three in
+      let Q : Parsed General → Type 0 = λ g. GeneralFacts file (g .value) in
+      let x = frameAt ReportGeneral generalRead file (at + 8) in
+      then-holds Q P (placed i 0 x) _ (placed-holds Q i 0 x (frame-holds (GeneralFacts file) ReportGeneral generalRead file (at + 8) (general-at file (at + 8)))) (λ g q f.
+      let w = unitOf own (g .value) in
+      let R : ExpanderUnit → Type 0 = λ u. P (parsed u (g .next)) in
+      then-holds R P (unitTested most seen i w) _
+      (unless-holds R (leb 1 (w .phys) && leb (w .phys) (most .phys)) _ _ (λ three.
+      unless-holds R (not (eqb own 0) && not (isIn own seen)) _ _ (λ four.
+      let n = both (leb 1 (w .phys)) _ three in
       let o = both (not (eqb own 0)) _ four in
       let free = o .0 in
       record {
         borne = eqb-false own 0 (not-true _ (o .0));
         new = λ h. was-false (isIn own seen) (not-true _ (o .1)) (isIn-of own seen h);
         configurable = f .configurable;
-        some = leb-true 1 (g .phys) (n .0);
-        few = leb-true (g .phys) (most .phys) (n .1);
-        fits = λ b. let c = part 28 (at + 8) file b in (number-fits file at 8 b, (f .indexes c, f .phys c));
-        again = simp (long, q, three, free);
-      }))))
+        some = leb-true 1 (w .phys) (n .0);
+        few = leb-true (w .phys) (most .phys) (n .1);
+        fits = λ b. (number-fits file at 8 b, (f .indexes b, f .phys b));
+        again = simp (q, three, free);
+      }))) (λ u _ r. r))
 
   -- the expanders that follow those with the addresses in `seen`
   record RestFacts (seen : List ℕ) (count i at : ℕ) (d : Domain) : Type 0 where
@@ -208,6 +246,22 @@ module _ (most : Limits) (file : List ℕ) where
         again = simp (x .again, y .again, z .again);
       })))
 
+  -- the count of expanders
+  record HeaderFacts (n : ℕ) : Type 0 where
+    some : 1 ≤ n
+    few : n ≤ most .expanders
+    fits : Bytes file → n < 256
+
+  header-facts : Holds HeaderFacts (headerUnit most file)
+  unfolding headerUnit
+  header-facts =
+      let n = byte file 1 in
+      unless-holds HeaderFacts (leb 2 (length file)) _ _ (λ _.
+      unless-holds HeaderFacts (eqb (byte file 0) 0x10) _ _ (λ _.
+      unless-holds HeaderFacts (leb 1 n && leb n (most .expanders)) _ _ (λ three.
+      let k = both (leb 1 n) _ three in
+      record { some = leb-true 1 n (k .0); few = leb-true n (most .expanders) (k .1); fits = λ b. b 1 })))
+
   -- all that is known of the domain of a file
   record FileFacts (d : Domain) : Type 0 where
     read : Read most d
@@ -217,24 +271,14 @@ module _ (most : Limits) (file : List ℕ) where
   file-facts : Holds FileFacts (domainRead most file)
   unfolding domainRead
   file-facts =
-      let n = byte file 1 in
-      let all : Result Domain = expanders most file n 0 2 [] in
-      unless-holds FileFacts (leb 2 (length file)) _ _ (λ _.
-      unless-holds FileFacts (eqb (byte file 0) 0x10) _ _ (λ _.
-      unless-holds FileFacts (leb 1 n && leb n (most .expanders)) _ all (λ three.
-      weaker (RestFacts [] n 0 2) FileFacts all (expanders-facts n 0 2 []) (λ d r.
-      let k = both (leb 1 n) _ three in
+      then-holds HeaderFacts FileFacts (headerUnit most file) _ header-facts (λ n _ k.
+      weaker (RestFacts [] n 0 2) FileFacts (expanders most file n 0 2 []) (expanders-facts n 0 2 []) (λ d r.
       let e = r .size in
       record {
-        read = record {
-          some = omega (arith, leb-true 1 n (k .0));
-          few = omega (arith, leb-true n (most .expanders) (k .1));
-          differ = r .differ;
-          each = r .each;
-        };
-        fits = λ b. record { count = omega (arith, b 1); each = r .fits b };
+        read = record { some = omega (arith, k .some); few = omega (arith, k .few); differ = r .differ; each = r .each };
+        fits = λ b. record { count = omega (arith, k .fits b); each = r .fits b };
         again = rw (r .size) (r .again);
-      }))))
+      }))
 
   -- what a file reads as, causes 1 to 6 leave
   pub read-good : (d : Domain) → domainRead most file ≡ good d → Read most d

@@ -2,6 +2,7 @@ pub mod Frames
 pub mod Lists
 pub mod Domain
 pub mod File
+pub mod ShortFile
 pub mod Read
 pub mod Units
 pub mod Rows
