@@ -1,6 +1,6 @@
 -- A file and its short file read to the same result: by induction over the definitions of the file, with an offset in each; the short
 -- file has from its offset on what the definition makes of the file from the other on.
-use Prim.Native.Nat.{ℕ, zero, suc, _+_, _-_, _≤_, _<_}
+use Prim.Native.Nat.{ℕ, zero, suc, _+_, _-_, _*_, _≤_, _<_}
 use mathlib.Core.Path.{_≡_, refl, sym, _∙_, ap}
 use mathlib.Core.Bool.{Bool, true, false, _&&_}
 use mathlib.Core.List.{List, [], _∷_, _++_}
@@ -27,7 +27,7 @@ use Rattle.wiring.specs.File.{limits, Parsed, parsed, placed, sizeAt, fr
 use Rattle.wiring.specs.Units.{endsAt}
 use Rattle.wiring.specs.Neighbours.{wiringCall}
 use Rattle.wiring.specs.ShortFile.{orStay, shortPhys, shortExpanders, shortFile}
-use Rattle.wiring.proofs.Results.{never, good-one}
+use Rattle.wiring.proofs.Results.{never, good-one, then-good}
 use Rattle.wiring.proofs.Reading.{size-whole, size-within, unitAt, unit-cut, unit-by}
 
 -- the size of a frame depends on the bytes from its offset on
@@ -295,3 +295,76 @@ short-file most file = go (headerUnit most file) refl
 pub short-wiring : (file : List ℕ) (room : ℕ) → wiringCall (shortFile limits file) room ≡ wiringCall file room
 unfolding wiringCall
 short-wiring file room = rw (short-file limits file)
+
+-- every frame of a short file is short: it ends with the bytes of its short units
+abbrev pub shortBytes : Domain → ℕ
+shortBytes [] = 0
+shortBytes (e ∷ d) = 36 + 52 * length (e .phys) + shortBytes d
+
+module _ {A B : Type 0} (kind : Response) (read : List ℕ → Result A) (test : A → Result B) (i p : ℕ) (file : List ℕ) (a : ℕ) where
+  frame-short : (u : Parsed B) → unitAt kind read test i p file a ≡ good u → length (shortFrame kind (drop a file)) ≡ shortSize kind
+  frame-short u e = go (sizeAt kind file a) refl
+    where
+      go : (x : Result ℕ) → sizeAt kind file a ≡ x → length (shortFrame kind (drop a file)) ≡ shortSize kind
+      go (refused q) f = never (refusal (q .number) i p) u (sym (unit-cut kind read test i p file a q f) ∙ e)
+      go (good n) f = let w = size-whole kind file a n f in short-length kind (drop a file) n (w .size) (w .bytes)
+
+phys-bytes : (file : List ℕ) (own i : ℕ) (rest : ℕ → List ℕ) (count p a : ℕ) (us : Parsed (List Phy)) → phyUnits file own i count p a ≡ good us
+    → length (shortPhys file own i count p a rest) ≡ 52 * length (us .value) + length (rest (us .next))
+unfolding phyUnits shortPhys phyUnit
+phys-bytes file own i rest zero p a us e = rw (← good-one (parsed [] a) us e) (omega arith)
+phys-bytes file own i rest (suc count) p a us e =
+    let one = then-good (unitAt Discover discoverRead (phyOf own i p) i p file a) _ us e in
+    let u = one .0 in
+    let more = then-good (phyUnits file own i count (p + 1) (u .next)) _ us (one .2) in
+    let tail = more .0 in
+    let q = good-one (parsed (u .value ∷ tail .value) (tail .next)) us (more .2) in
+    let l = frame-short Discover discoverRead (phyOf own i p) i p file a u (one .1) in
+    let h = phys-bytes file own i rest count (p + 1) (u .next) tail (more .1) in
+    let v : length (us .value) ≡ suc (length (tail .value)) = sym (ap (λ (w : Parsed (List Phy)). length (w .value)) q) in
+    let n : length (rest (us .next)) ≡ length (rest (tail .next)) = sym (ap (λ (w : Parsed (List Phy)). length (rest (w .next))) q) in
+    ap (λ x. length (orStay (drop a file) x (λ w. shortFrame Discover (drop a file) ++ shortPhys file own i count (p + 1) (w .next) rest))) (one .1)
+    ∙ length-append (shortFrame Discover (drop a file)) (shortPhys file own i count (p + 1) (u .next) rest) ∙ omega arith
+
+rest-bytes : (most : Limits) (file : List ℕ) (count i a : ℕ) (seen : List ℕ) (d : Domain) → expanders most file count i a seen ≡ good d
+    → length (shortExpanders most file count i a seen) ≡ shortBytes d
+unfolding expanders shortExpanders expanderUnit
+rest-bytes most file zero i a seen d e = ends (eqb a (length file)) refl e
+  where
+    ends : (b : Bool) → eqb a (length file) ≡ b → unless b (refusal 1 i 0) (good []) ≡ good d → length (drop a file) ≡ shortBytes d
+    ends true q e = let l = length-drop a file in let h = eqb-true a (length file) q in rw (← good-one [] d e) (omega arith)
+    ends false q e = never (refusal 1 i 0) d e
+rest-bytes most file (suc count) i a seen d e =
+    let own = numberAt file a 8 in
+    let one = then-good (unitAt ReportGeneral generalRead (λ g. unitTested most seen i (unitOf own g)) i 0 file (a + 8)) _ d e in
+    let u = one .0 in
+    let s = u .value .address in
+    let phys = then-good (phyUnits file s i (u .value .phys) 0 (u .next)) _ d (one .2) in
+    let φs = phys .0 in
+    let rest : ℕ → List ℕ = λ next. shortExpanders most file count (i + 1) next (seen ++ (s ∷ [])) in
+    let more = then-good (expanders most file count (i + 1) (φs .next) (seen ++ (s ∷ []))) _ d (phys .2) in
+    let tail = more .0 in
+    let q = good-one (expanderOf (u .value) (φs .value) ∷ tail) d (more .2) in
+    let l = frame-short ReportGeneral generalRead (λ g. unitTested most seen i (unitOf own g)) i 0 file (a + 8) u (one .1) in
+    let h = phys-bytes file s i rest (u .value .phys) 0 (u .next) φs (phys .1) in
+    let k = rest-bytes most file count (i + 1) (φs .next) (seen ++ (s ∷ [])) tail (more .1) in
+    let b = address-there most file [] seen i a 0 u (one .1) in
+    let n = length-drop a file in
+    let m : length (take 8 (drop a file)) ≡ 8 = length-take-le 8 (drop a file) (omega arith) in
+    let v : shortBytes d ≡ 36 + 52 * length (φs .value) + shortBytes tail = sym (ap shortBytes q) in
+    let frame = shortFrame ReportGeneral (drop (a + 8) file) in
+    let after = shortPhys file s i (u .value .phys) 0 (u .next) rest in
+    ap (λ x. length (orStay (drop a file) x (λ w. take 8 (drop a file) ++ (frame
+    ++ shortPhys file (w .value .address) i (w .value .phys) 0 (w .next) (λ next. shortExpanders most file count (i + 1) next (seen ++ (w .value .address ∷ []))))))) (one .1)
+    ∙ length-append (take 8 (drop a file)) (frame ++ after) ∙ ap (λ (k : ℕ). length (take 8 (drop a file)) + k) (length-append frame after) ∙ omega arith
+
+pub short-file-bytes : (most : Limits) (file : List ℕ) (d : Domain) → domainRead most file ≡ good d → length (shortFile most file) ≡ 2 + shortBytes d
+unfolding domainRead shortFile
+short-file-bytes most file d e =
+    let head = then-good (headerUnit most file) _ d e in
+    let n = head .0 in
+    let h = header-there most file [] n (head .1) in
+    let l = length-take-le 2 file h in
+    let k = rest-bytes most file n 0 2 [] d (head .2) in
+    ap (λ x. length (orStay file x (λ m. take 2 file ++ shortExpanders most file m 0 2 []))) (head .1)
+    ∙ length-append (take 2 file) (shortExpanders most file n 0 2 []) ∙ omega arith

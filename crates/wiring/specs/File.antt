@@ -59,7 +59,7 @@ abbrev pub fieldsOf : Bool → Discover → PhyFields
 fieldsOf true f = record { device = f .device; attribute = f .attribute; address = 0; far = record { 0 = 0 } }
 fieldsOf false f = record { device = f .device; attribute = f .attribute; address = f .attached; far = f .far }
 
--- 6, of a phy's fields: type above 3, attribute above 2, or attached with address zero
+-- what cause 6 leaves of a phy's fields: type up to 3, attribute up to 2, and not attached with address zero
 abbrev pub ranged : PhyFields → Bool
 ranged f = leb (f .device) 3 && (leb (f .attribute) 2 && (eqb (f .device) 0 || not (eqb (f .address) 0)))
 
@@ -90,15 +90,15 @@ phyUnits file own i (suc count) p at =
 abbrev pub unitOf : ℕ → General → ExpanderUnit
 unitOf own g = record { address = own; indexes = g .indexes; phys = g .phys; configurable = g .configurable }
 
--- of an expander's fields, where `seen` are the addresses of the expanders before it: 3, phy count outside its range; 4, address zero
--- or already used
+-- 3 and 4, of an expander's fields, where `seen` are the addresses of the expanders before it: phy count outside its range; address
+-- zero or already used
 abbrev pub unitTested : Limits → List ℕ → ℕ → ExpanderUnit → Result ExpanderUnit
 unitTested most seen i u =
     unless (leb 1 (u .phys) && leb (u .phys) (most .phys)) (refusal 3 i 0)
     (unless (not (eqb (u .address) 0) && not (isIn (u .address) seen)) (refusal 4 i 0)
     (good u))
 
--- the unit of expander i at offset `at`: its address and its frame, which starts eight bytes on
+-- the unit of expander i at offset `at`: its address, and its frame from the byte after that on
 unfoldable pub expanderUnit : Limits → List ℕ → List ℕ → ℕ → ℕ → Result (Parsed ExpanderUnit)
 expanderUnit most file seen i at =
     then (placed i 0 (frameAt ReportGeneral generalRead file (at + 8))) (λ g.

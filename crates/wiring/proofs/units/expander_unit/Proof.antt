@@ -116,7 +116,8 @@ returns-4 c =
     let m = g .before .before .before in
     let f = m .before .before in
     let q = simp add-sub-cancel-left at (sym (g .read-general .ensures) ∙ ap generalAnswer (x .frame2 .given .1)) in
-    let a = f .before .before .before .before .before .before .args in
+    let k = f .before .before .before .before .before in
+    let a = k .before .args in
     c .test-unit .ensures ∙ ap (λ u. then (unitTested (a .most) (a .seen .now) (a .i .0) u) (endsAt (a .at + 8 + m .size2 .given .0 .0))) (c .before .unit-of .ensures)
     ∙ sym (expander-unit-by _ _ _ _ _ _ (sym (f .before .address-at .ensures)) _ _ (sym (f .size-at .ensures) ∙ ap sizeAnswer (m .size2 .given .1)) q)
 
