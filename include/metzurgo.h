@@ -33,6 +33,13 @@ extern "C" {
 #define METZURGO_REFUSED ((uint64_t)1 << 63)
 /* Bit 62: set in the answer of metzurgo_read_discover for a vacant phy. */
 #define METZURGO_VACANT ((uint64_t)1 << 62)
+/*
+ * Bits of the answer of metzurgo_read_general_sas2: a long frame, and in one
+ * TABLE TO TABLE SUPPORTED and CONFIGURES OTHERS.
+ */
+#define METZURGO_LONG ((uint64_t)1 << 34)
+#define METZURGO_TABLE_TO_TABLE ((uint64_t)1 << 33)
+#define METZURGO_CONFIGURES_OTHERS ((uint64_t)1 << 32)
 
 /* The parts of a refusal. */
 #define METZURGO_NUMBER(answer) ((unsigned)((answer) >> 16 & 0xff))
@@ -114,17 +121,28 @@ uint64_t metzurgo_read_route(const uint8_t *frame, size_t len);
 uint64_t metzurgo_read_route_entry(const uint8_t *frame, size_t len);
 
 /*
- * Reads a REPORT GENERAL response by itself. Refuses any length but 28 (1) and
- * wrong bytes 0 to 3 (2).
+ * Reads a REPORT GENERAL response by itself, short (byte 3, RESPONSE LENGTH,
+ * 00h: 28 bytes) or long (10h: 68 bytes). Refuses fewer than four bytes (1),
+ * any other byte 3 (2), any length but that of the size found (1), then wrong
+ * bytes 0 to 2 (2).
  * Answer: route indexes * 65536 + number of phys * 256 + configurable bit.
  */
 uint64_t metzurgo_read_general(const uint8_t *frame, size_t len);
 
 /*
- * Reads a DISCOVER response by itself. Refuses any length but 52 (1) and wrong
- * bytes 0, 1 and 3 (2). Answer: 2^62 + result where the result is not zero
- * (vacant phy), else phy identifier * 2^32 + attached device type * 2^24 +
- * routing attribute * 2^16 + attached phy identifier.
+ * Reads the same response as SAS-2 has it, and refuses alike. Answer: that of
+ * metzurgo_read_general; for a long frame + 2^34 + TABLE TO TABLE SUPPORTED *
+ * 2^33 + CONFIGURES OTHERS * 2^32.
+ */
+uint64_t metzurgo_read_general_sas2(const uint8_t *frame, size_t len);
+
+/*
+ * Reads a DISCOVER response by itself, short (byte 3, RESPONSE LENGTH, 00h: 52
+ * bytes) or long (0Fh: 64 bytes). Refuses fewer than four bytes (1), any other
+ * byte 3 (2), any length but that of the size found (1), then wrong bytes 0 and
+ * 1 (2). Answer: 2^62 + result where the result is not zero (vacant phy), else
+ * phy identifier * 2^32 + attached device type * 2^24 + routing attribute *
+ * 2^16 + attached phy identifier.
  */
 uint64_t metzurgo_read_discover(const uint8_t *frame, size_t len);
 

@@ -18,13 +18,15 @@ FORM = """\
 the lines of a text (docs/RIG-TEXT.md describes them; # starts a comment):
 
   drive NAME ADDRESS
-  expander NAME ADDRESS [R NUMBER] [configurable] [fanout]
-  phy NUMBER ATTRIBUTE [to NAME.PHY | to DRIVE | empty]
-  phy NUMBER vacant [RESULT]
+  expander NAME ADDRESS [R NUMBER] [configurable] [fanout] [long]
+  phy NUMBER ATTRIBUTE [to NAME.PHY | to DRIVE | empty] [long]
+  phy NUMBER vacant [RESULT] [long]
 
 An attribute is direct, subtractive or table. What stands after an expander's
 address or a phy's number may stand in any order. A cable between expanders may be
-named at one end or at both. FIRST-LAST in place of a phy number means several.
+named at one end or at both. FIRST-LAST in place of a phy number means several. On
+an expander's line long makes its REPORT GENERAL response a long one, on a phy's
+line its DISCOVER response.
 
 lines that alter the file after it is laid out, for files that are to be refused:
 
@@ -40,16 +42,21 @@ END_DEVICE, EDGE_EXPANDER, FANOUT_EXPANDER = 1, 2, 3
 VACANT = 0x16  # the SMP function result PHY VACANT
 MOST = 255  # expanders and phys: their counts are one byte
 NAME = r"[A-Za-z][A-Za-z0-9_-]*"
-EXPANDER_FORM = "an expander line is: expander NAME ADDRESS [R NUMBER] [configurable] [fanout]"
+EXPANDER_FORM = (
+    "an expander line is: expander NAME ADDRESS [R NUMBER] [configurable] [fanout] [long]"
+)
 PHY_FORM = (
-    "a phy line is: phy NUMBER ATTRIBUTE [to NAME.PHY | to DRIVE | empty],"
-    " or: phy NUMBER vacant [RESULT]"
+    "a phy line is: phy NUMBER ATTRIBUTE [to NAME.PHY | to DRIVE | empty] [long],"
+    " or: phy NUMBER vacant [RESULT] [long]"
 )
 
 # The fixed bytes of each unit, by the words of a set line.
 HEADER_FIXED = {"byte 0": 0x10}
 EXPANDER_FIXED = {"byte 0": 0x41, "byte 1": 0x00, "byte 2": 0x00, "byte 3": 0x00}
 PHY_FIXED = {"byte 0": 0x41, "byte 1": 0x10, "byte 3": 0x00}
+
+# Byte 3, RESPONSE LENGTH, of a long frame.
+LONG_EXPANDER, LONG_PHY = 0x10, 0x0F
 
 # What a set line can set, and the highest value (None: an address).
 HEADER_SET = {**dict.fromkeys(HEADER_FIXED, 255), "count": 255}
@@ -63,6 +70,24 @@ PHY_SET = {
     "attached": None,
     "attached-phy": 255,
 }
+
+
+def expander_fixed(long):
+    return {**EXPANDER_FIXED, "byte 3": LONG_EXPANDER} if long else EXPANDER_FIXED
+
+
+def phy_fixed(long):
+    return {**PHY_FIXED, "byte 3": LONG_PHY} if long else PHY_FIXED
+
+
+def expander_size(long):
+    """The bytes of an address and a REPORT GENERAL response."""
+    return 8 + (68 if long else 28)
+
+
+def phy_size(long):
+    """The bytes of a DISCOVER response."""
+    return 64 if long else 52
 
 
 class TextError(Exception):
@@ -92,9 +117,11 @@ class Drive:
 
 
 class Expander:
-    def __init__(self, name, address, indexes=0, configurable=False, fanout=False, line=0):
+    def __init__(
+        self, name, address, indexes=0, configurable=False, fanout=False, long=False, line=0
+    ):
         self.name, self.address, self.line = name, address, line
-        self.indexes, self.configurable = indexes, configurable
+        self.indexes, self.configurable, self.long = indexes, configurable, long
         self.type = FANOUT_EXPANDER if fanout else EDGE_EXPANDER
         self.phys = []
         self.set = {}
@@ -105,7 +132,8 @@ class Expander:
 
     def fields(self):
         return {
-            **EXPANDER_FIXED,
+            **expander_fixed(self.long),
+            "long": self.long,
             "address": self.address,
             "indexes": self.indexes,
             "phys": len(self.phys),
@@ -115,9 +143,9 @@ class Expander:
 
 
 class Phy:
-    def __init__(self, expander, number, attribute=0, result=0, line=0):
+    def __init__(self, expander, number, attribute=0, result=0, long=False, line=0):
         self.expander, self.number, self.line = expander, number, line
-        self.attribute, self.result = attribute, result
+        self.attribute, self.result, self.long = attribute, result, long
         # What its own line says: None, "empty", or a drive or expander and its phy.
         self.named = None
         # What is attached, as far as ordinary lines say: None, or device and phy.
@@ -129,7 +157,8 @@ class Phy:
 
     def fields(self):
         fields = {
-            **PHY_FIXED,
+            **phy_fixed(self.long),
+            "long": self.long,
             "result": self.result,
             "identifier": self.number,
             "type": 0,
@@ -160,7 +189,10 @@ class Rig:
 
     def length(self):
         """The length of the file before it is cut."""
-        return 2 + sum(36 + 52 * len(expander.phys) for expander in self.expanders)
+        return 2 + sum(
+            expander_size(expander.long) + sum(phy_size(phy.long) for phy in expander.phys)
+            for expander in self.expanders
+        )
 
     def laid_out(self):
         """The file before it is cut."""
@@ -183,7 +215,7 @@ def header_unit(fields):
 
 def expander_unit(fields):
     """The address and a REPORT GENERAL response; ignored bytes are zero."""
-    unit = bytearray(36)
+    unit = bytearray(expander_size(fields["long"]))
     unit[0:8] = fields["address"].to_bytes(8, "big")
     for number in range(4):
         unit[8 + number] = fields[f"byte {number}"]
@@ -195,7 +227,7 @@ def expander_unit(fields):
 
 def phy_unit(fields):
     """A DISCOVER response; ignored bytes are zero."""
-    unit = bytearray(52)
+    unit = bytearray(phy_size(fields["long"]))
     for number in (0, 1, 3):
         unit[number] = fields[f"byte {number}"]
     unit[2] = fields["result"]
@@ -213,6 +245,7 @@ def phy_unit(fields):
 def expander_read(unit):
     return {
         **{f"byte {number}": unit[8 + number] for number in range(4)},
+        "long": len(unit) == expander_size(True),
         "address": int.from_bytes(unit[0:8], "big"),
         "indexes": int.from_bytes(unit[14:16], "big"),
         "phys": unit[17],
@@ -223,6 +256,7 @@ def expander_read(unit):
 def phy_read(unit):
     return {
         **{f"byte {number}": unit[number] for number in (0, 1, 3)},
+        "long": len(unit) == phy_size(True),
         "result": unit[2],
         "identifier": unit[9],
         "type": unit[12] >> 4 & 7,
@@ -363,11 +397,11 @@ class Reader:
         given = {}
         rest = iter(words)
         for word in rest:
-            known = word in ("R", "configurable", "fanout") and word not in given
+            known = word in ("R", "configurable", "fanout", "long") and word not in given
             given[word] = next(rest, None) if word == "R" else word
             if not known or given[word] is None:
                 raise TextError(line, EXPANDER_FORM)
-        expander.configurable = "configurable" in given
+        expander.configurable, expander.long = "configurable" in given, "long" in given
         expander.type = FANOUT_EXPANDER if "fanout" in given else EDGE_EXPANDER
         expander.indexes = number(line, given.get("R", "0"), 0, 65535, "R")
 
@@ -389,7 +423,17 @@ class Reader:
             )
 
     def attribute(self, line, phys, words):
-        """The attribute of phys and what they are cabled to, or that they are vacant."""
+        """The attribute of phys and what they are cabled to, or that they are vacant.
+
+        One word may be long; after "to" it is a name.
+        """
+        before = [None] + words
+        longs = [at for at, word in enumerate(words) if word == "long" and before[at] != "to"]
+        if len(longs) > 1:
+            raise TextError(line, PHY_FORM)
+        words = [word for at, word in enumerate(words) if at not in longs]
+        for phy in phys:
+            phy.long = bool(longs)
         if words[:1] == ["to"]:
             words = words[2:] + words[:2]
         elif words[:1] == ["empty"]:
@@ -588,9 +632,9 @@ def read_file(file):
     head = file[:2] + bytes([0x10, 0])[len(file[:2]) :]
     at = len(file[:2])
 
-    def take(size, default, read, laid_out, fixed):
+    def take(default, read, laid_out, fixed):
         nonlocal at
-        present = file[at : at + size]
+        present = file[at : at + len(default)]
         if not present:
             return None
         fields = read(present + default[len(present) :])
@@ -603,18 +647,24 @@ def read_file(file):
         return fields
 
     while len(rig.expanders) < head[1]:
-        default = expander_unit(Expander("", 0).fields())
-        found = take(36, default, expander_read, expander_unit, EXPANDER_FIXED)
+        long = file[at + 11 : at + 12] == bytes([LONG_EXPANDER])
+        default = expander_unit(Expander("", 0, long=long).fields())
+        found = take(default, expander_read, expander_unit, expander_fixed(long))
         if not found:
             break
         expander = Expander(
-            f"E{len(rig.expanders)}", found["address"], found["indexes"], found["configurable"]
+            f"E{len(rig.expanders)}",
+            found["address"],
+            found["indexes"],
+            found["configurable"],
+            long=long,
         )
         rig.expanders.append(expander)
         while len(expander.phys) < found["phys"]:
             result = file[at + 2] if at + 2 < len(file) else 0
-            phy = Phy(expander, len(expander.phys), result=result)
-            phy.found = take(52, phy_unit(phy.fields()), phy_read, phy_unit, PHY_FIXED)
+            long = file[at + 3 : at + 4] == bytes([LONG_PHY])
+            phy = Phy(expander, len(expander.phys), result=result, long=long)
+            phy.found = take(phy_unit(phy.fields()), phy_read, phy_unit, phy_fixed(long))
             if not phy.found:
                 break
             expander.phys.append(phy)
@@ -700,6 +750,7 @@ def rig_text(rig):
         line = f"expander {expander.name} {expander.address:016x} R {expander.indexes}"
         line += " configurable" if expander.configurable else ""
         line += " fanout" if expander.type == FANOUT_EXPANDER else ""
+        line += " long" if expander.long else ""
         lines.append(line)
         lines += set_lines("  ", expander.name, expander.set)
         for phy in expander.phys:
@@ -711,7 +762,7 @@ def rig_text(rig):
                 device, number = phy.attached
                 dot = "" if isinstance(device, Drive) and number == 0 else f".{number}"
                 what = f"{ATTRIBUTES[phy.attribute]} to {device.name}{dot}"
-            lines.append(f"  phy {phy.number} {what}")
+            lines.append(f"  phy {phy.number} {what}" + (" long" if phy.long else ""))
             lines += set_lines("  ", str(phy), phy.set)
     if rig.cut is not None:
         lines.append(f"cut {rig.cut}")

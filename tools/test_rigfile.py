@@ -29,6 +29,13 @@ phy 1 direct to B1
 phy 2 direct empty
 """
 
+# With three frames long.
+LONG = (
+    PAIR.replace("R 4 configurable", "R 4 configurable long")
+    .replace("to bottom.0", "to bottom.0 long")
+    .replace("empty", "empty long")
+)
+
 TOP = "expander top 5000000000000010\n"
 TWO = TOP + "phy 0 table\nexpander low 5000000000000020\nphy 0 subtractive\n"
 
@@ -66,17 +73,22 @@ ERRORS = [
     (
         "expander top",
         "line 1: an expander line is:"
-        " expander NAME ADDRESS [R NUMBER] [configurable] [fanout]",
+        " expander NAME ADDRESS [R NUMBER] [configurable] [fanout] [long]",
     ),
     (
         "expander top 5000000000000010 R",
         "line 1: an expander line is:"
-        " expander NAME ADDRESS [R NUMBER] [configurable] [fanout]",
+        " expander NAME ADDRESS [R NUMBER] [configurable] [fanout] [long]",
+    ),
+    (
+        "expander top 5000000000000010 long R 4 long",
+        "line 1: an expander line is:"
+        " expander NAME ADDRESS [R NUMBER] [configurable] [fanout] [long]",
     ),
     (
         "expander top 5000000000000010 fanout R 4 fanout",
         "line 1: an expander line is:"
-        " expander NAME ADDRESS [R NUMBER] [configurable] [fanout]",
+        " expander NAME ADDRESS [R NUMBER] [configurable] [fanout] [long]",
     ),
     ("expander top 5000000000000010 R x4", 'line 1: "x4" is not a number (R)'),
     ("expander top 5000000000000010 R -4", 'line 1: "-4" is not a number (R)'),
@@ -89,23 +101,28 @@ ERRORS = [
     ("phy 0 direct\n" + TOP, "line 1: a phy line comes after the line of its expander"),
     (
         TOP + "phy",
-        "line 2: a phy line is: phy NUMBER ATTRIBUTE [to NAME.PHY | to DRIVE | empty],"
-        " or: phy NUMBER vacant [RESULT]",
+        "line 2: a phy line is: phy NUMBER ATTRIBUTE [to NAME.PHY | to DRIVE | empty] [long],"
+        " or: phy NUMBER vacant [RESULT] [long]",
     ),
     (
         TOP + "phy 0",
-        "line 2: a phy line is: phy NUMBER ATTRIBUTE [to NAME.PHY | to DRIVE | empty],"
-        " or: phy NUMBER vacant [RESULT]",
+        "line 2: a phy line is: phy NUMBER ATTRIBUTE [to NAME.PHY | to DRIVE | empty] [long],"
+        " or: phy NUMBER vacant [RESULT] [long]",
+    ),
+    (
+        TOP + "phy 0 long table long",
+        "line 2: a phy line is: phy NUMBER ATTRIBUTE [to NAME.PHY | to DRIVE | empty] [long],"
+        " or: phy NUMBER vacant [RESULT] [long]",
     ),
     (
         TOP + "phy 0 table top.0",
-        "line 2: a phy line is: phy NUMBER ATTRIBUTE [to NAME.PHY | to DRIVE | empty],"
-        " or: phy NUMBER vacant [RESULT]",
+        "line 2: a phy line is: phy NUMBER ATTRIBUTE [to NAME.PHY | to DRIVE | empty] [long],"
+        " or: phy NUMBER vacant [RESULT] [long]",
     ),
     (
         TOP + "phy 0 vacant 16h empty",
-        "line 2: a phy line is: phy NUMBER ATTRIBUTE [to NAME.PHY | to DRIVE | empty],"
-        " or: phy NUMBER vacant [RESULT]",
+        "line 2: a phy line is: phy NUMBER ATTRIBUTE [to NAME.PHY | to DRIVE | empty] [long],"
+        " or: phy NUMBER vacant [RESULT] [long]",
     ),
     (TOP + "phy 0 direct\nphy 2 direct", "line 3: the next phy of top is 1, not 2"),
     (TOP + "phy 0 direct\nphy 0 direct", "line 3: the next phy of top is 1, not 0"),
@@ -264,7 +281,7 @@ class Errors(unittest.TestCase):
                 'line 1: "a1" is not an address (16 hexadecimal digits)',
                 'line 2: "1top" is not a name (a letter, then letters, digits, - or _)',
                 "line 2: an expander line is:"
-                " expander NAME ADDRESS [R NUMBER] [configurable] [fanout]",
+                " expander NAME ADDRESS [R NUMBER] [configurable] [fanout] [long]",
                 'line 2: "10" is not an address (16 hexadecimal digits)',
                 'line 3: "tabel" is not a routing attribute (direct, subtractive, table) or vacant',
                 "line 4: the next phy of 1top is 1, not 2",
@@ -372,6 +389,32 @@ class Built(unittest.TestCase):
         self.assertIn("phy 0 to bottom.0 table\n", other)
         self.assertEqual(self.pair, rigfile.build(other))
 
+    def test_long_frames(self):
+        file = rigfile.build(LONG)
+        self.assertEqual(398, len(file))
+        self.assertEqual([0x10, 0x0F, 0x00, 0x00], [file[at + 3] for at in (10, 78, 142, 202)])
+        # Cut to their short frames, the bytes are those of the pair rig.
+        short = bytearray(file[:38] + file[78:130] + file[142:386])
+        for at in (13, 41, 285):
+            short[at] = 0
+        self.assertEqual(self.pair, bytes(short))
+        for other in [
+            LONG.replace("R 4 configurable long", "long R 4 configurable"),
+            LONG.replace("table to bottom.0 long", "long table to bottom.0"),
+            LONG.replace("table to bottom.0 long", "to bottom.0 long table"),
+            LONG.replace("direct empty long", "long empty direct"),
+        ]:
+            self.assertNotEqual(LONG, other)
+            self.assertEqual(file, rigfile.build(other))
+        file = rigfile.build(TOP + "phy 0 vacant long\nphy 1 vacant 80h long\nphy 2-3 direct long")
+        self.assertEqual(38 + 4 * 64, len(file))
+        self.assertEqual(bytes([0x41, 0x10, 0x16, 0x0F]) + bytes(60), file[38:102])
+        self.assertEqual(bytes([0x41, 0x10, 0x80, 0x0F]) + bytes(60), file[102:166])
+        # After "to", long is a name.
+        name = "drive long 50000000000000c1\n" + TOP + "phy 0 direct to long"
+        self.assertEqual(90, len(rigfile.build(name)))
+        self.assertEqual(102, len(rigfile.build(name + " long")))
+
     def test_ranges(self):
         wide = TOP + "phy 0-1 table to low.2-3\nexpander low 5000000000000020\nphy 0-3 subtractive"
         single = (
@@ -439,6 +482,19 @@ class Printed(unittest.TestCase):
         whole = rigfile.build(PAIR) + bytes(60)
         for length in range(len(whole) + 1):
             self.again(whole[:length])
+
+    def test_long_frames(self):
+        text = self.again(rigfile.build(LONG))
+        self.assertIn("R 4 configurable long\n", text)
+        self.assertIn("phy 0 table to E1.0 long\n", text)
+        self.assertIn("phy 1 direct to D0\n", text)
+        self.again(rigfile.build(TOP + "phy 0 vacant long"))
+        whole = rigfile.build(LONG) + bytes(70)
+        for length in range(len(whole) + 1):
+            self.again(whole[:length])
+        for line in ["set top byte 3 0fh", "set bottom.2 byte 3 10h", "set bottom.2 byte 3 0"]:
+            with self.subTest(line=line):
+                self.again(rigfile.build(LONG + line))
 
     def test_every_changed_byte_that_is_not_ignored(self):
         pair = rigfile.build(PAIR)

@@ -71,6 +71,8 @@ static void empty_slices(void)
     expect("read_route, no frame", cut, metzurgo_read_route(NULL, 0));
     expect("read_route_entry, no frame", 0, metzurgo_read_route_entry(NULL, 0));
     expect("read_general, no frame", cut, metzurgo_read_general(NULL, 0));
+    expect("read_general_sas2, no frame", cut,
+           metzurgo_read_general_sas2(NULL, 0));
     expect("read_discover, no frame", cut, metzurgo_read_discover(NULL, 0));
     expect("discover_own, no frame", 0, metzurgo_discover_own(NULL, 0));
     expect("discover_attached, no frame", 0,
@@ -146,6 +148,15 @@ int main(void)
     /* Frames inside the file. */
     expect("read_general", 4 * 65536 + 2 * 256 + 1,
            metzurgo_read_general(pair_rig + 10, 28));
+    expect("read_general_sas2, short", 4 * 65536 + 2 * 256 + 1,
+           metzurgo_read_general_sas2(pair_rig + 10, 28));
+    uint8_t general[68] = { 0x41, 0, 0, 0x10, [7] = 4, [9] = 2, [10] = 0x85 };
+    expect("read_general, long", 4 * 65536 + 2 * 256 + 1,
+           metzurgo_read_general(general, 68));
+    expect("read_general_sas2, long",
+           METZURGO_LONG + METZURGO_TABLE_TO_TABLE +
+               METZURGO_CONFIGURES_OTHERS + 4 * 65536 + 2 * 256 + 1,
+           metzurgo_read_general_sas2(general, 68));
     expect("read_discover",
            (UINT64_C(1) << 32) + (METZURGO_END_DEVICE << 24) +
                (METZURGO_DIRECT << 16),

@@ -19,6 +19,7 @@ pub trait Calls: Sync {
     fn read_route(&self, frame: &[u8]) -> u64;
     fn read_route_entry(&self, frame: &[u8]) -> u64;
     fn read_general(&self, frame: &[u8]) -> u64;
+    fn read_general_sas2(&self, frame: &[u8]) -> u64;
     fn read_discover(&self, frame: &[u8]) -> u64;
     fn discover_own(&self, frame: &[u8]) -> u64;
     fn discover_attached(&self, frame: &[u8]) -> u64;
@@ -70,6 +71,10 @@ impl Calls for Archive {
 
     fn read_general(&self, frame: &[u8]) -> u64 {
         metzurgo::raw::read_general(frame)
+    }
+
+    fn read_general_sas2(&self, frame: &[u8]) -> u64 {
+        metzurgo::raw::read_general_sas2(frame)
     }
 
     fn read_discover(&self, frame: &[u8]) -> u64 {

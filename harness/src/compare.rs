@@ -369,6 +369,11 @@ pub fn check_frame(
             subject.read_general(read),
         ),
         (
+            "read_general_sas2",
+            General::answer_sas2(&frame),
+            subject.read_general_sas2(read),
+        ),
+        (
             "read_discover",
             Discover::answer(&frame),
             subject.read_discover(read),

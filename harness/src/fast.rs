@@ -93,11 +93,19 @@ impl Domain {
         };
         let mut at = 2;
         for i in 0..count {
-            if file.len() - at < 36 {
+            if file.len() - at < 12 {
                 return Err(refusal(1, i, 0));
             }
-            let unit = &file[at..at + 36];
-            if unit[8..12] != [0x41, 0, 0, 0] {
+            let size = match file[at + 11] {
+                0 => 36,
+                0x10 => 76,
+                _ => return Err(refusal(2, i, 0)),
+            };
+            if file.len() - at < size {
+                return Err(refusal(1, i, 0));
+            }
+            let unit = &file[at..at + size];
+            if unit[8..11] != [0x41, 0, 0] {
                 return Err(refusal(2, i, 0));
             }
             let phys = unit[17] as usize;
@@ -112,13 +120,21 @@ impl Domain {
             domain.route_indexes[i] = (unit[14] as usize) << 8 | unit[15] as usize;
             domain.configurable[i] = unit[18] & 1 == 1;
             domain.first[i] = domain.phys.len();
-            at += 36;
+            at += size;
             for p in 0..phys {
-                if file.len() - at < 52 {
+                if file.len() - at < 4 {
                     return Err(refusal(1, i, p));
                 }
-                let unit = &file[at..at + 52];
-                if unit[0] != 0x41 || unit[1] != 0x10 || unit[3] != 0 {
+                let size = match file[at + 3] {
+                    0 => 52,
+                    0x0f => 64,
+                    _ => return Err(refusal(2, i, p)),
+                };
+                if file.len() - at < size {
+                    return Err(refusal(1, i, p));
+                }
+                let unit = &file[at..at + size];
+                if unit[0] != 0x41 || unit[1] != 0x10 {
                     return Err(refusal(2, i, p));
                 }
                 let mut phy = Phy {
@@ -150,7 +166,7 @@ impl Domain {
                     };
                 }
                 domain.phys.push(phy);
-                at += 52;
+                at += size;
             }
         }
         domain.first[count] = domain.phys.len();
@@ -609,10 +625,16 @@ impl Calls for Fast {
     }
 
     fn read_general(&self, frame: &[u8]) -> u64 {
-        if frame.len() != 28 {
+        if frame.len() < 4 {
             return refusal(1, 0, 0);
         }
-        if frame[..4] != [0x41, 0, 0, 0] {
+        if frame[3] != 0 && frame[3] != 0x10 {
+            return refusal(2, 0, 0);
+        }
+        if frame.len() != if frame[3] == 0 { 28 } else { 68 } {
+            return refusal(1, 0, 0);
+        }
+        if frame[..3] != [0x41, 0, 0] {
             return refusal(2, 0, 0);
         }
         u64::from(frame[6]) << 24
@@ -621,11 +643,25 @@ impl Calls for Fast {
             | u64::from(frame[10] & 1)
     }
 
+    fn read_general_sas2(&self, frame: &[u8]) -> u64 {
+        let answer = self.read_general(frame);
+        if answer >> 63 == 1 || frame[3] == 0 {
+            return answer;
+        }
+        answer | 1 << 34 | u64::from(frame[10] >> 7 & 1) << 33 | u64::from(frame[10] >> 2 & 1) << 32
+    }
+
     fn read_discover(&self, frame: &[u8]) -> u64 {
-        if frame.len() != 52 {
+        if frame.len() < 4 {
             return refusal(1, 0, 0);
         }
-        if frame[0] != 0x41 || frame[1] != 0x10 || frame[3] != 0 {
+        if frame[3] != 0 && frame[3] != 0x0f {
+            return refusal(2, 0, 0);
+        }
+        if frame.len() != if frame[3] == 0 { 52 } else { 64 } {
+            return refusal(1, 0, 0);
+        }
+        if frame[0] != 0x41 || frame[1] != 0x10 {
             return refusal(2, 0, 0);
         }
         if frame[2] != 0 {

@@ -380,6 +380,7 @@ impl Sketch {
                             },
                             attached: stray_address(random, &all),
                             attached_phy: random.pick(&[0, 1, 2, 255]),
+                            long: false,
                         };
                         vacant
                     }
@@ -392,7 +393,19 @@ impl Sketch {
                     .any(|phy| phy.result == 0 && phy.attribute == TABLE);
             expanders.push(expander);
         }
+        lengthen(&mut expanders, random);
         DomainFile::of(expanders)
+    }
+}
+
+/// Makes some frames long: none, some, most or all of them.
+fn lengthen(expanders: &mut [Expander], random: &mut Random) {
+    let sixths = random.pick(&[0, 0, 1, 3, 5, 6]);
+    for expander in expanders {
+        expander.long = random.chance(sixths, 6);
+        for phy in &mut expander.phys {
+            phy.long = random.chance(sixths, 6);
+        }
     }
 }
 
@@ -641,7 +654,8 @@ fn junk(random: &mut Random) -> Vec<u8> {
         file[1] = random.pick(&[0, 1, 2, 3, 64, 65, 128, 255]);
     }
     if random.chance(1, 2) && length > 38 {
-        file[10..14].copy_from_slice(&[0x41, 0, 0, 0]);
+        let long = random.pick(&[0x00, 0x00, 0x10, 0x0f]);
+        file[10..14].copy_from_slice(&[0x41, 0, 0, long]);
         file[19] = random.pick(&[0, 1, 2, 128, 129, 255]);
     }
     file
@@ -814,13 +828,18 @@ fn change_bytes(plan: &DomainFile, file: &mut Vec<u8>, random: &mut Random) {
     let p = random.below(plan.expanders[e].phys.len());
     let expander = plan.expander_at(e);
     let phy = plan.phy_at(e, p);
+    let first_phy = expander + plan.expanders[e].size();
+    let next_phy = phy + plan.expanders[e].phys[p].size();
+    // RESPONSE LENGTH of either response, and where its frame begins.
+    let frame = random.pick(&[expander + 8, phy]);
+    let length = random.pick(&[0x00, 0x0f, 0x10, 0x01, 0x11, 0x80, 0xff]);
     let mut set = |at: usize, change: &mut dyn FnMut(u8) -> u8| {
         if at < file.len() {
             file[at] = change(file[at]);
         }
     };
-    match random.below(12) {
-        0 | 1 => set(random.next() as usize % (phy + 52), &mut |_| random.byte()),
+    match random.below(16) {
+        0 | 1 => set(random.next() as usize % next_phy, &mut |_| random.byte()),
         2 => set(0, &mut |byte| byte ^ 1 << random.below(8)),
         3 => set(1, &mut |byte| {
             random.pick(&[
@@ -853,11 +872,25 @@ fn change_bytes(plan: &DomainFile, file: &mut Vec<u8>, random: &mut Random) {
         8 => set(phy + random.pick(&[9, 12, 32, 44]), &mut |_| random.byte()),
         9 => file.truncate(random.below(file.len())),
         10 => {
-            let at = random.pick(&[expander, phy, expander + 36, phy + 52]);
+            let at = random.pick(&[expander, phy, first_phy, next_phy]);
             file.truncate((at + random.below(3)).saturating_sub(1));
         }
+        11 | 12 => set(frame + 3, &mut |_| length),
+        13 => {
+            // A frame cut near its first four bytes, or at a size.
+            set(frame + 3, &mut |_| length);
+            let bytes = random.pick(&[2, 3, 4, 5, 28, 52, 64, 68]);
+            file.truncate((frame + bytes + random.below(3)).saturating_sub(1));
+        }
+        14 => {
+            // Cut within a frame whose byte 0 or 3 may be wrong.
+            set(frame + random.pick(&[0, 3]), &mut |byte| {
+                byte ^ 1 << random.below(8)
+            });
+            file.truncate(frame + random.between(3, 70));
+        }
         _ => {
-            let more = random.pick(&[1, 1, 2, 36, 52, 60]);
+            let more = random.pick(&[1, 1, 2, 12, 36, 40, 52, 60, 64]);
             file.extend(random.bytes(more));
         }
     }
@@ -867,11 +900,12 @@ fn change_bytes(plan: &DomainFile, file: &mut Vec<u8>, random: &mut Random) {
 
 /// A frame for the calls that read one frame by itself.
 pub fn frame(random: &mut Random) -> Vec<u8> {
-    let right = random.pick(&[28, 40, 52]);
+    let right = random.pick(&[28, 40, 52, 64, 68]);
     let length = match random.below(8) {
         0 => random.below(120),
         1 => right - 1,
         2 => right + 1,
+        3 => random.pick(&[0, 3, 4, 5, 28, 52, 64, 68]),
         _ => right,
     };
     let mut frame = random.bytes(length);
@@ -879,8 +913,10 @@ pub fn frame(random: &mut Random) -> Vec<u8> {
         0 => &[],
         _ => match right {
             28 => &[(0, 0x41), (1, 0x00), (2, 0x00), (3, 0x00)],
+            68 => &[(0, 0x41), (1, 0x00), (2, 0x00), (3, 0x10)],
             40 => &[(0, 0x40), (1, 0x90)],
-            _ => &[(0, 0x41), (1, 0x10), (3, 0x00)],
+            52 => &[(0, 0x41), (1, 0x10), (3, 0x00)],
+            _ => &[(0, 0x41), (1, 0x10), (3, 0x0f)],
         },
     };
     for &(at, value) in fixed {
@@ -888,7 +924,7 @@ pub fn frame(random: &mut Random) -> Vec<u8> {
             *byte = value;
         }
     }
-    if right == 52 && random.chance(2, 3) && length > 2 {
+    if (right == 52 || right == 64) && random.chance(2, 3) && length > 2 {
         frame[2] = 0;
     }
     if right == 40 && random.chance(2, 3) && length > 9 {
@@ -896,6 +932,9 @@ pub fn frame(random: &mut Random) -> Vec<u8> {
     }
     if right == 40 && random.chance(5, 6) && length > 3 {
         frame[3] = random.pick(&[0x00, 0x09]);
+    }
+    if right != 40 && random.chance(1, 6) && length > 3 {
+        frame[3] = random.pick(&[0x00, 0x0f, 0x10, 0x01, 0x8f]);
     }
     // One byte, most often a fixed one, is changed.
     if random.chance(1, 4) && length > 12 {

@@ -18,6 +18,8 @@ pub struct Phy {
     pub own: u64,
     pub attached: u64,
     pub attached_phy: u8,
+    /// A long DISCOVER response.
+    pub long: bool,
 }
 
 #[derive(Clone, Debug)]
@@ -26,6 +28,8 @@ pub struct Expander {
     pub route_indexes: u16,
     pub configurable: bool,
     pub phys: Vec<Phy>,
+    /// A long REPORT GENERAL response.
+    pub long: bool,
 }
 
 impl Expander {
@@ -35,6 +39,7 @@ impl Expander {
             route_indexes,
             configurable,
             phys: Vec::new(),
+            long: false,
         }
     }
 
@@ -48,6 +53,7 @@ impl Expander {
             own: self.address,
             attached,
             attached_phy,
+            long: false,
         });
         self
     }
@@ -72,6 +78,31 @@ impl Expander {
         self = self.empty(DIRECT);
         self.phys.last_mut().expect("just appended").result = result;
         self
+    }
+
+    /// All of its frames long.
+    pub fn long(mut self) -> Self {
+        self.long = true;
+        for phy in &mut self.phys {
+            phy.long = true;
+        }
+        self
+    }
+
+    /// The bytes of the address and of the REPORT GENERAL response.
+    pub fn size(&self) -> usize {
+        8 + if self.long { 68 } else { 28 }
+    }
+}
+
+impl Phy {
+    /// The bytes of the DISCOVER response.
+    pub fn size(&self) -> usize {
+        if self.long {
+            64
+        } else {
+            52
+        }
     }
 }
 
@@ -99,6 +130,7 @@ impl DomainFile {
                 expander.route_indexes,
                 expander.phys.len() as u8,
                 expander.configurable,
+                expander.long,
                 junk,
             ));
             for phy in &expander.phys {
@@ -112,13 +144,16 @@ impl DomainFile {
     pub fn expander_at(&self, expander: usize) -> usize {
         2 + self.expanders[..expander]
             .iter()
-            .map(|earlier| 36 + 52 * earlier.phys.len())
+            .map(|earlier| earlier.size() + earlier.phys.iter().map(Phy::size).sum::<usize>())
             .sum::<usize>()
     }
 
     /// Where the unit of a phy begins.
     pub fn phy_at(&self, expander: usize, phy: usize) -> usize {
-        self.expander_at(expander) + 36 + 52 * phy
+        let phys = &self.expanders[expander].phys;
+        self.expander_at(expander)
+            + self.expanders[expander].size()
+            + phys[..phy].iter().map(Phy::size).sum::<usize>()
     }
 }
 
@@ -127,10 +162,12 @@ pub fn general(
     route_indexes: u16,
     phys: u8,
     configurable: bool,
+    long: bool,
     junk: &mut dyn FnMut() -> u8,
 ) -> Vec<u8> {
-    let mut frame: Vec<u8> = (0..28).map(|_| junk()).collect();
-    frame[..4].copy_from_slice(&[0x41, 0x00, 0x00, 0x00]);
+    let (length, size) = if long { (0x10, 68) } else { (0x00, 28) };
+    let mut frame: Vec<u8> = (0..size).map(|_| junk()).collect();
+    frame[..4].copy_from_slice(&[0x41, 0x00, 0x00, length]);
     frame[6..8].copy_from_slice(&route_indexes.to_be_bytes());
     frame[9] = phys;
     frame[10] = frame[10] & 0xfe | configurable as u8;
@@ -139,8 +176,9 @@ pub fn general(
 
 /// A DISCOVER response.
 pub fn discover(phy: &Phy, junk: &mut dyn FnMut() -> u8) -> Vec<u8> {
-    let mut frame: Vec<u8> = (0..52).map(|_| junk()).collect();
-    frame[..4].copy_from_slice(&[0x41, 0x10, phy.result, 0x00]);
+    let length = if phy.long { 0x0f } else { 0x00 };
+    let mut frame: Vec<u8> = (0..phy.size()).map(|_| junk()).collect();
+    frame[..4].copy_from_slice(&[0x41, 0x10, phy.result, length]);
     frame[9] = phy.identifier;
     frame[12] = frame[12] & 0x8f | (phy.device_type & 7) << 4;
     frame[16..24].copy_from_slice(&phy.own.to_be_bytes());

@@ -1,4 +1,5 @@
-//! Reference implementation of document 01. It shares no code with the crates.
+//! Reference implementation of documents 01 and 02. It shares no code with the
+//! crates.
 //!
 //! A file becomes objects held in maps, and loops, chains, levels and routes
 //! are found by recursive search. Speed does not matter here.
@@ -59,28 +60,55 @@ fn number(bytes: &[u8]) -> u64 {
 
 // ---------------------------------------------------------------- frames
 
+/// A response by its byte 3, RESPONSE LENGTH, and its bytes: short, and long.
+type Sizes = [(u8, usize); 2];
+
+const GENERAL: Sizes = [(0x00, 28), (0x10, 68)];
+const DISCOVER: Sizes = [(0x00, 52), (0x0f, 64)];
+
+/// How many bytes the response has that starts here, or the number of the
+/// refusal.
+fn size(response: &[u8], sizes: Sizes) -> Result<usize, u8> {
+    match response {
+        [_, _, _, length, ..] => HashMap::from(sizes).get(length).copied().ok_or(2),
+        _ => Err(1),
+    }
+}
+
 /// REPORT GENERAL.
 #[derive(Clone, Copy, Debug)]
 pub struct General {
     pub route_indexes: u16,
     pub phys: u8,
     pub configurable: bool,
+    /// TABLE TO TABLE SUPPORTED and CONFIGURES OTHERS of a long response.
+    pub long: Option<(bool, bool)>,
 }
 
 impl General {
     /// The number of the refusal where there is one.
     pub fn read(frame: &[u8]) -> Result<General, u8> {
-        if frame.len() != 28 {
+        if frame.len() != size(frame, GENERAL)? {
             return Err(1);
         }
-        if !frame.starts_with(&[0x41, 0x00, 0x00, 0x00]) {
+        if !frame.starts_with(&[0x41, 0x00, 0x00]) {
             return Err(2);
         }
         Ok(General {
             route_indexes: number(&frame[6..=7]) as u16,
             phys: frame[9],
             configurable: frame[10] % 2 == 1,
+            long: (frame.len() == 68).then_some((frame[10] >= 0x80, frame[10] % 8 >= 4)),
         })
+    }
+
+    /// What the SAS-2 reader answers.
+    pub fn answer_sas2(frame: &[u8]) -> u64 {
+        let more = General::read(frame).ok().and_then(|general| general.long);
+        General::answer(frame)
+            + more.map_or(0, |(table_to_table, others)| {
+                (1 << 34) + u64::from(table_to_table) * (1 << 33) + u64::from(others) * (1 << 32)
+            })
     }
 
     pub fn answer(frame: &[u8]) -> u64 {
@@ -112,11 +140,10 @@ pub enum Discover {
 
 impl Discover {
     pub fn read(frame: &[u8]) -> Result<Discover, u8> {
-        if frame.len() != 52 {
+        if frame.len() != size(frame, DISCOVER)? {
             return Err(1);
         }
-        let fixed = [(0, 0x41), (1, 0x10), (3, 0x00)];
-        if fixed.iter().any(|&(place, value)| frame[place] != value) {
+        if !frame.starts_with(&[0x41, 0x10]) {
             return Err(2);
         }
         if frame[2] != 0 {
@@ -276,6 +303,19 @@ impl<'a> Reader<'a> {
         self.rest = rest;
         Ok(unit)
     }
+
+    /// The next unit, which ends with a response: so many bytes before it, and
+    /// the response.
+    fn response(
+        &mut self,
+        before: usize,
+        sizes: Sizes,
+        place: Place,
+    ) -> Result<(&'a [u8], &'a [u8]), Refusal> {
+        let response = self.rest.get(before..).unwrap_or_default();
+        let size = size(response, sizes).map_err(|cause| Refusal::of(cause, place))?;
+        Ok(self.unit(before + size, place)?.split_at(before))
+    }
 }
 
 impl Domain {
@@ -296,7 +336,7 @@ impl Domain {
             return Ok(());
         }
         let place = (next, 0);
-        let (address, general) = reader.unit(36, place)?.split_at(8);
+        let (address, general) = reader.response(8, GENERAL, place)?;
         let general = General::read(general).map_err(|cause| Refusal::of(cause, place))?;
         refuse(!(1..=128).contains(&general.phys), 3, place)?;
         let address = number(address);
@@ -313,7 +353,7 @@ impl Domain {
             phys: BTreeMap::new(),
         };
         for phy in 0..general.phys {
-            let frame = reader.unit(52, (next, phy))?;
+            let (_, frame) = reader.response(0, DISCOVER, (next, phy))?;
             if let Some(read) = Domain::read_phy(frame, (next, phy), address)? {
                 expander.phys.insert(phy, read);
             }
@@ -978,6 +1018,10 @@ impl Calls for Reference {
 
     fn read_general(&self, frame: &[u8]) -> u64 {
         General::answer(frame)
+    }
+
+    fn read_general_sas2(&self, frame: &[u8]) -> u64 {
+        General::answer_sas2(frame)
     }
 
     fn read_discover(&self, frame: &[u8]) -> u64 {

@@ -1,4 +1,5 @@
-//! Files and frames with the answers that document 01 gives, written by hand.
+//! Files and frames with the answers that documents 01 and 02 give, written by
+//! hand.
 
 use crate::calls::Calls;
 use crate::compare::{same, Difference, Lent};
@@ -140,9 +141,23 @@ fn file(expanders: Vec<Expander>) -> Vec<u8> {
     DomainFile::of(expanders).bytes()
 }
 
+/// The pair rig with some frames long: REPORT GENERAL of expander 0, and DISCOVER
+/// of phy 0 of expander 0 and of phy 2 of expander 1.
+fn mixed_pair() -> DomainFile {
+    let mut plan = pair();
+    plan.expanders[0].long = true;
+    plan.expanders[0].phys[0].long = true;
+    plan.expanders[1].phys[2].long = true;
+    plan
+}
+
 /// 64 expanders with 128 phys each: a hub with 63 expanders; all other phys have
 /// this attribute and end devices.
 pub fn full_star(attribute: u8) -> Vec<u8> {
+    file(star_of(attribute))
+}
+
+fn star_of(attribute: u8) -> Vec<Expander> {
     let mut hub = Expander::new(e(0), 127, true);
     for leaf in 1..64 {
         hub = hub.link(TABLE, e(leaf), 0);
@@ -158,7 +173,7 @@ pub fn full_star(attribute: u8) -> Vec<u8> {
         }
         expanders.push(expander);
     }
-    file(expanders)
+    expanders
 }
 
 /// Runs all vectors; gives the number of answers compared.
@@ -167,6 +182,8 @@ pub fn run(subject: &dyn Calls) -> Result<usize, Difference> {
     test.headers()?;
     test.cuts()?;
     test.fixed_bytes()?;
+    test.long_frames()?;
+    test.response_lengths()?;
     test.counts_and_addresses()?;
     test.phy_fields()?;
     test.far_ends()?;
@@ -449,6 +466,121 @@ impl Test<'_> {
         self.table_words("FFh in all ignored places", &junk, 1, &[B1, 0, 0, 0])
     }
 
+    /// The pair rig with long frames: all of them, and some.
+    fn long_frames(&mut self) -> Done {
+        let all = pair_with(|expanders| {
+            for expander in expanders {
+                *expander = expander.clone().long();
+            }
+        });
+        let mixed = mixed_pair();
+        let junk = mixed.bytes_with(&mut || 0xff);
+        let mixed = mixed.bytes();
+        for (name, file, length) in [
+            ("all frames long", &all, 474),
+            ("some frames long", &mixed, 398),
+            ("some frames long, FFh in all ignored places", &junk, 398),
+        ] {
+            self.count += 1;
+            same(|| format!("{name}: length"), length, file.len() as u64)?;
+            self.judge(name, file, 2)?;
+            self.wire(name, file, 2, &[2, 1])?;
+            let tables = [B1, 0, 0, 0];
+            self.table_words(name, file, 1, &tables)?;
+            let cases = [
+                ((0, 255), B1, arrived(1, 1, 2), &[0, 1][..]),
+                ((1, 1), A1, arrived(0, 1, 2), &[1, 0]),
+                ((1, 255), FF, no_destination(0, 2), &[1, 0]),
+                ((1, 1), B1, bad_destination(1, 1), &[1]),
+            ];
+            for (from, address, answer, passed) in cases {
+                self.trace(name, file, &tables, from, address, answer, passed)?;
+            }
+        }
+        for length in 0..398 {
+            let (expander, phy) = match length {
+                0..=77 => (0, 0),
+                78..=141 => (0, 0),
+                142..=193 => (0, 1),
+                194..=229 => (1, 0),
+                230..=281 => (1, 0),
+                282..=333 => (1, 1),
+                _ => (1, 2),
+            };
+            let name = format!("some frames long, cut to {length} bytes");
+            self.refuses(&name, &mixed[..length], 1, expander, phy)?;
+        }
+        let changed = |changes: &[(usize, u8)], length: usize| {
+            let mut file = mixed.clone();
+            for &(at, value) in changes {
+                file[at] = value;
+            }
+            file.resize(length, 0);
+            file
+        };
+        let after = changed(&[], 399);
+        self.refuses("some frames long, a byte after", &after, 1, 2, 0)?;
+        // A vacant phy can be long.
+        let vacant = changed(&[(336, 9)], 398);
+        self.table_words("a long vacant phy", &vacant, 1, &[B1, 0, 0, 0])?;
+        // Fixed bytes of long frames: 1 by the size found comes before them.
+        for (name, at, expander, phy) in [
+            ("REPORT GENERAL, byte 0", 10, 0, 0),
+            ("REPORT GENERAL, byte 1", 11, 0, 0),
+            ("REPORT GENERAL, result", 12, 0, 0),
+            ("DISCOVER, byte 0", 334, 1, 2),
+            ("DISCOVER, byte 1", 335, 1, 2),
+        ] {
+            let file = changed(&[(at, 0x77)], 398);
+            self.refuses(name, &file, 2, expander, phy)?;
+        }
+        let cut = changed(&[(334, 0x77)], 397);
+        self.refuses("a wrong byte 0 in a cut frame", &cut, 1, 1, 2)?;
+        let cut = changed(&[(10, 0x77)], 77);
+        self.refuses("a wrong byte 0 in a cut unit", &cut, 1, 0, 0)
+    }
+
+    /// Byte 3 of every frame: tested once four bytes of the frame are there.
+    fn response_lengths(&mut self) -> Done {
+        let mixed = mixed_pair().bytes();
+        // Where the frame begins, its place, and the other response's value.
+        for (at, expander, phy, other) in [
+            (10, 0, 0, 0x0f),
+            (78, 0, 0, 0x10),
+            (142, 0, 1, 0x10),
+            (202, 1, 0, 0x0f),
+            (230, 1, 0, 0x10),
+            (282, 1, 1, 0x10),
+            (334, 1, 2, 0x10),
+        ] {
+            for value in [other, 0x01, 0x0e, 0x11, 0x80, 0xff] {
+                let mut file = mixed.clone();
+                file[at] = 0x77;
+                file[at + 3] = value;
+                for length in [at + 4, at + 5, at + 27, at + 51, 398] {
+                    let length = length.min(398);
+                    let name = format!("byte 3 at {at} is {value:02x}h, {length} bytes");
+                    self.refuses(&name, &file[..length], 2, expander, phy)?;
+                }
+                let name = format!("byte 3 at {at} is missing");
+                self.refuses(&name, &file[..at + 3], 1, expander, phy)?;
+            }
+        }
+        for (name, at, value, number, expander, phy) in [
+            // A long frame that says it is short has twelve bytes too many.
+            ("the last phy says short", 337, 0x00, 1, 2, 0),
+            // A short frame that says it is long takes bytes of the next.
+            ("the last phy but one says long", 285, 0x0f, 2, 1, 2),
+            ("REPORT GENERAL says long", 205, 0x10, 2, 1, 0),
+        ] {
+            let mut file = mixed.clone();
+            file[at] = value;
+            self.refuses(name, &file, number, expander, phy)?;
+        }
+        let long = pair_bytes(|file| file[285] = 0x0f);
+        self.refuses("the last phy says long and is short", &long, 1, 1, 2)
+    }
+
     fn counts_and_addresses(&mut self) -> Done {
         for value in [0, 129, 255] {
             let name = format!("{value} phys");
@@ -588,6 +720,7 @@ impl Test<'_> {
                 own: 3,
                 attached: 0,
                 attached_phy: 200,
+                long: false,
             }
         });
         self.judge("vacant phy with anything in it", &vacant, 2)?;
@@ -1299,7 +1432,21 @@ impl Test<'_> {
         )?;
         self.refuses("64 x 128 cut", &file[..428_289], 1, 63, 127)?;
         file.push(0);
-        self.refuses("64 x 128 and a byte", &file, 1, 64, 0)
+        self.refuses("64 x 128 and a byte", &file, 1, 64, 0)?;
+
+        let expanders = star_of(DIRECT).into_iter().map(Expander::long).collect();
+        let mut file = DomainFile::of(expanders).bytes();
+        self.count += 1;
+        same(
+            || "length of the 64 x 128 file of long frames".into(),
+            529_154,
+            file.len() as u64,
+        )?;
+        self.judge("64 x 128, long", &file, 64)?;
+        self.table_words("64 x 128, long", &file, 63, &tables)?;
+        self.refuses("64 x 128, long, cut", &file[..529_153], 1, 63, 127)?;
+        file.push(0);
+        self.refuses("64 x 128, long, and a byte", &file, 1, 64, 0)
     }
 
     // ------------------------------------------------------------ the pair rig
@@ -2024,10 +2171,14 @@ impl Test<'_> {
             ("result", with(2, 1), refused(2, 0, 0)),
             ("byte 3", with(3, 1), refused(2, 0, 0)),
         ] {
-            self.count += 1;
+            self.count += 2;
             let got = self.subject.read_general(&frame);
             same(|| format!("{name}: read_general"), answer, got)?;
+            // No frame here is long.
+            let got = self.subject.read_general_sas2(&frame);
+            same(|| format!("{name}: read_general_sas2"), answer, got)?;
         }
+        self.long_generals(general)?;
 
         let discover = &rig[230..282];
         let with = |at: usize, value: u8| {
@@ -2039,6 +2190,18 @@ impl Test<'_> {
         all_bits[..4].copy_from_slice(&[0x41, 0x10, 0, 0]);
         let mut vacant = all_bits.clone();
         vacant[2] = 0xfe;
+        let long = |length: u8, size: usize| {
+            let mut frame = discover.to_vec();
+            frame[3] = length;
+            frame.resize(size, 0xee);
+            frame
+        };
+        let mut long_vacant = long(0x0f, 64);
+        long_vacant[2] = 7;
+        let mut long_byte_1 = long(0x0f, 64);
+        long_byte_1[1] = 0x00;
+        let mut long_cut = long(0x0f, 63);
+        long_cut[0] = 0x00;
         let none = refused(2, 0, 0);
         for (name, frame, answer, own, attached) in [
             ("phy 1 1", discover.to_vec(), 0x0001_0100_0000, X20, B1),
@@ -2075,6 +2238,18 @@ impl Test<'_> {
             ("byte 0", with(0, 0x40), none, 0, 0),
             ("byte 1", with(1, 0x00), none, 0, 0),
             ("byte 3", with(3, 0x10), none, 0, 0),
+            ("long", long(0x0f, 64), 0x0001_0100_0000, X20, B1),
+            ("long, vacant", long_vacant, 0x4000_0000_0000_0007, 0, 0),
+            ("long, byte 1", long_byte_1, none, 0, 0),
+            ("long, 63 bytes", long_cut, refused(1, 0, 0), 0, 0),
+            ("long, 65 bytes", long(0x0f, 65), refused(1, 0, 0), 0, 0),
+            ("long, 52 bytes", with(3, 0x0f), refused(1, 0, 0), 0, 0),
+            ("short, 64 bytes", long(0x00, 64), refused(1, 0, 0), 0, 0),
+            ("10h, 68 bytes", long(0x10, 68), none, 0, 0),
+            ("0eh, 60 bytes", long(0x0e, 60), none, 0, 0),
+            ("10h, 4 bytes", long(0x10, 4), none, 0, 0),
+            ("10h, 3 bytes", long(0x10, 3), refused(1, 0, 0), 0, 0),
+            ("0fh, 4 bytes", long(0x0f, 4), refused(1, 0, 0), 0, 0),
         ] {
             self.count += 3;
             let got = self.subject.read_discover(&frame);
@@ -2085,6 +2260,69 @@ impl Test<'_> {
             same(|| format!("{name}: discover_attached"), attached, got)?;
         }
         self.every_code()
+    }
+
+    /// Long REPORT GENERAL responses, through both readers.
+    fn long_generals(&mut self, general: &[u8]) -> Done {
+        let long = |length: u8, size: usize, changes: &[(usize, u8)]| {
+            let mut frame = general.to_vec();
+            frame[3] = length;
+            frame.resize(size, 0xee);
+            for &(at, value) in changes {
+                frame[at] = value;
+            }
+            frame
+        };
+        let shown = 0x0000_0004_0201;
+        let bits = 0x4_0000_0000;
+        let short = refused(1, 0, 0);
+        let wrong = refused(2, 0, 0);
+        for (name, frame, answer, sas2) in [
+            ("long", long(0x10, 68, &[]), shown, shown + bits),
+            (
+                "table to table supported",
+                long(0x10, 68, &[(10, 0x81)]),
+                shown,
+                shown + bits + 0x2_0000_0000,
+            ),
+            (
+                "configures others",
+                long(0x10, 68, &[(10, 0x05)]),
+                shown,
+                shown + bits + 0x1_0000_0000,
+            ),
+            (
+                "all other bits of byte 10",
+                long(0x10, 68, &[(10, 0x7b)]),
+                shown,
+                shown + bits,
+            ),
+            (
+                "both, bit 0 clear",
+                long(0x10, 68, &[(10, 0xfe)]),
+                shown - 1,
+                shown - 1 + bits + 0x3_0000_0000,
+            ),
+            ("long, 67 bytes", long(0x10, 67, &[(0, 0)]), short, short),
+            ("long, 69 bytes", long(0x10, 69, &[(0, 0)]), short, short),
+            ("long, 28 bytes", long(0x10, 28, &[]), short, short),
+            ("short, 68 bytes", long(0x00, 68, &[]), short, short),
+            ("long, byte 0", long(0x10, 68, &[(0, 0x40)]), wrong, wrong),
+            ("long, byte 1", long(0x10, 68, &[(1, 0x10)]), wrong, wrong),
+            ("long, result", long(0x10, 68, &[(2, 1)]), wrong, wrong),
+            ("0fh, 64 bytes", long(0x0f, 64, &[]), wrong, wrong),
+            ("11h, 72 bytes", long(0x11, 72, &[]), wrong, wrong),
+            ("0fh, 4 bytes", long(0x0f, 4, &[]), wrong, wrong),
+            ("0fh, 3 bytes", long(0x0f, 3, &[]), short, short),
+            ("10h, 4 bytes", long(0x10, 4, &[]), short, short),
+        ] {
+            self.count += 2;
+            let got = self.subject.read_general(&frame);
+            same(|| format!("{name}: read_general"), answer, got)?;
+            let got = self.subject.read_general_sas2(&frame);
+            same(|| format!("{name}: read_general_sas2"), sas2, got)?;
+        }
+        Ok(())
     }
 
     /// The attached device type of every byte 12, and the routing attribute of
@@ -2204,7 +2442,9 @@ fn star(hub: usize, route_indexes: u16) -> Vec<u8> {
 
 /// The typed answers of the Rust binding.
 pub fn typed() -> Done {
-    use metzurgo::{Discover, General, Outcome, Refusal, Route, Tables, Trace};
+    use metzurgo::{
+        Discover, General, GeneralSas2, LongGeneral, Outcome, Refusal, Route, Tables, Trace,
+    };
 
     fn equal<T: PartialEq + std::fmt::Debug>(what: &str, expected: T, got: T) -> Done {
         if expected == got {
@@ -2298,6 +2538,26 @@ pub fn typed() -> Done {
         Ok(general),
         metzurgo::read_general(&rig[10..38]),
     )?;
+    let sas2 = |long| Ok(GeneralSas2 { general, long });
+    let mut long = rig[10..38].to_vec();
+    equal(
+        "read_general_sas2",
+        sas2(None),
+        metzurgo::read_general_sas2(&long),
+    )?;
+    long[3] = 0x10;
+    long[10] |= 0x80;
+    long.resize(68, 0);
+    let fields = LongGeneral {
+        table_to_table_supported: true,
+        configures_others: false,
+    };
+    equal(
+        "read_general_sas2",
+        sas2(Some(fields)),
+        metzurgo::read_general_sas2(&long),
+    )?;
+    equal("read_general", Ok(general), metzurgo::read_general(&long))?;
     let phy = Discover::Phy {
         identifier: 1,
         device_type: codes::END_DEVICE,

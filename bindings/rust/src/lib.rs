@@ -103,6 +103,10 @@ pub mod raw {
         unsafe { calls::metzurgo_read_general(frame.as_ptr(), frame.len()) }
     }
 
+    pub fn read_general_sas2(frame: &[u8]) -> u64 {
+        unsafe { calls::metzurgo_read_general_sas2(frame.as_ptr(), frame.len()) }
+    }
+
     pub fn read_discover(frame: &[u8]) -> u64 {
         unsafe { calls::metzurgo_read_discover(frame.as_ptr(), frame.len()) }
     }
@@ -154,6 +158,7 @@ mod linked {
         pub fn metzurgo_read_route(frame: *const u8, len: usize) -> u64;
         pub fn metzurgo_read_route_entry(frame: *const u8, len: usize) -> u64;
         pub fn metzurgo_read_general(frame: *const u8, len: usize) -> u64;
+        pub fn metzurgo_read_general_sas2(frame: *const u8, len: usize) -> u64;
         pub fn metzurgo_read_discover(frame: *const u8, len: usize) -> u64;
         pub fn metzurgo_discover_own(frame: *const u8, len: usize) -> u64;
         pub fn metzurgo_discover_attached(frame: *const u8, len: usize) -> u64;
@@ -199,6 +204,9 @@ mod stub {
         0
     }
     pub unsafe fn metzurgo_read_general(_: *const u8, _: usize) -> u64 {
+        NOTHING
+    }
+    pub unsafe fn metzurgo_read_general_sas2(_: *const u8, _: usize) -> u64 {
         NOTHING
     }
     pub unsafe fn metzurgo_read_discover(_: *const u8, _: usize) -> u64 {
@@ -268,6 +276,21 @@ pub struct General {
     pub route_indexes: u16,
     pub phys: u8,
     pub configurable: bool,
+}
+
+/// The fields that a SAS-2 reader shows of a long REPORT GENERAL response.
+#[derive(Clone, Copy, Debug, PartialEq, Eq, Hash)]
+pub struct LongGeneral {
+    pub table_to_table_supported: bool,
+    pub configures_others: bool,
+}
+
+/// What a SAS-2 reader shows of a REPORT GENERAL response. `long` is `None` where
+/// the frame is short.
+#[derive(Clone, Copy, Debug, PartialEq, Eq, Hash)]
+pub struct GeneralSas2 {
+    pub general: General,
+    pub long: Option<LongGeneral>,
 }
 
 /// The fields of a DISCOVER response, unchecked, or a vacant phy. [`codes`] names
@@ -362,16 +385,31 @@ pub fn read_route(frame: &[u8]) -> Result<Route, Refusal> {
     })
 }
 
-/// Reads a REPORT GENERAL response by itself.
-pub fn read_general(frame: &[u8]) -> Result<General, Refusal> {
-    accepted(raw::read_general(frame)).map(|answer| General {
+fn general(answer: u64) -> General {
+    General {
         route_indexes: (answer >> 16) as u16,
         phys: (answer >> 8) as u8,
         configurable: answer & 1 == 1,
+    }
+}
+
+/// Reads a REPORT GENERAL response by itself, short or long.
+pub fn read_general(frame: &[u8]) -> Result<General, Refusal> {
+    accepted(raw::read_general(frame)).map(general)
+}
+
+/// Reads a REPORT GENERAL response by itself, as SAS-2 has it.
+pub fn read_general_sas2(frame: &[u8]) -> Result<GeneralSas2, Refusal> {
+    accepted(raw::read_general_sas2(frame)).map(|answer| GeneralSas2 {
+        general: general(answer),
+        long: (answer >> 34 == 1).then_some(LongGeneral {
+            table_to_table_supported: answer >> 33 & 1 == 1,
+            configures_others: answer >> 32 & 1 == 1,
+        }),
     })
 }
 
-/// Reads a DISCOVER response by itself.
+/// Reads a DISCOVER response by itself, short or long.
 pub fn read_discover(frame: &[u8]) -> Result<Discover, Refusal> {
     accepted(raw::read_discover(frame)).map(|answer| {
         if answer >> 62 == 1 {

@@ -2,9 +2,11 @@
 use Prim.Native.Nat.{ℕ, _+_, _*_, _^_}
 use mathlib.Core.List.{List}
 use Rattle.frames.specs.Refusals.{Result, refused, good}
+use Rattle.frames.specs.ReportGeneral.{GeneralSas2, short, long}
 use Rattle.frames.specs.Discovery.{Discovered, vacant, fields}
 use Rattle.frames.specs.declared.Refusal.{Refusal}
 use Rattle.frames.specs.declared.General.{General}
+use Rattle.frames.specs.declared.LongGeneral.{LongGeneral}
 use Rattle.frames.specs.declared.Discover.{Discover}
 use Rattle.frames.specs.declared.Route.{Route}
 use Rattle.tables.specs.Judge.{Counted}
@@ -58,6 +60,15 @@ routeEntry (good q) = q .entry
 -- R, number of phys, configurable bit
 abbrev pub general : General → ℕ
 general g = g .indexes * 65536 + g .phys * 256 + g .configurable
+
+-- of a long frame: bit 34, TABLE TO TABLE SUPPORTED, CONFIGURES OTHERS
+abbrev pub packLong : LongGeneral → ℕ
+packLong l = 2 ^ 34 + l .«table_to_table» * 2 ^ 33 + l .«configures_others» * 2 ^ 32
+
+-- R, number of phys, configurable bit, and the fields of a long frame above them
+abbrev pub generalSas2 : GeneralSas2 → ℕ
+generalSas2 (short g) = general g
+generalSas2 (long g l) = packLong l + general g
 
 -- identifier, type, attribute, attached phy
 abbrev pub packFields : Discover → ℕ

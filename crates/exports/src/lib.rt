@@ -5,6 +5,7 @@ mod packing;
 use frames::DiscoverRead;
 use frames::ExpanderNumber;
 use frames::GeneralRead;
+use frames::GeneralReadSas2;
 use frames::PhyId;
 use frames::Route;
 use frames::RouteIndex;
@@ -17,13 +18,13 @@ use wiring::Wiring;
 ghost use mathlib.Core.Path.{_≡_};
 ghost use lib.ListN.{length};
 ghost use Rattle.frames.specs.Refusals.{then};
-ghost use Rattle.frames.specs.ReportGeneral.{generalRead};
+ghost use Rattle.frames.specs.ReportGeneral.{generalRead, generalReadSas2};
 ghost use Rattle.frames.specs.Discovery.{discoverRead};
 ghost use Rattle.frames.specs.ConfigureRoute.{routeWritten, routeRead, bufferAfter};
 ghost use Rattle.wiring.specs.Neighbours.{wiringCall, bitsOf, wordsAfter};
 ghost use Rattle.tables.specs.Judge.{judged, expandersIn, tableCall, countsIn, tablesAfter};
 ghost use Rattle.tracing.specs.Trace.{request, traceCall, report, bytesAfter};
-ghost use Rattle.exports.specs.Packing.{packed, number, counts, endPacked, forty, general, discovered, ownAddress, attachedAddress, route, routeEntry};
+ghost use Rattle.exports.specs.Packing.{packed, number, counts, endPacked, forty, general, generalSas2, discovered, ownAddress, attachedAddress, route, routeEntry};
 
 // The wiring call: how many bits are set in all.
 #[no_mangle]
@@ -148,9 +149,21 @@ pub extern "C" fn metzurgo_read_general(frame: &[u8]) -> u64
     let answer = frames::read_general(frame);
     match answer {
         GeneralRead::Refused(r) => packing::refusal(r),
-        GeneralRead::Read(g) => {
-            (g.indexes as u64) * 65536 + (g.phys as u64) * 256 + (g.configurable as u64)
-        }
+        GeneralRead::Read(g) => packing::report(g),
+    }
+}
+
+// Reads one REPORT GENERAL response as SAS-2 has it: the same, and of a long frame TABLE TO TABLE
+// SUPPORTED and CONFIGURES OTHERS.
+#[no_mangle]
+pub extern "C" fn metzurgo_read_general_sas2(frame: &[u8]) -> u64
+    ensures { λ r. ⌜ r ≡ packed generalSas2 (generalReadSas2 (now (frame .entry))) ⌝ }
+{
+    let answer = frames::read_general_sas2(frame);
+    match answer {
+        GeneralReadSas2::Refused(r) => packing::refusal(r),
+        GeneralReadSas2::Short(g) => packing::report(g),
+        GeneralReadSas2::Long(g, l) => packing::long_report(l) + packing::report(g),
     }
 }
 

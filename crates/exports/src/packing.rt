@@ -1,12 +1,14 @@
 // Answers packed into one number.
 use frames::Discover;
+use frames::General;
+use frames::LongGeneral;
 use frames::Refusal;
 use frames::Route;
 use tracing::End;
 use tracing::Outcome;
 ghost use mathlib.Core.Path.{_≡_};
-ghost use Prim.Native.Nat.{_≤_};
-ghost use Rattle.exports.specs.Packing.{packRefusal, packEnd, packOutcome, packFields, route};
+ghost use Prim.Native.Nat.{_≤_, _<_, _^_};
+ghost use Rattle.exports.specs.Packing.{packRefusal, packEnd, packOutcome, packFields, packLong, general, route};
 
 // A refusal: 2 to the power 63, and below it number, expander and phy, a byte each.
 pub(crate) fn refusal(r: Refusal) -> u64
@@ -32,6 +34,20 @@ pub(crate) fn end(e: End) -> u64
 {
     let o = e.outcome;
     outcome(o) * 16777216 + (e.last.0 as u64) * 65536 + (e.phy.0 as u64) * 256 + (e.count as u64)
+}
+
+// The fields of a REPORT GENERAL response.
+pub(crate) fn report(g: General) -> u64
+    ensures { λ n. ⌜ (n ≡ general g) × (n < 2 ^ 32) ⌝ }
+{
+    (g.indexes as u64) * 65536 + (g.phys as u64) * 256 + (g.configurable as u64)
+}
+
+// The fields of a long REPORT GENERAL response, above those.
+pub(crate) fn long_report(l: LongGeneral) -> u64
+    ensures { λ n. ⌜ (n ≡ packLong l) × (n < 2 ^ 63) ⌝ }
+{
+    17179869184 + (l.table_to_table as u64) * 8589934592 + (l.configures_others as u64) * 4294967296
 }
 
 // The fields of a DISCOVER response, without its addresses.

@@ -2,12 +2,14 @@
 use Prim.Native.Nat.{ℕ}
 use mathlib.Core.Path.{_≡_, refl}
 use mathlib.Core.List.{List, [], _∷_, _++_}
-use lib.ListN.{replicate, set}
+use lib.ListN.{take, replicate, set}
 use Rattle.frames.specs.Bytes.{numberAt, bytesOf}
 use Rattle.frames.specs.Refusals.{refused, good, refusal}
-use Rattle.frames.specs.ReportGeneral.{generalFixed, generalRead}
-use Rattle.frames.specs.Discovery.{vacant, fields, discoverFixed, discoverRead}
+use Rattle.frames.specs.Sizes.{frameSize}
+use Rattle.frames.specs.ReportGeneral.{generalFixed, generalRead, short, long, generalReadSas2}
+use Rattle.frames.specs.Discovery.{Discovered, vacant, fields, discoverFixed, discoverRead}
 use Rattle.frames.specs.ConfigureRoute.{routeFrame, routeWritten, routeFixed, routeRead}
+use Rattle.frames.specs.declared.General.{General}
 use Rattle.frames.specs.declared.Route.{Route}
 
 -- phy 5, route index 258
@@ -50,36 +52,69 @@ smp-utils : (routeFrame (request 0x09 0x50000000000000b1) ≡ enabled 0x09) × (
 unfolding routeFrame bytesOf routeRead routeFixed numberAt enabled
 smp-utils = (refl, refl)
 
--- R 0x1234, 20 phys, configurable
-general : List ℕ
-general = 0x41 ∷ 0 ∷ 0 ∷ 0 ∷ 0xaa ∷ 0xbb ∷ 0x12 ∷ 0x34 ∷ 0xcc ∷ 20 ∷ 0xff ∷ replicate 17 0xee
+-- R 0x1234, 20 phys, configurable; byte 3, RESPONSE LENGTH, and the bytes after byte 10 are told
+general : ℕ → ℕ → List ℕ
+general length more = 0x41 ∷ 0 ∷ 0 ∷ length ∷ 0xaa ∷ 0xbb ∷ 0x12 ∷ 0x34 ∷ 0xcc ∷ 20 ∷ 0xff ∷ replicate more 0xee
 
-reports : (generalRead general ≡ good (record { indexes = 0x1234; phys = 20; configurable = 1 }))
-    × ((generalRead (set general 10 0xfe) ≡ good (record { indexes = 0x1234; phys = 20; configurable = 0 }))
-    × ((generalRead (set general 2 1) ≡ refused (refusal 2 0 0))
-    × ((generalRead (set general 3 0x10) ≡ refused (refusal 2 0 0))
+abbrev shown : ℕ → General
+shown bit = record { indexes = 0x1234; phys = 20; configurable = bit }
+
+reports : (generalRead (general 0x00 17) ≡ good (shown 1))
+    × ((generalRead (set (general 0x00 17) 10 0xfe) ≡ good (shown 0))
+    × ((generalRead (set (general 0x00 17) 2 1) ≡ refused (refusal 2 0 0))
     × ((generalRead [] ≡ refused (refusal 1 0 0))
-    × (generalRead (0 ∷ general) ≡ refused (refusal 1 0 0))))))
-unfolding generalRead generalFixed numberAt general
-reports = (refl, (refl, (refl, (refl, (refl, refl)))))
+    × (generalRead (0 ∷ general 0x00 17) ≡ refused (refusal 1 0 0)))))
+unfolding generalRead frameSize generalFixed numberAt general
+reports = (refl, (refl, (refl, (refl, refl))))
 
--- every field with bits of its own, and all bits set around type and attribute
-discover : List ℕ
-discover =
-    0x41 ∷ 0x10 ∷ 0x00 ∷ 0x00 ∷ (replicate 5 0x99 ++ (17 ∷ 0x99 ∷ 0x99 ∷ 0xaf ∷ 0x99 ∷ 0x99 ∷ 0x99
-    ∷ (0x50 ∷ 1 ∷ 2 ∷ 3 ∷ 4 ∷ 5 ∷ 6 ∷ 7 ∷ 0x51 ∷ 8 ∷ 9 ∷ 10 ∷ 11 ∷ 12 ∷ 13 ∷ 14 ∷ 33 ∷ (replicate 11 0x99 ++ (0xf2 ∷ replicate 7 0x99)))))
+-- a long frame; byte 3 is tested once four bytes are there, whatever the length; 0fh is DISCOVER's; then the length, then the other fixed bytes
+long-reports : (generalRead (general 0x10 57) ≡ good (shown 1))
+    × ((generalRead (take 3 (general 0x0f 57)) ≡ refused (refusal 1 0 0))
+    × ((generalRead (take 4 (general 0x0f 57)) ≡ refused (refusal 2 0 0))
+    × ((generalRead (general 0x0f 53) ≡ refused (refusal 2 0 0))
+    × ((generalRead (set (general 0x10 17) 0 0x40) ≡ refused (refusal 1 0 0))
+    × ((generalRead (general 0x10 58) ≡ refused (refusal 1 0 0))
+    × (generalRead (set (general 0x10 57) 0 0x40) ≡ refused (refusal 2 0 0)))))))
+unfolding generalRead frameSize generalFixed numberAt general
+long-reports = (refl, (refl, (refl, (refl, (refl, (refl, refl))))))
 
-discovers : (discoverRead discover ≡ good (fields (record {
-  identifier = record { 0 = 17 };
-  device = 2;
-  own = 0x5001020304050607;
-  attached = 0x5108090a0b0c0d0e;
-  far = record { 0 = 33 };
-  attribute = 2;
-})))
-    × ((discoverRead (set discover 2 0x16) ≡ good (vacant 0x16))
-    × ((discoverRead (set (set discover 2 0x16) 1 0) ≡ refused (refusal 2 0 0))
-    × ((discoverRead (set discover 3 0x0f) ≡ refused (refusal 2 0 0))
-    × (discoverRead (discover ++ (0 ∷ [])) ≡ refused (refusal 1 0 0)))))
-unfolding discoverRead discoverFixed numberAt discover
-discovers = (refl, (refl, (refl, (refl, refl))))
+-- the SAS-2 reader: bits 7 and 2 of byte 10, or that the frame is short
+sas2-reports : (generalReadSas2 (general 0x00 17) ≡ good (short (shown 1)))
+    × ((generalReadSas2 (set (general 0x10 57) 10 0x80) ≡ good (long (shown 0) (record { «table_to_table» = 1; «configures_others» = 0 })))
+    × ((generalReadSas2 (set (general 0x10 57) 10 0x05) ≡ good (long (shown 1) (record { «table_to_table» = 0; «configures_others» = 1 })))
+    × (generalReadSas2 (general 0x10 17) ≡ refused (refusal 1 0 0))))
+unfolding generalReadSas2 generalRead frameSize generalFixed numberAt general
+sas2-reports = (refl, (refl, (refl, refl)))
+
+-- every field with bits of its own, and all bits set around type and attribute; byte 3 and the bytes after byte 44 are told
+discover : ℕ → ℕ → List ℕ
+discover length more =
+    0x41 ∷ 0x10 ∷ 0x00 ∷ length ∷ (replicate 5 0x99 ++ (17 ∷ 0x99 ∷ 0x99 ∷ 0xaf ∷ 0x99 ∷ 0x99 ∷ 0x99
+    ∷ (0x50 ∷ 1 ∷ 2 ∷ 3 ∷ 4 ∷ 5 ∷ 6 ∷ 7 ∷ 0x51 ∷ 8 ∷ 9 ∷ 10 ∷ 11 ∷ 12 ∷ 13 ∷ 14 ∷ 33 ∷ (replicate 11 0x99 ++ (0xf2 ∷ replicate more 0x99)))))
+
+abbrev shown-phy : Discovered
+shown-phy =
+    fields (record {
+      identifier = record { 0 = 17 };
+      device = 2;
+      own = 0x5001020304050607;
+      attached = 0x5108090a0b0c0d0e;
+      far = record { 0 = 33 };
+      attribute = 2;
+    })
+
+discovers : (discoverRead (discover 0x00 7) ≡ good shown-phy)
+    × ((discoverRead (set (discover 0x00 7) 2 0x16) ≡ good (vacant 0x16))
+    × ((discoverRead (set (set (discover 0x00 7) 2 0x16) 1 0) ≡ refused (refusal 2 0 0))
+    × (discoverRead (discover 0x00 8) ≡ refused (refusal 1 0 0))))
+unfolding discoverRead frameSize discoverFixed numberAt discover
+discovers = (refl, (refl, (refl, refl)))
+
+-- a long frame, one of a vacant phy; 10h is REPORT GENERAL's
+long-discovers : (discoverRead (discover 0x0f 19) ≡ good shown-phy)
+    × ((discoverRead (set (discover 0x0f 19) 2 0x16) ≡ good (vacant 0x16))
+    × ((discoverRead (discover 0x10 23) ≡ refused (refusal 2 0 0))
+    × ((discoverRead (set (discover 0x0f 18) 0 0) ≡ refused (refusal 1 0 0))
+    × (discoverRead (set (discover 0x0f 19) 1 0) ≡ refused (refusal 2 0 0)))))
+unfolding discoverRead frameSize discoverFixed numberAt discover
+long-discovers = (refl, (refl, (refl, (refl, refl))))

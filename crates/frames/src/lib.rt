@@ -6,6 +6,7 @@ mod configure_route;
 mod discovery;
 mod refusals;
 mod report_general;
+mod sizes;
 
 pub use bytes::address_at;
 pub use configure_route::put_route;
@@ -14,6 +15,8 @@ pub use configure_route::route_refusal;
 pub use configure_route::write_route;
 pub use discovery::read_discover;
 pub use report_general::read_general;
+pub use report_general::read_general_sas2;
+pub use sizes::frame_size;
 
 // A phy identifier: which phy of an expander.
 pub struct PhyId(pub u8);
@@ -31,6 +34,18 @@ pub struct Refusal {
     pub phy: PhyId,
 }
 
+// Which response a frame is.
+pub enum Response {
+    ReportGeneral,
+    Discover,
+}
+
+// What finding a frame's size answers: how many bytes it has.
+pub enum SizeRead {
+    Refused(Refusal),
+    Size(usize),
+}
+
 // The fields of a REPORT GENERAL response: how many route indexes each phy has (R), how many phys
 // there are, and the configurable bit.
 pub struct General {
@@ -43,6 +58,20 @@ pub struct General {
 pub enum GeneralRead {
     Refused(Refusal),
     Read(General),
+}
+
+// The fields that the SAS-2 reader shows of a long REPORT GENERAL response: TABLE TO TABLE SUPPORTED and
+// CONFIGURES OTHERS, a bit each.
+pub struct LongGeneral {
+    pub table_to_table: u8,
+    pub configures_others: u8,
+}
+
+// What the SAS-2 reader of a REPORT GENERAL response answers: a short frame has no more fields.
+pub enum GeneralReadSas2 {
+    Refused(Refusal),
+    Short(General),
+    Long(General, LongGeneral),
 }
 
 // The fields of a DISCOVER response: phy identifier, attached device type, own address, attached

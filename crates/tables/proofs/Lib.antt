@@ -20,4 +20,5 @@ pub mod Puts
 pub mod Over
 pub mod Judging
 pub mod Lawful
+pub mod LongFrames
 pub mod Worked

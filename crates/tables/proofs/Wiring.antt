@@ -8,3 +8,4 @@ pub use Rattle.wiring.proofs.Results.{good-one, unless-good, good-unless, then-
 pub use Rattle.wiring.proofs.Read.{read-good, stated-expanders}
 pub use Rattle.wiring.proofs.Accepted.{wired-iff, wired-file}
 pub use Rattle.wiring.proofs.Opening.{file-room, opened-as, opened-fits}
+pub use Rattle.wiring.proofs.ShortFile.{short-file}

@@ -11,6 +11,7 @@ unfoldable pub use Rattle.wiring.specs.Domain.{numberOf}
 pub use Rattle.wiring.specs.declared.Limits.{Limits}
 pub use Rattle.wiring.specs.File.{limits, domainRead}
 pub use Rattle.wiring.specs.Read.{Read}
+pub use Rattle.wiring.specs.ShortFile.{shortFile}
 pub use Rattle.wiring.specs.Rows.{domainIn}
 pub use Rattle.wiring.specs.Causes.{Place, place, wiredDomain, wired}
 unfoldable pub use Rattle.wiring.specs.Causes.{phyPlaces, placesFrom}

@@ -8,3 +8,4 @@ pub mod Arrives
 pub mod Demand
 pub mod Exactly
 pub mod Pair
+pub mod LongFrames

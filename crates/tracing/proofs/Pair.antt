@@ -7,7 +7,7 @@ use native.Mathlib.Omega.{arith}
 use lib.ListN.{length, drop, replicate, set, length-append}
 use lib.Dec.{T}
 use Rattle.tables.specs.Wiring.{Phy, Present, Result, refused, good, then, refusal, Domain, phyAt, toEnd, limits}
-use Rattle.tables.proofs.Opened.{numberAt, bytesOf, generalFixed, generalRead, discoverFixed, discoverRead, numbers, any, keep, isIn, numberOf, phyUnit, phyUnits, expanderUnit, expanders, domainRead, unanswered, endAt, claimed, clash, clashing, fixed, phyPlaces, placesFrom, firstIn, wiredDomain, strip, reach, cabled, neighbours, unlooped, joined, joinedIn, tableToTable, linkedDomain}
+use Rattle.tables.proofs.Opened.{numberAt, bytesOf, frameSize, generalFixed, generalRead, discoverFixed, discoverRead, numbers, any, keep, isIn, numberOf, sizeAt, phyUnit, phyUnits, expanderUnit, expanders, headerUnit, domainRead, unanswered, endAt, claimed, clash, clashing, fixed, phyPlaces, placesFrom, firstIn, wiredDomain, strip, reach, cabled, neighbours, unlooped, joined, joinedIn, tableToTable, linkedDomain}
 use Rattle.tables.proofs.Wiring.{good-then}
 use Rattle.tables.proofs.Given.{tableCall-iff}
 use Rattle.tables.specs.Levels.{once, belowPhys, below, nextLevel, levelsFrom, levels}
@@ -96,8 +96,8 @@ pub record PairRig : Type 0 where
 -- the file is accepted, and its domain has one table, of four words
 rig-judged : judged (pair 4) ≡ good (rig 4)
 unfolding general discover pair rig
-    numberAt bytesOf generalFixed generalRead discoverFixed discoverRead
-    numbers any keep isIn numberOf phyUnit phyUnits expanderUnit expanders domainRead
+    numberAt bytesOf frameSize generalFixed generalRead discoverFixed discoverRead
+    numbers any keep isIn numberOf sizeAt phyUnit phyUnits expanderUnit expanders headerUnit domainRead
     unanswered endAt claimed clash clashing fixed phyPlaces placesFrom firstIn wiredDomain
     strip reach cabled neighbours unlooped joined joinedIn tableToTable linkedDomain
     once belowPhys below nextLevel levelsFrom levels flatMap
@@ -138,8 +138,8 @@ ending outcome last phy passed = record { outcome = outcome; last = last; phy = 
 
 pub pair-rig : PairRig
 unfolding general discover pair rig words ending
-    numberAt bytesOf generalFixed generalRead discoverFixed discoverRead
-    numbers any keep isIn numberOf phyUnit phyUnits expanderUnit expanders domainRead
+    numberAt bytesOf frameSize generalFixed generalRead discoverFixed discoverRead
+    numbers any keep isIn numberOf sizeAt phyUnit phyUnits expanderUnit expanders headerUnit domainRead
     unanswered endAt claimed clash clashing fixed phyPlaces placesFrom firstIn wiredDomain
     strip reach cabled neighbours unlooped joined joinedIn tableToTable linkedDomain
     once belowPhys below nextLevel levelsFrom levels flatMap

@@ -2,6 +2,7 @@ pub mod Members
 pub mod Results
 pub mod Reading
 pub mod Read
+pub mod ShortFile
 pub mod Filling
 pub mod Back
 pub mod RowsRead

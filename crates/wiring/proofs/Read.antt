@@ -2,32 +2,36 @@
 -- that causes 1 to 6 leave, it fits where the file is of bytes, and the second reading gets it again. A file that is refused is refused
 -- with a number from 1 to 6.
 use Prim.Native.Nat.{ℕ, zero, suc, _+_, _^_, _≤_, _<_}
-use mathlib.Core.Path.{_≡_, refl, sym, ap}
+use mathlib.Core.Path.{_≡_, refl, sym, ap, _∙_}
 use mathlib.Core.Logic.{_≢_, inl, ⊎-elim}
-use mathlib.Core.Bool.{Bool, true, false, not, _||_, _&&_}
+use mathlib.Core.Bool.{Bool, true, false, cond, not, _&&_}
 use mathlib.Core.List.{List, [], _∷_, _++_}
 use native.Mathlib.Nat.{pow-suc}
 use native.Mathlib.Omega.{arith}
 use lib.ListN.{length, take, drop}
 use lib.Seq.{getD-drop}
 use lib.Dec.{T, eqb, leb, leb→le}
-use borrow.Author.Tests.{eqb-true, eqb-false, leb-true, not-true}
+use borrow.Author.Tests.{ne-eqb, eqb-false, leb-true, not-true}
 use Rattle.frames.specs.Bytes.{byte, numberAt}
 use Rattle.frames.specs.Refusals.{Result, refused, good, unless, then, refusal}
-use Rattle.frames.specs.ReportGeneral.{generalFixed, generalRead}
-use Rattle.frames.specs.Discovery.{Discovered, vacant, fields, discoverFixed, discoverFields, byResult, discoverRead}
+use Rattle.frames.specs.Sizes.{shortSize, longSize, longLength, frameSize, byItself}
+use Rattle.frames.specs.ReportGeneral.{generalFixed, generalIn, generalRead}
+use Rattle.frames.specs.Discovery.{Discovered, vacant, fields, discoverFixed, discoverFields, byResult, discoverIn, discoverRead}
 use Rattle.frames.specs.declared.Refusal.{Refusal}
 use Rattle.frames.specs.declared.General.{General}
 use Rattle.frames.specs.declared.Discover.{Discover}
+use Rattle.frames.specs.declared.Response.{Response}
+use Rattle.frames.specs.declared.Response.the-variants.{ReportGeneral, Discover as DiscoverResponse}
 use Rattle.frames.proofs.Exactly.{Holds, Numbered, unless-holds, then-holds}
 use Rattle.wiring.specs.declared.Limits.{Limits}
 use Rattle.wiring.specs.declared.ExpanderUnit.{ExpanderUnit}
+use Rattle.wiring.specs.declared.PhyFields.{PhyFields}
 use Rattle.wiring.specs.declared.Phy.{Phy}
 use Rattle.wiring.specs.declared.Phy.the-variants.{Present}
 use Rattle.wiring.specs.Lists.{any, In, isIn, Distinct}
 use Rattle.wiring.specs.Domain.{Expander, Domain}
 use Rattle.wiring.specs.Read.{ReadPhy, ReadExpander, addresses, Read, Bytes, FitsPhy, FitsExpander, FitsDomain}
-use Rattle.wiring.specs.File.{Parsed, placed, fieldsOf, phyOf, phyUnit, phyUnits, expanderUnit, expanderOf, expanders, domainRead}
+use Rattle.wiring.specs.File.{Parsed, parsed, placed, sizeAt, frameAt, fieldsOf, ranged, phyOf, phyUnit, phyUnits, unitOf, unitTested, expanderUnit, expanderOf, expanders, headerUnit, domainRead}
 use Rattle.wiring.specs.Tested.{readNumber}
 use Rattle.wiring.specs.Fill.{physGot, domainGot}
 use Rattle.wiring.proofs.Results.{held, weaker, both}
@@ -63,7 +67,21 @@ number-fits s i (suc width) b =
     let k = b (i + width) in
     rw (pow-suc 256 width) (omega arith)
 
+-- a frame's size is refused with 1 or 2
+size-reads : (kind : Response) (s : List ℕ) → Reads (λ _. Unit {0}) (frameSize kind s)
+unfolding frameSize
+size-reads kind s = tested (λ _. Unit {0}) (leb 4 (length s)) (refusal 1 0 0) _ tt (λ _. go (eqb (byte s 3) 0x00) (eqb (byte s 3) (longLength kind)))
+  where
+    go : (b c : Bool) → Reads (λ _. Unit {0}) (cond b (good (shortSize kind)) (cond c (good (longSize kind)) (refused (refusal 2 0 0))))
+    go true c = tt
+    go false true = tt
+    go false false = (omega arith, omega arith)
+
 -- one frame
+itself-holds : {A : Type 0} (P : A → Type 0) (kind : Response) (rest : List ℕ → Result A) (s : List ℕ) → Reads P (rest s) → Reads P (byItself kind rest s)
+itself-holds P kind rest s h =
+    next (λ _. Unit {0}) P (frameSize kind s) _ (size-reads kind s) (λ n _ _. tested P (eqb (length s) n) (refusal 1 0 0) (rest s) tt (λ _. h))
+
 record GeneralFacts (s : List ℕ) (g : General) : Type 0 where
   configurable : g .configurable ≤ 1
   indexes : Bytes s → g .indexes < 65536
@@ -72,7 +90,7 @@ record GeneralFacts (s : List ℕ) (g : General) : Type 0 where
 general-facts : (s : List ℕ) → Reads (GeneralFacts s) (generalRead s)
 unfolding generalRead
 general-facts s =
-    tested (GeneralFacts s) (eqb (length s) 28) (refusal 1 0 0) _ tt (λ _. tested (GeneralFacts s) (generalFixed s) (refusal 2 0 0) _ tt (λ _.
+    itself-holds (GeneralFacts s) ReportGeneral generalIn s (tested (GeneralFacts s) (generalFixed s) (refusal 2 0 0) _ tt (λ _.
     record { configurable = omega arith; indexes = λ b. number-fits s 6 2 b; phys = λ b. b 9 }))
 
 abbrev DiscoveredFacts : List ℕ → Discovered → Type 0
@@ -82,7 +100,7 @@ DiscoveredFacts s (fields f) = Bytes s → (f .attached < 2 ^ 64) × (f .far .0 
 discover-facts : (s : List ℕ) → Reads (DiscoveredFacts s) (discoverRead s)
 unfolding discoverRead
 discover-facts s =
-    tested (DiscoveredFacts s) (eqb (length s) 52) (refusal 1 0 0) _ tt (λ _. tested (DiscoveredFacts s) (discoverFixed s) (refusal 2 0 0) _ tt (λ _.
+    itself-holds (DiscoveredFacts s) DiscoverResponse discoverIn s (tested (DiscoveredFacts s) (discoverFixed s) (refusal 2 0 0) _ tt (λ _.
     go (eqb (byte s 2) 0) refl))
   where
     go : (b : Bool) → eqb (byte s 2) 0 ≡ b → DiscoveredFacts s (byResult b (byte s 2) (discoverFields s))
@@ -93,35 +111,59 @@ placed-holds : {A : Type 0} (P : A → Type 0) (i p : ℕ) (x : Result A) → Re
 placed-holds P i p (refused r) h = h
 placed-holds P i p (good a) h = h
 
+-- a frame in a file, of either size: what holds of it read by itself
+frame-holds : {A : Type 0} (P : A → Type 0) (kind : Response) (read : List ℕ → Result A) (file : List ℕ) (from : ℕ)
+    → ((n : ℕ) → Reads P (read (take n (drop from file)))) → Reads (λ f. P (f .value)) (frameAt kind read file from)
+unfolding sizeAt
+frame-holds {A} P kind read file from h =
+    let s = drop from file in
+    let Q : Parsed A → Type 0 = λ f. P (f .value) in
+    let N : ℕ → Type 0 = λ _. Unit {0} in
+    next N Q (sizeAt kind file from) _
+    (next N N (frameSize kind s) _ (size-reads kind s) (λ n _ _. tested N (leb n (length s)) (refusal 1 0 0) _ tt (λ _. tt)))
+    (λ n _ _. next P Q (read (take n s)) _ (h n) (λ a _ f. f))
+
+general-at : (file : List ℕ) (from n : ℕ) → Reads (GeneralFacts file) (generalRead (take n (drop from file)))
+general-at file from n =
+    let s = take n (drop from file) in
+    weaker readNumber readNumber (GeneralFacts s) (GeneralFacts file) (generalRead s) (general-facts s) (λ _ k. k) (λ g f.
+    record { configurable = f .configurable; indexes = λ b. f .indexes (part n from file b); phys = λ b. f .phys (part n from file b) })
+
+discover-at : (file : List ℕ) (from n : ℕ) → Reads (DiscoveredFacts file) (discoverRead (take n (drop from file)))
+discover-at file from n =
+    let s = take n (drop from file) in
+    weaker readNumber readNumber (DiscoveredFacts s) (DiscoveredFacts file) (discoverRead s) (discover-facts s) (λ _ k. k) whole
+  where
+    whole : (f : Discovered) → DiscoveredFacts (take n (drop from file)) f → DiscoveredFacts file f
+    whole (vacant result) h = (h .0, λ b. h .1 (part n from file b))
+    whole (fields f) h = λ b. h (part n from file b)
+
 -- a phy
 record PhyFacts (s : List ℕ) (φ : Phy) : Type 0 where
   read : ReadPhy φ
   fits : Bytes s → FitsPhy φ
 
-fields-facts : (s : List ℕ) (f : Discover) (none : Bool) → eqb (f .device) 0 ≡ none → f .device ≤ 3 → f .attribute ≤ 2
-    → (eqb (f .device) 0 || not (eqb (f .attached) 0)) ≡ true → DiscoveredFacts s (fields f) → PhyFacts s (Present (fieldsOf none f))
-fields-facts s f true q h k a d = record {
-  read = record { device = h; attribute = k; borne = λ n _. n (eqb-true (f .device) 0 q); bare = λ _. (refl, refl) };
-  fits = λ b. (omega arith, omega arith);
-}
-fields-facts s f false q h k a d = record {
-  read = record {
-    device = h;
-    attribute = k;
-    borne = λ _. eqb-false (f .attached) 0 (not-true _ (rw q at a));
-    bare = λ e. absurd (eqb-false (f .device) 0 q e);
-  };
-  fits = d;
-}
+-- fields that cause 6 leaves
+ranged-facts : (f : PhyFields) → ranged f ≡ true → (f .device ≤ 3) × ((f .attribute ≤ 2) × (f .device ≢ 0 → f .address ≢ 0))
+ranged-facts f t =
+    let u = both (leb (f .device) 3) _ t in
+    let v = both (leb (f .attribute) 2) _ (u .1) in
+    (leb-true (f .device) 3 (u .0), (leb-true (f .attribute) 2 (v .0), λ n. eqb-false (f .address) 0 (not-true _ (rw (ne-eqb (f .device) 0 n) at (v .1)))))
+
+fields-facts : (s : List ℕ) (f : Discover) (none : Bool) → eqb (f .device) 0 ≡ none → ranged (fieldsOf none f) ≡ true → DiscoveredFacts s (fields f)
+    → PhyFacts s (Present (fieldsOf none f))
+fields-facts s f true q t d =
+    let r = ranged-facts (fieldsOf true f) t in
+    record { read = record { device = r .0; attribute = r .1 .0; borne = r .1 .1; bare = λ _. (refl, refl) }; fits = λ b. (omega arith, omega arith) }
+fields-facts s f false q t d =
+    let r = ranged-facts (fieldsOf false f) t in
+    record { read = record { device = r .0; attribute = r .1 .0; borne = r .1 .1; bare = λ e. absurd (eqb-false (f .device) 0 q e) }; fits = d }
 
 phyOf-facts : (s : List ℕ) (own i p : ℕ) (f : Discovered) → DiscoveredFacts s f → Reads (PhyFacts s) (phyOf own i p f)
 phyOf-facts s own i p (vacant result) h = record { read = h .0; fits = h .1 }
 phyOf-facts s own i p (fields f) h =
     tested (PhyFacts s) (eqb (f .identifier .0) p && eqb (f .own) own) (refusal 5 i p) _ tt (λ _.
-    tested (PhyFacts s) (leb (f .device) 3 && (leb (f .attribute) 2 && (eqb (f .device) 0 || not (eqb (f .attached) 0)))) (refusal 6 i p) _ tt (λ t.
-    let u = both (leb (f .device) 3) _ t in
-    let v = both (leb (f .attribute) 2) _ (u .1) in
-    fields-facts s f (eqb (f .device) 0) refl (leb-true (f .device) 3 (u .0)) (leb-true (f .attribute) 2 (v .0)) (v .1) h))
+    tested (PhyFacts s) (ranged (fieldsOf (eqb (f .device) 0) f)) (refusal 6 i p) _ tt (λ t. fields-facts s f (eqb (f .device) 0) refl t h))
 
 module _ (file : List ℕ) where
   abbrev UnitFacts : Parsed Phy → Type 0
@@ -130,11 +172,10 @@ module _ (file : List ℕ) where
   phyUnit-facts : (own i p at : ℕ) → Reads UnitFacts (phyUnit file own i p at)
   unfolding phyUnit
   phyUnit-facts own i p at =
-      let s = take 52 (drop at file) in
-      tested UnitFacts (leb (at + 52) (length file)) (refusal 1 i p) _ tt (λ _.
-      next (DiscoveredFacts s) UnitFacts (placed i p (discoverRead s)) _ (placed-holds (DiscoveredFacts s) i p (discoverRead s) (discover-facts s)) (λ f _ d.
-      next (PhyFacts s) UnitFacts (phyOf own i p f) _ (phyOf-facts s own i p f d) (λ φ _ g.
-      record { read = g .read; fits = λ b. g .fits (part 52 at file b) })))
+      let P : Parsed Discovered → Type 0 = λ f. DiscoveredFacts file (f .value) in
+      let x = frameAt DiscoverResponse discoverRead file at in
+      next P UnitFacts (placed i p x) _ (placed-holds P i p x (frame-holds (DiscoveredFacts file) DiscoverResponse discoverRead file at (discover-at file at))) (λ f _ d.
+      next (PhyFacts file) UnitFacts (phyOf own i p (f .value)) _ (phyOf-facts file own i p (f .value) d) (λ φ _ g. g))
 
   -- as many phys
   record PhysFacts (own i count p at : ℕ) (us : Parsed (List Phy)) : Type 0 where
@@ -166,24 +207,27 @@ module _ (most : Limits) (file : List ℕ) where
   unfolding expanderUnit isIn any
   expanderUnit-facts seen i at =
       let own = numberAt file at 8 in
-      let s = take 28 (drop (at + 8) file) in
       let P = ExpanderFacts most file seen i at in
-      tested P (leb (at + 36) (length file)) (refusal 1 i 0) _ tt (λ long.
-      next (GeneralFacts s) P (placed i 0 (generalRead s)) _ (placed-holds (GeneralFacts s) i 0 (generalRead s) (general-facts s)) (λ g q f.
-      tested P (leb 1 (g .phys) && leb (g .phys) (most .phys)) (refusal 3 i 0) _ tt (λ three.
-      tested P (not (eqb own 0) && not (isIn own seen)) (refusal 4 i 0) _ tt (λ four.
-      let n = both (leb 1 (g .phys)) _ three in
+      let Q : Parsed General → Type 0 = λ g. GeneralFacts file (g .value) in
+      let x = frameAt ReportGeneral generalRead file (at + 8) in
+      next Q P (placed i 0 x) _ (placed-holds Q i 0 x (frame-holds (GeneralFacts file) ReportGeneral generalRead file (at + 8) (general-at file (at + 8)))) (λ g q f.
+      let w = unitOf own (g .value) in
+      let R : ExpanderUnit → Type 0 = λ u. P (parsed u (g .next)) in
+      next R P (unitTested most seen i w) _
+      (tested R (leb 1 (w .phys) && leb (w .phys) (most .phys)) (refusal 3 i 0) _ tt (λ three.
+      tested R (not (eqb own 0) && not (isIn own seen)) (refusal 4 i 0) _ tt (λ four.
+      let n = both (leb 1 (w .phys)) _ three in
       let o = both (not (eqb own 0)) _ four in
       let free = o .0 in
       record {
         borne = eqb-false own 0 (not-true _ (o .0));
         new = λ h. was-false (isIn own seen) (not-true _ (o .1)) (isIn-of own seen h);
         configurable = f .configurable;
-        some = leb-true 1 (g .phys) (n .0);
-        few = leb-true (g .phys) (most .phys) (n .1);
-        fits = λ b. let c = part 28 (at + 8) file b in (number-fits file at 8 b, (f .indexes c, f .phys c));
-        again = simp (long, q, three, free);
-      }))))
+        some = leb-true 1 (w .phys) (n .0);
+        few = leb-true (w .phys) (most .phys) (n .1);
+        fits = λ b. (number-fits file at 8 b, (f .indexes b, f .phys b));
+        again = simp (q, three, free);
+      }))) (λ u _ r. r))
 
   -- the expanders that follow those with the addresses in `seen`
   record RestFacts (seen : List ℕ) (count i at : ℕ) (d : Domain) : Type 0 where
@@ -224,6 +268,22 @@ module _ (most : Limits) (file : List ℕ) where
         again = simp (x .again, y .again, z .again);
       })))
 
+  -- the count of expanders
+  record HeaderFacts (n : ℕ) : Type 0 where
+    stated : n ≡ byte file 1
+    some : 1 ≤ n
+    few : n ≤ most .expanders
+
+  header-facts : Reads HeaderFacts (headerUnit most file)
+  unfolding headerUnit
+  header-facts =
+      let n = byte file 1 in
+      tested HeaderFacts (leb 2 (length file)) (refusal 1 0 0) _ tt (λ _.
+      tested HeaderFacts (eqb (byte file 0) 0x10) (refusal 2 0 0) _ tt (λ _.
+      tested HeaderFacts (leb 1 n && leb n (most .expanders)) (refusal 3 0 0) _ tt (λ three.
+      let k = both (leb 1 n) _ three in
+      record { stated = refl; some = leb-true 1 n (k .0); few = leb-true n (most .expanders) (k .1) })))
+
   -- all that is known of the domain of a file
   record FileFacts (d : Domain) : Type 0 where
     read : Read most d
@@ -234,25 +294,15 @@ module _ (most : Limits) (file : List ℕ) where
   file-facts : Reads FileFacts (domainRead most file)
   unfolding domainRead
   file-facts =
-      let n = byte file 1 in
-      let all : Result Domain = expanders most file n 0 2 [] in
-      tested FileFacts (leb 2 (length file)) (refusal 1 0 0) _ tt (λ _.
-      tested FileFacts (eqb (byte file 0) 0x10) (refusal 2 0 0) _ tt (λ _.
-      tested FileFacts (leb 1 n && leb n (most .expanders)) (refusal 3 0 0) all tt (λ three.
-      weaker readNumber readNumber (RestFacts [] n 0 2) FileFacts all (expanders-facts n 0 2 []) (λ _ k. k) (λ d r.
-      let k = both (leb 1 n) _ three in
+      next HeaderFacts FileFacts (headerUnit most file) _ header-facts (λ n _ k.
+      weaker readNumber readNumber (RestFacts [] n 0 2) FileFacts (expanders most file n 0 2 []) (expanders-facts n 0 2 []) (λ _ k. k) (λ d r.
       let e = r .size in
       record {
-        read = record {
-          some = omega (arith, leb-true 1 n (k .0));
-          few = omega (arith, leb-true n (most .expanders) (k .1));
-          differ = r .differ;
-          each = r .each;
-        };
-        fits = λ b. record { count = omega (arith, b 1); each = r .fits b };
-        stated = r .size;
+        read = record { some = omega (arith, k .some); few = omega (arith, k .few); differ = r .differ; each = r .each };
+        fits = λ b. record { count = omega (arith, k .stated, b 1); each = r .fits b };
+        stated = r .size ∙ k .stated;
         again = rw (r .size) (r .again);
-      }))))
+      }))
 
   -- what a file reads as, causes 1 to 6 leave
   pub read-good : (d : Domain) → domainRead most file ≡ good d → Read most d

@@ -1,30 +1,34 @@
 -- Reading a file unit by unit: one turn of each loop, and its end.
 use Prim.Native.Nat.{ℕ, suc, _+_, _-_, _≤_, _<_}
 use mathlib.Core.Path.{_≡_, refl, sym, _∙_, ap}
-use mathlib.Core.Bool.{Bool, true, false, not, _||_, _&&_}
+use mathlib.Core.Bool.{Bool, true, false, _||_, _&&_}
 use mathlib.Core.List.{List, [], _∷_, _++_}
 use native.Mathlib.Omega.{arith}
 use native.Mathlib.Numerals.{add-one}
 use native.Mathlib.Nat.{zero-add}
-use lib.ListN.{length, getD, take, drop, set, drop-of-length-le}
-use lib.Seq.{drop-cons, take-suc-set}
+use lib.ListN.{length, getD, take, drop, set, length-drop, drop-of-length-le}
+use lib.Seq.{drop-cons, take-suc-set, take-all}
 use lib.Dec.{eqb, leb}
-use borrow.Author.Tests.{eq-eqb, ne-eqb}
+use borrow.Author.Tests.{eq-eqb, ne-eqb, le-leb, lt-leb, leb-true, leb-false}
 use Rattle.frames.specs.Refusals.{Result, refused, good, unless, then, refusal}
 use Rattle.frames.specs.Bytes.{byte, numberAt}
+use Rattle.frames.specs.Sizes.{shortSize, frameSize}
 use Rattle.frames.specs.Discovery.{Discovered, discoverRead}
 use Rattle.frames.specs.ReportGeneral.{generalRead}
 use Rattle.frames.specs.declared.General.{General}
 use Rattle.frames.specs.declared.Refusal.{Refusal}
+use Rattle.frames.specs.declared.Response.{Response}
+use Rattle.frames.specs.declared.Response.the-variants.{ReportGeneral, Discover as DiscoverResponse}
+use Rattle.frames.proofs.LongFrames.{size-least}
 use Rattle.wiring.specs.declared.Limits.{Limits}
 use Rattle.wiring.specs.declared.ExpanderUnit.{ExpanderUnit}
 use Rattle.wiring.specs.declared.Phy.{Phy}
 use Rattle.wiring.specs.Lists.{any, isIn}
 use Rattle.wiring.specs.Domain.{Expander, Domain}
-use Rattle.wiring.specs.File.{Parsed, parsed, placed, phyOf, phyUnit, phyUnits, expanderUnit, expanderOf, expanders, domainRead}
+use Rattle.wiring.specs.File.{Parsed, parsed, placed, sizeAt, frameAt, phyOf, phyUnit, phyUnits, unitOf, unitTested, expanderUnit, expanderOf, expanders, headerUnit, domainRead}
 use Rattle.wiring.specs.Rows.{countOf}
-use Rattle.wiring.specs.Units.{physNext, endsAt, unitOf, expanderChecked}
-use Rattle.wiring.proofs.Results.{never}
+use Rattle.wiring.specs.Units.{physNext, endsAt, expanderChecked}
+use Rattle.wiring.proofs.Results.{never, good-one}
 
 -- a number among those that are left
 module _ (a i : ℕ) (s : List ℕ) where
@@ -156,20 +160,103 @@ take-next s i a h = rw (add-one, take-suc-set s i a h)
 pub file-by : (most : Limits) (file : List ℕ) {a b c : Bool} → leb 2 (length file) ≡ a → eqb (byte file 0) 0x10 ≡ b
     → (leb 1 (byte file 1) && leb (byte file 1) (most .expanders)) ≡ c
     → then (domainRead most file) countOf
-    ≡ then (unless a (refusal 1 0 0) (unless b (refusal 2 0 0) (unless c (refusal 3 0 0) (expanders most file (byte file 1) 0 2 [])))) countOf
-unfolding domainRead
+    ≡ then (then (unless a (refusal 1 0 0) (unless b (refusal 2 0 0) (unless c (refusal 3 0 0) (good (byte file 1))))) (λ n. expanders most file n 0 2 [])) countOf
+unfolding domainRead headerUnit
 file-by most file p q r = rw (p, q, r)
 
--- a phy's unit, by what the test of its length and the reader of its frame answer
-pub phy-unit-by : (file : List ℕ) (own i p at : ℕ) (x : Result Discovered) {b : Bool} → leb (at + 52) (length file) ≡ b
-    → discoverRead (take 52 (drop at file)) ≡ x
-    → phyUnit file own i p at ≡ unless b (refusal 1 i p) (then (placed i p x) (λ f. then (phyOf own i p f) (endsAt (at + 52))))
-unfolding phyUnit
-phy-unit-by file own i p at x q r = rw (q, r)
+-- n bytes are there from offset a on
+pub bytes-there : (a n l : ℕ) → a ≤ l → leb n (l - a) ≡ leb (a + n) l
+bytes-there a n l h = go (leb n (l - a)) refl
+  where
+    go : (b : Bool) → leb n (l - a) ≡ b → b ≡ leb (a + n) l
+    go true q = sym (le-leb (a + n) l (omega (arith, leb-true n (l - a) q)))
+    go false q = sym (lt-leb (a + n) l (omega (arith, leb-false n (l - a) q)))
 
--- an expander's unit, likewise
-pub expander-unit-by : (most : Limits) (file seen : List ℕ) (i at own : ℕ) (x : Result General) {b free : Bool} → leb (at + 36) (length file) ≡ b
-    → generalRead (take 28 (drop (at + 8) file)) ≡ x → numberAt file at 8 ≡ own → (not (eqb own 0) && not (isIn own seen)) ≡ free
-    → expanderUnit most file seen i at ≡ unless b (refusal 1 i 0) (then (placed i 0 x) (λ g. unitOf most g own free i (at + 36)))
-unfolding expanderUnit
-expander-unit-by most file seen i at own x q r e f = rw (q, r, e, f)
+-- all bytes from an offset on
+pub rest-whole : (file : List ℕ) (from : ℕ) → take (length file - from) (drop from file) ≡ drop from file
+rest-whole file from = let l = length-drop from file in take-all (length file - from) (drop from file) (omega arith)
+
+-- a frame whose size was found, and that is whole
+pub record Whole (kind : Response) (s : List ℕ) (n : ℕ) : Type 0 where
+  pub size : frameSize kind s ≡ good n
+  pub bytes : n ≤ length s
+
+-- the size of a frame in a file
+module _ (kind : Response) (file : List ℕ) (from : ℕ) where
+  -- fewer than four bytes
+  pub size-cut : length file < from + 4 → sizeAt kind file from ≡ refused (refusal 1 0 0)
+  unfolding sizeAt frameSize
+  size-cut h = let l : length (drop from file) ≡ length file - from = length-drop from file in simp (lt-leb 4 (length (drop from file)) (omega arith))
+
+  pub size-refused : (r : Refusal) → frameSize kind (drop from file) ≡ refused r → sizeAt kind file from ≡ refused r
+  unfolding sizeAt
+  size-refused r e = rw e
+
+  -- by whether its bytes are there
+  pub size-by : (n : ℕ) {b : Bool} → frameSize kind (drop from file) ≡ good n → from ≤ length file → leb (from + n) (length file) ≡ b
+      → sizeAt kind file from ≡ unless b (refusal 1 0 0) (good n)
+  unfolding sizeAt
+  size-by n e h q =
+      let t : leb n (length (drop from file)) ≡ _ = ap (leb n) (length-drop from file) ∙ bytes-there from n (length file) h ∙ q in
+      simp (e, t)
+
+  pub size-whole : (n : ℕ) → sizeAt kind file from ≡ good n → Whole kind (drop from file) n
+  unfolding sizeAt
+  size-whole n e = found (frameSize kind (drop from file)) refl e
+    where
+      there : (m : ℕ) (b : Bool) → frameSize kind (drop from file) ≡ good m → leb m (length (drop from file)) ≡ b → unless b (refusal 1 0 0) (good m) ≡ good n
+          → Whole kind (drop from file) n
+      there m true f q e = let k = good-one m n e in record { size = f ∙ ap good k; bytes = omega (arith, leb-true m (length (drop from file)) q) }
+      there m false f q e = never (refusal 1 0 0) n e
+
+      found : (x : Result ℕ) → frameSize kind (drop from file) ≡ x → then x (λ m. unless (leb m (length (drop from file))) (refusal 1 0 0) (good m)) ≡ good n
+          → Whole kind (drop from file) n
+      found (refused r) f e = never r n e
+      found (good m) f e = there m (leb m (length (drop from file))) f refl e
+
+  -- the place after it
+  pub size-within : (n : ℕ) → sizeAt kind file from ≡ good n → (28 ≤ n) × (from + n ≤ length file)
+  size-within n e =
+      let w = size-whole n e in
+      let l = length-drop from file in
+      let m = size-least kind (drop from file) n (w .size) in
+      let k = shortest kind in
+      (omega arith, omega (arith, w .bytes))
+    where
+      shortest : (kind : Response) → 28 ≤ shortSize kind
+      shortest ReportGeneral = omega arith
+      shortest DiscoverResponse = omega arith
+
+-- a unit with its frame at offset `from`: the frame is read, and then its fields are tested
+module _ {A B : Type 0} (kind : Response) (read : List ℕ → Result A) (test : A → Result B) (i p : ℕ) (file : List ℕ) (from : ℕ) where
+  abbrev pub unitAt : Result (Parsed B)
+  unitAt = then (placed i p (frameAt kind read file from)) (λ f. then (test (f .value)) (λ u. good (parsed u (f .next))))
+
+  -- by what finding the size of the frame and reading it answer
+  pub unit-cut : (r : Refusal) → sizeAt kind file from ≡ refused r → unitAt ≡ refused (refusal (r .number) i p)
+  unit-cut r e = rw e
+
+  pub unit-by : (n : ℕ) (x : Result A) → sizeAt kind file from ≡ good n → read (take n (drop from file)) ≡ x
+      → unitAt ≡ then (placed i p x) (λ v. then (test v) (endsAt (from + n)))
+  unit-by n (refused r) e q = rw (e, q)
+  unit-by n (good v) e q = rw (e, q)
+
+module _ (file : List ℕ) (own i p at : ℕ) where
+  pub phy-unit-cut : (r : Refusal) → sizeAt DiscoverResponse file at ≡ refused r → phyUnit file own i p at ≡ refused (refusal (r .number) i p)
+  unfolding phyUnit
+  phy-unit-cut = unit-cut DiscoverResponse discoverRead (phyOf own i p) i p file at
+
+  pub phy-unit-by : (n : ℕ) (x : Result Discovered) → sizeAt DiscoverResponse file at ≡ good n → discoverRead (take n (drop at file)) ≡ x
+      → phyUnit file own i p at ≡ then (placed i p x) (λ f. then (phyOf own i p f) (endsAt (at + n)))
+  unfolding phyUnit
+  phy-unit-by = unit-by DiscoverResponse discoverRead (phyOf own i p) i p file at
+
+module _ (most : Limits) (file seen : List ℕ) (i at own : ℕ) (o : numberAt file at 8 ≡ own) where
+  pub expander-unit-cut : (r : Refusal) → sizeAt ReportGeneral file (at + 8) ≡ refused r → expanderUnit most file seen i at ≡ refused (refusal (r .number) i 0)
+  unfolding expanderUnit
+  expander-unit-cut r e = rw o (unit-cut ReportGeneral generalRead (λ g. unitTested most seen i (unitOf own g)) i 0 file (at + 8) r e)
+
+  pub expander-unit-by : (n : ℕ) (x : Result General) → sizeAt ReportGeneral file (at + 8) ≡ good n → generalRead (take n (drop (at + 8) file)) ≡ x
+      → expanderUnit most file seen i at ≡ then (placed i 0 x) (λ g. then (unitTested most seen i (unitOf own g)) (endsAt (at + 8 + n)))
+  unfolding expanderUnit
+  expander-unit-by n x e q = rw o (unit-by ReportGeneral generalRead (λ g. unitTested most seen i (unitOf own g)) i 0 file (at + 8) n x e q)

@@ -4,6 +4,7 @@ pub mod Domain
 pub mod Addresses
 pub mod SearchTree
 pub mod File
+pub mod ShortFile
 pub mod Read
 pub mod Units
 pub mod Rows

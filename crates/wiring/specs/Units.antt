@@ -1,10 +1,7 @@
 -- What the answers of the unit readers say in document 01's terms.
 use Prim.Native.Nat.{ℕ}
-use mathlib.Core.Bool.{Bool, _&&_}
 use mathlib.Core.List.{List}
-use lib.Dec.{leb}
-use Rattle.frames.specs.Refusals.{Result, refused, good, unless, then, refusal}
-use Rattle.frames.specs.declared.General.{General}
+use Rattle.frames.specs.Refusals.{Result, refused, good, then}
 use Rattle.wiring.specs.declared.Limits.{Limits}
 use Rattle.wiring.specs.declared.ExpanderUnit.{ExpanderUnit}
 use Rattle.wiring.specs.declared.Phy.{Phy}
@@ -37,13 +34,6 @@ module _ {A : Type 0} where
   -- read, with the place after it
   abbrev pub endsAt : ℕ → A → Result (Parsed A)
   endsAt next a = good (parsed a next)
-
--- 3: number of phys out of range; 4: the address is not free
-abbrev pub unitOf : Limits → General → ℕ → Bool → ℕ → ℕ → Result (Parsed ExpanderUnit)
-unitOf most g own free i next =
-    unless (leb 1 (g .phys) && leb (g .phys) (most .phys)) (refusal 3 i 0)
-    (unless free (refusal 4 i 0)
-    (good (parsed (record { address = own; indexes = g .indexes; phys = g .phys; configurable = g .configurable }) next)))
 
 -- an expander's unit, and the place after its phys
 unfoldable pub expanderChecked : Limits → List ℕ → List ℕ → ℕ → ℕ → Result (Parsed ExpanderUnit)

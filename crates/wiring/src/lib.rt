@@ -57,7 +57,7 @@ pub enum Phy {
     Present(PhyFields),
 }
 
-// An expander's unit of 36 bytes: address, route indexes R, number of phys, configurable bit.
+// The fields of an expander's unit: address, route indexes R, number of phys, configurable bit.
 pub struct ExpanderUnit {
     pub address: u64,
     pub indexes: u16,

@@ -6,11 +6,24 @@ use crate::PhyRead;
 use frames::ExpanderNumber;
 use frames::PhyId;
 use frames::Refusal;
+use frames::SizeRead;
 ghost use mathlib.Core.Path.{_≡_};
 ghost use Rattle.frames.specs.Refusals.{refused, refusal};
+ghost use Rattle.frames.specs.Sizes.{sizeAnswer};
 ghost use Rattle.wiring.specs.Rows.{readAnswer};
 ghost use Rattle.wiring.specs.Units.{phyAnswer, expanderAnswer};
 ghost use Rattle.wiring.specs.declared.Check.the-variants.{Refused};
+
+// Number k of a frame's size, without a place.
+pub(crate) fn size_refused(k: u8) -> SizeRead
+    ensures { λ r. ⌜ sizeAnswer r ≡ refused (refusal k 0 0) ⌝ }
+{
+    SizeRead::Refused(Refusal {
+        number: k,
+        expander: ExpanderNumber(0),
+        phy: PhyId(0),
+    })
+}
 
 // Number k at phy p of expander i, of a phy's unit.
 pub(crate) fn phy_refused(k: u8, i: ExpanderNumber, p: PhyId) -> PhyRead

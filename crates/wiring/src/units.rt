@@ -1,4 +1,5 @@
-// The units of a domain file: an expander's 36 bytes, and a phy's 52.
+// The units of a domain file: an expander's address and REPORT GENERAL response, and a phy's DISCOVER
+// response, each frame short or long.
 use crate::ExpanderRead;
 use crate::ExpanderUnit;
 use crate::Limits;
@@ -12,16 +13,19 @@ use frames::ExpanderNumber;
 use frames::General;
 use frames::GeneralRead;
 use frames::PhyId;
+use frames::Response;
+use frames::SizeRead;
 ghost use mathlib.Core.Path.{_≡_};
 ghost use mathlib.Core.Bool.{not, _||_, _&&_};
 ghost use Prim.Native.Nat.{_+_};
 ghost use lib.ListN.{length};
 ghost use lib.Dec.{eqb, leb};
 ghost use Rattle.frames.specs.Refusals.{then};
+ghost use Rattle.frames.specs.Sizes.{sizeAnswer};
 ghost use Rattle.frames.specs.Discovery.{fields};
 ghost use Rattle.wiring.specs.Lists.{isIn};
-ghost use Rattle.wiring.specs.File.{fieldsOf, phyOf, phyUnit, expanderUnit};
-ghost use Rattle.wiring.specs.Units.{phyAnswer, expanderAnswer, endsAt, unitOf};
+ghost use Rattle.wiring.specs.File.{sizeAt, fieldsOf, ranged, phyOf, phyUnit, unitOf, unitTested, expanderUnit};
+ghost use Rattle.wiring.specs.Units.{phyAnswer, expanderAnswer, endsAt};
 
 // Whether a file has n bytes from offset `at` on.
 fn has_bytes(file: &[u8], at: usize, n: usize) -> bool
@@ -31,6 +35,25 @@ fn has_bytes(file: &[u8], at: usize, n: usize) -> bool
         return false;
     }
     file.len() - at >= n
+}
+
+// The size of the frame at offset `from`, all of whose bytes are there: causes 1 and 2.
+fn size_at(kind: Response, file: &[u8], from: usize) -> SizeRead
+    ensures { λ r. ⌜ sizeAnswer r ≡ sizeAt kind (now (file .entry)) from ⌝ }
+{
+    if file.len() < from {
+        return refusals::size_refused(1);
+    }
+    let size = frames::frame_size(kind, &file[from..]);
+    match size {
+        SizeRead::Refused(r) => SizeRead::Refused(r),
+        SizeRead::Size(n) => {
+            if !has_bytes(file, from, n) {
+                return refusals::size_refused(1);
+            }
+            SizeRead::Size(n)
+        }
+    }
 }
 
 // Whether cause 5 does not hold: the phy identifier is p, and the own address is this expander's.
@@ -43,9 +66,10 @@ fn is_placed(f: Discover, own: u64, p: PhyId) -> bool
     f.own == own
 }
 
-// Whether cause 6 does not hold: type up to 3, attribute up to 2, and not attached with address zero.
-fn is_ranged(f: Discover) -> bool
-    ensures { λ r. ⌜ r ≡ (leb (f .device) 3 && (leb (f .attribute) 2 && (eqb (f .device) 0 || not (eqb (f .attached) 0)))) ⌝ }
+// Whether cause 6 does not hold of a phy's fields: type up to 3, attribute up to 2, and not attached with
+// address zero.
+fn is_ranged(f: PhyFields) -> bool
+    ensures { λ r. ⌜ r ≡ ranged f ⌝ }
 {
     if f.device > 3 {
         return false;
@@ -56,7 +80,7 @@ fn is_ranged(f: Discover) -> bool
     if f.device == 0 {
         return true;
     }
-    f.attached != 0
+    f.address != 0
 }
 
 // The fields of a phy; where nothing is attached, with address 0 and phy 0.
@@ -87,10 +111,10 @@ fn phy_of(f: Discover, own: u64, i: ExpanderNumber, p: PhyId, next: usize) -> Ph
     if !is_placed(f, own, p) {
         return refusals::phy_refused(5, i, p);
     }
-    if !is_ranged(f) {
+    let phy = fields_of(f);
+    if !is_ranged(phy) {
         return refusals::phy_refused(6, i, p);
     }
-    let phy = fields_of(f);
     PhyRead::Read(Phy::Present(phy), next)
 }
 
@@ -98,15 +122,18 @@ fn phy_of(f: Discover, own: u64, i: ExpanderNumber, p: PhyId, next: usize) -> Ph
 pub(crate) fn phy_unit(file: &[u8], own: u64, i: ExpanderNumber, p: PhyId, at: usize) -> PhyRead
     ensures { λ r. ⌜ phyAnswer r ≡ phyUnit (now (file .entry)) own (i .0) (p .0) at ⌝ }
 {
-    if !has_bytes(file, at, 52) {
-        return refusals::phy_refused(1, i, p);
-    }
-    let next = at + 52;
-    let frame = frames::read_discover(&file[at..next]);
-    match frame {
-        DiscoverRead::Refused(r) => refusals::phy_refused(r.number, i, p),
-        DiscoverRead::Vacant(result) => PhyRead::Read(Phy::Vacant(result), next),
-        DiscoverRead::Read(f) => phy_of(f, own, i, p, next),
+    let size = size_at(Response::Discover, file, at);
+    match size {
+        SizeRead::Refused(r) => refusals::phy_refused(r.number, i, p),
+        SizeRead::Size(n) => {
+            let next = at + n;
+            let frame = frames::read_discover(&file[at..next]);
+            match frame {
+                DiscoverRead::Refused(r) => refusals::phy_refused(r.number, i, p),
+                DiscoverRead::Vacant(result) => PhyRead::Read(Phy::Vacant(result), next),
+                DiscoverRead::Read(f) => phy_of(f, own, i, p, next),
+            }
+        }
     }
 }
 
@@ -144,34 +171,39 @@ pub(crate) fn is_within(n: u8, most: u8) -> bool
     n <= most
 }
 
-// Causes 3 and 4 of an expander's unit; `next` is the place after it.
-fn unit_of(
+// Causes 3 and 4 of an expander's fields; `next` is the place after its unit.
+fn test_unit(
     most: Limits,
-    g: General,
-    own: u64,
-    free: bool,
+    seen: &[u64],
+    u: ExpanderUnit,
     i: ExpanderNumber,
     next: usize,
 ) -> ExpanderRead
-    ensures { λ r. ⌜ expanderAnswer r ≡ unitOf most g own free (i .0) next ⌝ }
+    ensures { λ r. ⌜ expanderAnswer r ≡ then (unitTested most (now (seen .entry)) (i .0) u) (endsAt next) ⌝ }
 {
-    if !is_within(g.phys, most.phys) {
+    if !is_within(u.phys, most.phys) {
         return refusals::expander_refused(3, i);
     }
-    if !free {
+    if !is_free(seen, u.address) {
         return refusals::expander_refused(4, i);
     }
-    let unit = ExpanderUnit {
+    ExpanderRead::Read(u, next)
+}
+
+// The fields of an expander with this address.
+fn unit_of(own: u64, g: General) -> ExpanderUnit
+    ensures { λ r. ⌜ r ≡ unitOf own g ⌝ }
+{
+    ExpanderUnit {
         address: own,
         indexes: g.indexes,
         phys: g.phys,
         configurable: g.configurable,
-    };
-    ExpanderRead::Read(unit, next)
+    }
 }
 
 // The unit of expander i at offset `at`, where `seen` are the addresses of the expanders before it:
-// causes 1 to 4.
+// causes 1 to 4. Its frame starts after the eight bytes of the address.
 pub(crate) fn expander_unit(
     most: Limits,
     file: &[u8],
@@ -181,16 +213,21 @@ pub(crate) fn expander_unit(
 ) -> ExpanderRead
     ensures { λ r. ⌜ expanderAnswer r ≡ expanderUnit most (now (file .entry)) (now (seen .entry)) (i .0) at ⌝ }
 {
-    if !has_bytes(file, at, 36) {
+    if !has_bytes(file, at, 8) {
         return refusals::expander_refused(1, i);
     }
     let own = frames::address_at(file, at);
-    let free = is_free(seen, own);
     let from = at + 8;
-    let next = at + 36;
-    let frame = frames::read_general(&file[from..next]);
-    match frame {
-        GeneralRead::Refused(r) => refusals::expander_refused(r.number, i),
-        GeneralRead::Read(g) => unit_of(most, g, own, free, i, next),
+    let size = size_at(Response::ReportGeneral, file, from);
+    match size {
+        SizeRead::Refused(r) => refusals::expander_refused(r.number, i),
+        SizeRead::Size(n) => {
+            let next = from + n;
+            let frame = frames::read_general(&file[from..next]);
+            match frame {
+                GeneralRead::Refused(r) => refusals::expander_refused(r.number, i),
+                GeneralRead::Read(g) => test_unit(most, seen, unit_of(own, g), i, next),
+            }
+        }
     }
 }

@@ -1,11 +1,19 @@
-use Prim.Native.Nat.{_+_, _-_}
+-- expander_unit tests that the address is there, finds the size of the frame after it, and hands the frame's part of the file to read_general: one return for
+-- each answer of these.
+use Prim.Native.Nat.{_+_}
 use mathlib.Core.Path.{_≡_, refl, sym, _∙_, ap}
+use native.Mathlib.Nat.{add-sub-cancel-left}
 use native.Mathlib.Omega.{arith}
 use lib.ListN.{length}
-use borrow.Author.Needs.{needs}
-use borrow.Author.Tests.{leb-true, not-true, not-false}
+use borrow.Author.Tests.{leb-true, leb-false, not-true, not-false}
+use Rattle.frames.specs.Refusals.{then, refusal}
+use Rattle.frames.specs.Sizes.{sizeAnswer}
 use Rattle.frames.specs.ReportGeneral.{generalAnswer}
-use Rattle.wiring.proofs.Reading.{expander-unit-by}
+use Rattle.frames.specs.declared.Response.the-variants.{ReportGeneral}
+use Rattle.wiring.specs.File.{unitTested}
+use Rattle.wiring.specs.Units.{endsAt}
+use Rattle.wiring.proofs.Reading.{size-cut, size-within, expander-unit-cut, expander-unit-by}
+use borrow.Author.Needs.{needs}
 use Rattle.wiring.proofs.units.expander_unit.Statement.{statement}
 use Rattle.wiring.proofs.units.expander_unit.Tie as tie
 
@@ -18,26 +26,39 @@ expander-refused-requires c κs = search needs
 returns : tie.Need-returns
 returns c =
     let t = c .before in
-    c .expander-refused .ensures ∙ sym (expander-unit-by _ _ _ _ _ _ _ (sym (t .before .has-bytes .ensures) ∙ not-true _ (t .if1 .taken)) refl refl refl)
+    let a = t .before .before .before .before .args in
+    let h = leb-false (a .at + 8) (length (a .file .now)) (sym (t .before .has-bytes .ensures) ∙ not-true _ (t .if1 .taken)) in
+    c .expander-refused .ensures ∙ sym (expander-unit-cut _ _ _ _ _ _ refl (refusal 1 0 0) (size-cut ReportGeneral (a .file .now) (a .at + 8) (omega arith)))
 
 address-at-requires : tie.Need-address-at-requires
 address-at-requires c κs = search needs
 
-is-free-requires : tie.Need-is-free-requires
-is-free-requires c κs = search needs
-
 add-from : tie.Need-add-from
 add-from c =
-    let f = c .before .before in
-    let a = f .before .before .before .before .args in
-    let h = leb-true (a .at + 36) (length (a .file .now)) (sym (f .before .has-bytes .ensures) ∙ not-false _ (f .if1 .left)) in
+    let t = c .before in
+    let a = t .before .before .before .before .args in
+    let h = leb-true (a .at + 8) (length (a .file .now)) (sym (t .before .has-bytes .ensures) ∙ not-false _ (t .if1 .left)) in
     omega arith
+
+size-at-requires : tie.Need-size-at-requires
+size-at-requires c κs = search needs
+
+enum-known-size : tie.Need-enum-known-size
+enum-known-size c = search needs
+
+expander-refused-requires-2 : tie.Need-expander-refused-requires-2
+expander-refused-requires-2 c κs = search needs
+
+enum-known-size-2 : tie.Need-enum-known-size-2
+enum-known-size-2 c = search needs
 
 add-next : tie.Need-add-next
 add-next c =
-    let f = c .before .before in
-    let a = f .before .before .before .before .args in
-    let h = leb-true (a .at + 36) (length (a .file .now)) (sym (f .before .has-bytes .ensures) ∙ not-false _ (f .if1 .left)) in
+    let m = c .before in
+    let f = m .before .before in
+    let k = f .before .before .before .before .before in
+    let a = k .before .args in
+    let h = size-within ReportGeneral (a .file .now) (a .at + 8) _ (sym (f .size-at .ensures) ∙ ap sizeAnswer (m .size2 .given .1)) in
     omega arith
 
 sub-read-general : tie.Need-sub-read-general
@@ -48,9 +69,11 @@ part-read-general-start c = search needs
 
 part-read-general-end : tie.Need-part-read-general-end
 part-read-general-end c =
-    let f = c .before .before in
-    let a = f .before .before .before .before .args in
-    let h = leb-true (a .at + 36) (length (a .file .now)) (sym (f .before .has-bytes .ensures) ∙ not-false _ (f .if1 .left)) in
+    let m = c .before in
+    let f = m .before .before in
+    let k = f .before .before .before .before .before in
+    let a = k .before .args in
+    let h = size-within ReportGeneral (a .file .now) (a .at + 8) _ (sym (f .size-at .ensures) ∙ ap sizeAnswer (m .size2 .given .1)) in
     omega arith
 
 read-general-requires : tie.Need-read-general-requires
@@ -59,8 +82,8 @@ read-general-requires c κs = search needs
 enum-known-frame : tie.Need-enum-known-frame
 enum-known-frame c = search needs
 
-expander-refused-requires-2 : tie.Need-expander-refused-requires-2
-expander-refused-requires-2 c κs = search needs
+expander-refused-requires-3 : tie.Need-expander-refused-requires-3
+expander-refused-requires-3 c κs = search needs
 
 enum-known-frame-2 : tie.Need-enum-known-frame-2
 enum-known-frame-2 c = search needs
@@ -68,27 +91,35 @@ enum-known-frame-2 c = search needs
 unit-of-requires : tie.Need-unit-of-requires
 unit-of-requires c κs = search needs
 
+test-unit-requires : tie.Need-test-unit-requires
+test-unit-requires c κs = search needs
+
 returns-2 : tie.Need-returns-2
 returns-2 c =
-    let e = c .before .before in
-    let g = e .before .before in
-    let f = g .before .before .before .before in
-    let a = f .before .before .before .before .args in
-    let k : (a .at + 36) - (a .at + 8) ≡ 28 = omega arith in
-    let q = simp k at (sym (g .read-general .ensures) ∙ ap generalAnswer (e .frame .given .1)) in
-    c .expander-refused2 .ensures
-    ∙ sym (expander-unit-by _ _ _ _ _ _ _ (sym (f .before .has-bytes .ensures) ∙ not-false _ (f .if1 .left)) q refl refl)
+    let m = c .before .before in
+    c .expander-refused2 .ensures ∙ sym (expander-unit-cut _ _ _ _ _ _ refl _ (sym (m .before .before .size-at .ensures) ∙ ap sizeAnswer (m .size .given .1)))
 
 returns-3 : tie.Need-returns-3
 returns-3 c =
-    let g = c .before .before .before .before in
-    let n = g .before .before .before in
-    let f = n .before in
-    let a = f .before .before .before .before .args in
-    let k : (a .at + 36) - (a .at + 8) ≡ 28 = omega arith in
-    let q = simp k at (sym (g .read-general .ensures) ∙ ap generalAnswer (c .before .before .frame2 .given .1)) in
-    let t = sym (f .before .has-bytes .ensures) ∙ not-false _ (f .if1 .left) in
-    c .unit-of .ensures ∙ sym (expander-unit-by _ _ _ _ _ _ _ t q (sym (n .address-at .ensures)) (sym (g .before .before .is-free .ensures)))
+    let x = c .before .before in
+    let g = x .before .before in
+    let m = g .before .before .before in
+    let f = m .before .before in
+    let q = simp add-sub-cancel-left at (sym (g .read-general .ensures) ∙ ap generalAnswer (x .frame .given .1)) in
+    c .expander-refused3 .ensures
+    ∙ sym (expander-unit-by _ _ _ _ _ _ (sym (f .before .address-at .ensures)) _ _ (sym (f .size-at .ensures) ∙ ap sizeAnswer (m .size2 .given .1)) q)
+
+returns-4 : tie.Need-returns-4
+returns-4 c =
+    let x = c .before .before .before in
+    let g = x .before .before in
+    let m = g .before .before .before in
+    let f = m .before .before in
+    let q = simp add-sub-cancel-left at (sym (g .read-general .ensures) ∙ ap generalAnswer (x .frame2 .given .1)) in
+    let k = f .before .before .before .before .before in
+    let a = k .before .args in
+    c .test-unit .ensures ∙ ap (λ u. then (unitTested (a .most) (a .seen .now) (a .i .0) u) (endsAt (a .at + 8 + m .size2 .given .0 .0))) (c .before .unit-of .ensures)
+    ∙ sym (expander-unit-by _ _ _ _ _ _ (sym (f .before .address-at .ensures)) _ _ (sym (f .size-at .ensures) ∙ ap sizeAnswer (m .size2 .given .1)) q)
 
 pub expander-unit-spec : {M : Type 1} → statement M
-expander-unit-spec = tie.close (tie.spec has-bytes-requires expander-refused-requires returns address-at-requires is-free-requires add-from add-next sub-read-general part-read-general-start part-read-general-end read-general-requires enum-known-frame expander-refused-requires-2 enum-known-frame-2 unit-of-requires returns-2 returns-3)
+expander-unit-spec = tie.close (tie.spec has-bytes-requires expander-refused-requires returns address-at-requires add-from size-at-requires enum-known-size expander-refused-requires-2 enum-known-size-2 add-next sub-read-general part-read-general-start part-read-general-end read-general-requires enum-known-frame expander-refused-requires-3 enum-known-frame-2 unit-of-requires test-unit-requires returns-2 returns-3 returns-4)

@@ -1,10 +1,10 @@
--- `phy_of` answers causes 5 and 6 of a phy, and else its fields: one return for each cause that holds, and one where none does.
+-- phy_of answers causes 5 and 6 of a phy, and else its fields: one return for each cause that holds, and one where none does.
 use mathlib.Core.Path.{sym, _∙_, ap}
-use borrow.Author.Needs.{needs}
 use borrow.Author.Tests.{not-true, not-false}
 use Rattle.frames.specs.Refusals.{good}
 use Rattle.wiring.specs.declared.Phy.the-variants.{Present}
-use Rattle.wiring.specs.File.{parsed}
+use Rattle.wiring.specs.File.{parsed, ranged}
+use borrow.Author.Needs.{needs}
 use Rattle.wiring.proofs.units.phy_of.Statement.{statement}
 use Rattle.wiring.proofs.units.phy_of.Tie as tie
 
@@ -19,6 +19,9 @@ returns c =
     let t = c .before in
     simp (sym (t .before .is-placed .ensures) ∙ not-true _ (t .if1 .taken)) (c .phy-refused .ensures)
 
+fields-of-requires : tie.Need-fields-of-requires
+fields-of-requires c κs = search needs
+
 is-ranged-requires : tie.Need-is-ranged-requires
 is-ranged-requires c κs = search needs
 
@@ -29,17 +32,15 @@ returns-2 : tie.Need-returns-2
 returns-2 c =
     let t = c .before in
     let f = t .before .before in
-    simp (sym (f .before .is-placed .ensures) ∙ not-false _ (f .if1 .left), sym (t .before .is-ranged .ensures) ∙ not-true _ (t .if2 .taken))
-    (c .phy-refused2 .ensures)
-
-fields-of-requires : tie.Need-fields-of-requires
-fields-of-requires c κs = search needs
+    let r = ap ranged (sym (f .fields-of .ensures)) ∙ sym (t .before .is-ranged .ensures) ∙ not-true _ (t .if2 .taken) in
+    simp (sym (f .before .before .is-placed .ensures) ∙ not-false _ (f .before .if1 .left), r) (c .phy-refused2 .ensures)
 
 returns-3 : tie.Need-returns-3
 returns-3 c =
-    let f = c .before .before .before in
-    simp (sym (f .before .is-placed .ensures) ∙ not-false _ (f .if1 .left), sym (c .before .before .is-ranged .ensures) ∙ not-false _ (c .before .if2 .left))
-    (ap (λ g. good (parsed (Present g) (f .before .before .args .next))) (c .fields-of .ensures))
+    let f = c .before .before in
+    let r = ap ranged (sym (f .fields-of .ensures)) ∙ sym (c .before .is-ranged .ensures) ∙ not-false _ (c .if2 .left) in
+    simp (sym (f .before .before .is-placed .ensures) ∙ not-false _ (f .before .if1 .left), r)
+    (ap (λ g. good (parsed (Present g) (f .before .before .before .args .next))) (f .fields-of .ensures))
 
 pub phy-of-spec : {M : Type 1} → statement M
-phy-of-spec = tie.close (tie.spec is-placed-requires phy-refused-requires returns is-ranged-requires phy-refused-requires-2 returns-2 fields-of-requires returns-3)
+phy-of-spec = tie.close (tie.spec is-placed-requires phy-refused-requires returns fields-of-requires is-ranged-requires phy-refused-requires-2 returns-2 returns-3)

@@ -1,30 +1,33 @@
+-- phy_unit finds the size of its frame, and hands the frame's part of the file to read_discover: one return for each answer of these two.
 use Prim.Native.Nat.{_+_}
-use mathlib.Core.Path.{refl, sym, _∙_, ap}
+use mathlib.Core.Path.{_≡_, sym, _∙_, ap}
 use native.Mathlib.Nat.{add-sub-cancel-left}
 use native.Mathlib.Omega.{arith}
-use lib.ListN.{length}
-use borrow.Author.Needs.{needs}
-use borrow.Author.Tests.{leb-true, not-true, not-false}
+use Rattle.frames.specs.Sizes.{sizeAnswer}
 use Rattle.frames.specs.Discovery.{discoverAnswer}
-use Rattle.wiring.proofs.Reading.{phy-unit-by}
+use Rattle.frames.specs.declared.Response.the-variants.{Discover}
+use Rattle.wiring.proofs.Reading.{size-within, phy-unit-cut, phy-unit-by}
+use borrow.Author.Needs.{needs}
 use Rattle.wiring.proofs.units.phy_unit.Statement.{statement}
 use Rattle.wiring.proofs.units.phy_unit.Tie as tie
 
-has-bytes-requires : tie.Need-has-bytes-requires
-has-bytes-requires c κs = search needs
+size-at-requires : tie.Need-size-at-requires
+size-at-requires c κs = search needs
+
+enum-known-size : tie.Need-enum-known-size
+enum-known-size c = search needs
 
 phy-refused-requires : tie.Need-phy-refused-requires
 phy-refused-requires c κs = search needs
 
-returns : tie.Need-returns
-returns c =
-    let t = c .before in
-    c .phy-refused .ensures ∙ sym (phy-unit-by _ _ _ _ _ _ (sym (t .before .has-bytes .ensures) ∙ not-true _ (t .if1 .taken)) refl)
+enum-known-size-2 : tie.Need-enum-known-size-2
+enum-known-size-2 c = search needs
 
 add-next : tie.Need-add-next
 add-next c =
-    let a = c .before .before .before .args in
-    let h = leb-true (a .at + 52) (length (a .file .now)) (sym (c .before .has-bytes .ensures) ∙ not-false _ (c .if1 .left)) in
+    let m = c .before in
+    let f = m .before .before in
+    let h = size-within Discover (f .before .before .args .file .now) (f .before .before .args .at) _ (sym (f .size-at .ensures) ∙ ap sizeAnswer (m .size2 .given .1)) in
     omega arith
 
 sub-read-discover : tie.Need-sub-read-discover
@@ -35,8 +38,9 @@ part-read-discover-start c = search needs
 
 part-read-discover-end : tie.Need-part-read-discover-end
 part-read-discover-end c =
-    let a = c .before .before .before .args in
-    let h = leb-true (a .at + 52) (length (a .file .now)) (sym (c .before .has-bytes .ensures) ∙ not-false _ (c .if1 .left)) in
+    let m = c .before in
+    let f = m .before .before in
+    let h = size-within Discover (f .before .before .args .file .now) (f .before .before .args .at) _ (sym (f .size-at .ensures) ∙ ap sizeAnswer (m .size2 .given .1)) in
     omega arith
 
 read-discover-requires : tie.Need-read-discover-requires
@@ -57,27 +61,33 @@ enum-known-frame-3 c = search needs
 phy-of-requires : tie.Need-phy-of-requires
 phy-of-requires c κs = search needs
 
+returns : tie.Need-returns
+returns c =
+    let m = c .before .before in
+    c .phy-refused .ensures ∙ sym (phy-unit-cut _ _ _ _ _ _ (sym (m .before .before .size-at .ensures) ∙ ap sizeAnswer (m .size .given .1)))
+
 returns-2 : tie.Need-returns-2
 returns-2 c =
-    let e = c .before .before in
-    let d = e .before .before in
-    let f = d .before .before in
-    let q = simp add-sub-cancel-left at (sym (d .read-discover .ensures) ∙ ap discoverAnswer (e .frame .given .1)) in
-    c .phy-refused2 .ensures ∙ sym (phy-unit-by _ _ _ _ _ _ (sym (f .before .has-bytes .ensures) ∙ not-false _ (f .if1 .left)) q)
+    let x = c .before .before in
+    let d = x .before .before in
+    let m = d .before .before .before in
+    let q = simp add-sub-cancel-left at (sym (d .read-discover .ensures) ∙ ap discoverAnswer (x .frame .given .1)) in
+    c .phy-refused2 .ensures ∙ sym (phy-unit-by _ _ _ _ _ _ _ (sym (m .before .before .size-at .ensures) ∙ ap sizeAnswer (m .size2 .given .1)) q)
 
 returns-3 : tie.Need-returns-3
 returns-3 c =
     let d = c .before .before .before in
-    let f = d .before .before in
+    let m = d .before .before .before in
     let q = simp add-sub-cancel-left at (sym (d .read-discover .ensures) ∙ ap discoverAnswer (c .before .frame2 .given .1)) in
-    sym (phy-unit-by _ _ _ _ _ _ (sym (f .before .has-bytes .ensures) ∙ not-false _ (f .if1 .left)) q)
+    sym (phy-unit-by _ _ _ _ _ _ _ (sym (m .before .before .size-at .ensures) ∙ ap sizeAnswer (m .size2 .given .1)) q)
 
 returns-4 : tie.Need-returns-4
 returns-4 c =
-    let d = c .before .before .before .before in
-    let f = d .before .before in
-    let q = simp add-sub-cancel-left at (sym (d .read-discover .ensures) ∙ ap discoverAnswer (c .before .before .frame3 .given .1)) in
-    c .phy-of .ensures ∙ sym (phy-unit-by _ _ _ _ _ _ (sym (f .before .has-bytes .ensures) ∙ not-false _ (f .if1 .left)) q)
+    let x = c .before .before in
+    let d = x .before .before in
+    let m = d .before .before .before in
+    let q = simp add-sub-cancel-left at (sym (d .read-discover .ensures) ∙ ap discoverAnswer (x .frame3 .given .1)) in
+    c .phy-of .ensures ∙ sym (phy-unit-by _ _ _ _ _ _ _ (sym (m .before .before .size-at .ensures) ∙ ap sizeAnswer (m .size2 .given .1)) q)
 
 pub phy-unit-spec : {M : Type 1} → statement M
-phy-unit-spec = tie.close (tie.spec has-bytes-requires phy-refused-requires returns add-next sub-read-discover part-read-discover-start part-read-discover-end read-discover-requires enum-known-frame phy-refused-requires-2 enum-known-frame-2 enum-known-frame-3 phy-of-requires returns-2 returns-3 returns-4)
+phy-unit-spec = tie.close (tie.spec size-at-requires enum-known-size phy-refused-requires enum-known-size-2 add-next sub-read-discover part-read-discover-start part-read-discover-end read-discover-requires enum-known-frame phy-refused-requires-2 enum-known-frame-2 enum-known-frame-3 phy-of-requires returns returns-2 returns-3 returns-4)

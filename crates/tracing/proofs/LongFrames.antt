@@ -1,0 +1,39 @@
+-- Long frames: a request ends alike over a file and over its short file, whatever words are lent. The pair rig with long and short
+-- frames mixed.
+use Prim.Native.Nat.{ℕ}
+use mathlib.Core.Path.{_≡_, refl}
+use mathlib.Core.List.{List, [], _∷_, _++_}
+use lib.ListN.{take, drop, replicate}
+use Rattle.tables.specs.Wiring.{refused, refusal, limits}
+use Rattle.tables.specs.Judge.{judged}
+use Rattle.tables.proofs.LongFrames.{short-judged}
+use Rattle.tables.proofs.Opened.{numberAt, bytesOf, frameSize, generalFixed, generalRead, discoverFixed, discoverRead, any, isIn, sizeAt, phyUnit, phyUnits, expanderUnit, expanders, headerUnit, domainRead, shortPhys, shortExpanders, shortFile}
+use Rattle.tracing.specs.Trace.{Request, traceCall}
+use Rattle.tracing.proofs.Pair.{general, discover, at, pair}
+
+pub short-traces : (file words : List ℕ) (bytes : ℕ) (q : Request) → traceCall (shortFile limits file) words bytes q ≡ traceCall file words bytes q
+unfolding traceCall
+short-traces file words bytes q = rw (short-judged file)
+
+-- the long frame of a short one: byte 3, and other bytes after it
+unfoldable pub long : ℕ → ℕ → List ℕ → List ℕ
+long length more frame = take 3 frame ++ (length ∷ (drop 4 frame ++ replicate more 0xee))
+
+-- the pair rig: expander 0 with a long REPORT GENERAL response, and long DISCOVER responses of phy 0 of expander 0 and of phy 2 of expander 1
+unfoldable pub mixed : List ℕ
+mixed =
+    0x10 ∷ 2
+    ∷ (bytesOf 8 (at 0x10) ++ (long 0x10 40 (general 4 2 1)
+    ++ (long 0x0f 12 (discover 0 2 (at 0x10) (at 0x20) 0 2)
+    ++ (discover 1 1 (at 0x10) (at 0xa1) 0 0
+    ++ (bytesOf 8 (at 0x20) ++ (general 0 3 0
+    ++ (discover 0 2 (at 0x20) (at 0x10) 0 1
+    ++ (discover 1 1 (at 0x20) (at 0xb1) 0 0
+    ++ long 0x0f 12 (discover 2 0 (at 0x20) 0 0 0)))))))))
+
+-- its short file is the pair rig's file; cut by a byte it is refused at the last phy, and the frames before are cut all the same
+pub mixed-pair : (shortFile limits mixed ≡ pair 4)
+    × ((judged (take 397 mixed) ≡ refused (refusal 1 1 2)) × (shortFile limits (take 397 mixed) ≡ take 282 (pair 4) ++ drop 334 (take 397 mixed)))
+unfolding mixed long general discover pair numberAt bytesOf frameSize generalFixed generalRead discoverFixed discoverRead any isIn sizeAt phyUnit phyUnits expanderUnit expanders headerUnit
+    domainRead shortPhys shortExpanders shortFile
+mixed-pair = (refl, (refl, refl))
