@@ -8,15 +8,12 @@ use native.Mathlib.Nat.{sub-zero}
 use native.Mathlib.Numerals.{add-one}
 use lib.ListN.{length, getD, drop, drop-of-length-le}
 use lib.Seq.{drop-cons}
-use lib.Dec.{T}
 use Rattle.frames.specs.Refusals.{Result, refused, good, then, refusal}
 use Rattle.wiring.specs.declared.Check.{Check}
 use Rattle.wiring.specs.Lists.{any}
 use Rattle.wiring.specs.Domain.{Domain, noExpander, expanderAt}
-use Rattle.wiring.specs.Causes.{Place, clashing, places, phyPlaces, placesFrom, firstIn, firstOf, wiredDomain}
-use Rattle.wiring.specs.Checks.{checkAnswer, miswired, causeOf, Testable}
-use Rattle.wiring.proofs.Members.{tests, is-false, was-false}
-use Rattle.wiring.proofs.Accepted.{firstIn-good, good-firstIn}
+use Rattle.wiring.specs.Causes.{Place, phyPlaces, placesFrom, firstIn, firstOf, wiredDomain}
+use Rattle.wiring.specs.Checks.{checkAnswer, causeOf}
 
 -- one turn of `any`, also past the end
 module _ {A : Type 0} (f : A → Bool) (e : A) where
@@ -96,17 +93,3 @@ pub wired-by : (d : Domain) {a b c e : Result Domain} → firstOf 7 (causeOf 7 d
     → firstOf 10 (causeOf 10 d) d ≡ e → then a (λ _. then b (λ _. then c (λ _. e))) ≡ wiredDomain d
 unfolding wiredDomain causeOf
 wired-by d p q r s = sym (in-order p q r s)
-
--- a search for any of causes 7 to 10 that finds none
-module _ (d : Domain) (e : firstOf 0 (causeOf 0 d) d ≡ good d) where
-  none-of : (k : ℕ) → ((i p : ℕ) → T (causeOf k d i p) → T (causeOf 0 d i p)) → firstOf k (causeOf k d) d ≡ good d
-  none-of k f = good-firstIn k (causeOf k d) (places d) d (λ i p h t. firstIn-good 0 (causeOf 0 d) (places d) d d e .1 i p h (f i p t))
-
-  pub wired-none : good d ≡ wiredDomain d
-  unfolding causeOf miswired
-  wired-none = wired-by d (none-of 7 (λ i p t. search tests)) (none-of 8 (λ i p t. search tests)) (none-of 9 (λ i p t. search tests)) (none-of 10 (λ i p t. search tests))
-
--- where none of causes 7 to 10 holds at a lower phy, cause 9 does not
-pub clash-testable : (d : Domain) (i p : ℕ) → Testable 0 d i p → Testable 9 d i p
-unfolding causeOf miswired
-clash-testable d i p can = record { within = can .within; none = λ q h. is-false (clashing d i q) (λ t. was-false _ (can .none q h) (search tests)) }

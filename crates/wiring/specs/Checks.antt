@@ -1,7 +1,7 @@
 -- Causes by number, the answers of checks, tests of one phy, and an expander's second word in rows.
 use Prim.Native.Nat.{ℕ, _*_, _/_, _%_, _≤_, _<_, min}
 use mathlib.Core.Path.{_≡_}
-use mathlib.Core.Bool.{Bool, false, cond, _||_, _&&_}
+use mathlib.Core.Bool.{Bool, false, cond, _&&_}
 use mathlib.Core.List.{List}
 use lib.ListN.{length}
 use lib.Dec.{eqb, leb}
@@ -19,19 +19,14 @@ abbrev pub checkAnswer : Domain → Check → Result Domain
 checkAnswer d (Refused r) = refused r
 checkAnswer d Passed = good d
 
--- any of causes 7 to 10
-unfoldable pub miswired : Domain → ℕ → ℕ → Bool
-miswired d i p = unanswered d i p || (claimed d i p || (clashing d i p || fixed d i p))
-
--- the causes that stand at one phy, by number; 0 is any of 7 to 10
+-- the causes that stand at one phy, by number
 unfoldable pub causeOf : ℕ → Domain → ℕ → ℕ → Bool
 causeOf k d i p =
-    cond (eqb k 0) (miswired d i p)
-    (cond (eqb k 7) (unanswered d i p)
+    cond (eqb k 7) (unanswered d i p)
     (cond (eqb k 8) (claimed d i p)
     (cond (eqb k 9) (clashing d i p)
     (cond (eqb k 10) (fixed d i p)
-    (cond (eqb k 13) (tableToTable d i p) false)))))
+    (cond (eqb k 13) (tableToTable d i p) false))))
 
 -- number k, at the lowest phy of expander i at which cause k holds
 abbrev pub firstAt : ℕ → Domain → ℕ → Result Domain

@@ -16,7 +16,7 @@ ghost use Rattle.wiring.specs.Addresses.{IndexedFirst, Indexed};
 ghost use Rattle.wiring.specs.Rows.{domainIn};
 ghost use Rattle.wiring.specs.Causes.{farPhy, names, unanswered, claimed, fixed, firstOf, wiredDomain};
 ghost use Rattle.wiring.specs.Links.{tableToTable};
-ghost use Rattle.wiring.specs.Checks.{checkAnswer, miswired, causeOf, firstAt, Testable};
+ghost use Rattle.wiring.specs.Checks.{checkAnswer, causeOf, firstAt, Testable};
 
 // The far end of f, phy p of expander i, which is attached to an expander: a vacant phy where it is missing.
 fn far_phy(rows: &[u64], first: &[u16], i: ExpanderNumber, p: PhyId, f: Phy) -> Phy
@@ -94,31 +94,11 @@ fn is_table_to_table(rows: &[u64], first: &[u16], i: ExpanderNumber, p: PhyId) -
     view::phy_attribute(far_phy(rows, first, i, p, f)) == 2
 }
 
-// Any of causes 7 to 10 at phy p of expander i, where none of them holds at a lower phy of it.
-fn is_miswired(rows: &[u64], first: &[u16], low: &[u8], i: ExpanderNumber, p: PhyId) -> bool
-    requires { ⌜ Indexed (domainIn (now rows)) (now first) (now low) × Testable 0 (domainIn (now rows)) (i .0) (p .0) ⌝ }
-    ensures { λ r. ⌜ r ≡ miswired (domainIn (now (rows .entry))) (i .0) (p .0) ⌝ }
-{
-    if is_unanswered(rows, first, i, p) {
-        return true;
-    }
-    if is_claimed(rows, first, i, p) {
-        return true;
-    }
-    if clashes::is_clashing(rows, low, i, p) {
-        return true;
-    }
-    is_fixed(rows, i, p)
-}
-
 // Whether cause k holds at phy p of expander i, where it does not hold at a lower phy of it.
 fn cause_holds(rows: &[u64], first: &[u16], low: &[u8], k: u8, i: ExpanderNumber, p: PhyId) -> bool
     requires { ⌜ Indexed (domainIn (now rows)) (now first) (now low) × Testable k (domainIn (now rows)) (i .0) (p .0) ⌝ }
     ensures { λ r. ⌜ r ≡ causeOf k (domainIn (now (rows .entry))) (i .0) (p .0) ⌝ }
 {
-    if k == 0 {
-        return is_miswired(rows, first, low, i, p);
-    }
     if k == 7 {
         return is_unanswered(rows, first, i, p);
     }
@@ -153,7 +133,7 @@ fn first_phy(rows: &[u64], first: &[u16], low: &[u8], k: u8, i: ExpanderNumber) 
     Check::Passed
 }
 
-// The lowest phy, by expander and then phy, at which cause k holds: 7 to 10 or 13, or 0 for any of 7 to 10.
+// The lowest phy, by expander and then phy, at which cause k holds: 7 to 10 or 13.
 pub(crate) fn first_of(rows: &[u64], first: &[u16], low: &[u8], k: u8) -> Check
     requires { ⌜ Indexed (domainIn (now rows)) (now first) (now low) ⌝ }
     ensures { λ r. ⌜ checkAnswer (domainIn (now (rows .entry))) r ≡ firstOf k (causeOf k (domainIn (now (rows .entry)))) (domainIn (now (rows .entry))) ⌝ }
@@ -175,7 +155,7 @@ pub(crate) fn first_of(rows: &[u64], first: &[u16], low: &[u8], k: u8) -> Check
 }
 
 // Causes 7 to 10 in order, each over all rows.
-fn check_in_order(rows: &[u64], first: &[u16], low: &[u8]) -> Check
+pub(crate) fn check_wiring(rows: &[u64], first: &[u16], low: &[u8]) -> Check
     requires { ⌜ Indexed (domainIn (now rows)) (now first) (now low) ⌝ }
     ensures { λ r. ⌜ checkAnswer (domainIn (now (rows .entry))) r ≡ wiredDomain (domainIn (now (rows .entry))) ⌝ }
 {
@@ -195,17 +175,5 @@ fn check_in_order(rows: &[u64], first: &[u16], low: &[u8]) -> Check
                 }
             }
         }
-    }
-}
-
-// Causes 7 to 10 in order: one search for any of them first, which a domain without them passes.
-pub(crate) fn check_wiring(rows: &[u64], first: &[u16], low: &[u8]) -> Check
-    requires { ⌜ Indexed (domainIn (now rows)) (now first) (now low) ⌝ }
-    ensures { λ r. ⌜ checkAnswer (domainIn (now (rows .entry))) r ≡ wiredDomain (domainIn (now (rows .entry))) ⌝ }
-{
-    let miswired = first_of(rows, first, low, 0);
-    match miswired {
-        Check::Refused(_) => check_in_order(rows, first, low),
-        Check::Passed => Check::Passed,
     }
 }
