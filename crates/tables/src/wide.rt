@@ -40,11 +40,14 @@ pub(crate) fn lower_phy(rows: &[u64], low: &[u8], i: ExpanderNumber, p: PhyId, f
     requires { ⌜ f ≡ phyAt (domainIn (now rows)) (i .0) (p .0) ⌝ }
     ensures { λ r. ⌜ Told (domainIn (now (rows .entry))) (i .0) (p .0) (r .0) ⌝ }
 {
+    if !is_down(f) {
+        return PhyId(255);
+    }
     let q = wiring::lowest_phy(low, i, p);
     if q.0 >= p.0 {
         return PhyId(255);
     }
-    if are_one_link(wiring::phy_at(rows, i, q), f) {
+    if are_one_link(wiring::phy_below(rows, i, q), f) {
         return q;
     }
     PhyId(255)
