@@ -51,7 +51,7 @@ module _ {A B : Type 0} (N : ℕ → Type 0) where
   numbered-then x k h f = then-holds (λ _. Unit {0}) (λ _. Unit {0}) x k h (λ a _ _. f a)
 
 -- nothing is both refused and good, and a refusal is one
-never : {A B : Type 0} (r : Refusal) (a : A) → _≡_ {A = Result A} (refused r) (good a) → B
+pub never : {A B : Type 0} (r : Refusal) (a : A) → _≡_ {A = Result A} (refused r) (good a) → B
 never r a q = let z : _≡_ {A = ℕ} 0 1 = cc in absurd (omega arith)
 
 refused-one : {A : Type 0} (r t : Refusal) → _≡_ {A = Result A} (refused r) (refused t) → r ≡ t

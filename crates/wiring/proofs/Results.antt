@@ -7,11 +7,8 @@ use native.Mathlib.Omega.{arith}
 use lib.Dec.{T}
 use Rattle.frames.specs.Refusals.{Result, refused, good, unless, then}
 use Rattle.frames.specs.declared.Refusal.{Refusal}
+pub use Rattle.frames.proofs.Exactly.{never}
 use Rattle.frames.proofs.Exactly.{Holds}
-
--- nothing is both refused and good
-pub never : {A B : Type 0} (r : Refusal) (a : A) → refused r ≡ good a → B
-never r a q = let z : _≡_ {A = ℕ} 0 1 = cc in absurd (omega arith)
 
 module _ {A : Type 0} (N : ℕ → Type 0) where
   pub held : (P : A → Type 0) (x : Result A) (a : A) → Holds N P x → x ≡ good a → P a
