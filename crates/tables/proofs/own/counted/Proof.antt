@@ -1,3 +1,4 @@
+-- counted meets its contract: either case is the sum by computation, and m + 1 fits a byte.
 use borrow.Author.Needs.{needs}
 use mathlib.Core.Path.{refl}
 use native.Mathlib.Omega.{arith}

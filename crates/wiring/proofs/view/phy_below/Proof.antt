@@ -1,3 +1,4 @@
+-- phy_below meets its contract: below the number of phys, the two words of phy p are those that its phy was written as.
 use mathlib.Core.Path.{sym, _∙_, ap₂}
 use Rattle.wiring.specs.Rows.{phyIn}
 use Rattle.wiring.proofs.InRows.{phy-at-in}
