@@ -4,6 +4,7 @@
     check_samples.py [--harness PROGRAM] [--routes PROGRAM] [--samples FOLDER]
 
 The calls are made by the test harness, on the archive. Each refused sample is
+or faulty sample is
 built and called a second time, repaired. A sample has no warnings. Every file
 built is printed and built again. With --routes the program lists every file, and
 its listing is compared with the words of the table call. docs/FILE-FORMAT.md,
@@ -22,7 +23,7 @@ sys.dont_write_bytecode = True
 import rigfile  # noqa: E402
 
 ROOT = Path(__file__).resolve().parent.parent
-NUMBERS = range(1, 18)
+NUMBERS = [number for number in range(1, 18) if number != 13]  # 13 is withdrawn
 KEYS = ("shows", "call", "answer", "words", "passed", "repair", "repaired call", "repaired answer")
 
 
@@ -101,9 +102,15 @@ class Sample:
         setattr(call, field, value)
 
     def check_refusals(self):
-        """Only refused-NN samples are refused, with NN, and they say how to repair that."""
+        """Only refused-NN samples are refused, with NN; they and fault samples say how to repair that."""
         name = re.fullmatch(r"refused-([0-9]{2})-[a-z-]+", self.name)
         refused = [call for call in self.calls if call.refused]
+        if self.name.startswith("fault-"):
+            self.number = None
+            repaired = [call for call in self.calls if call.repaired_answer]
+            if refused or not self.repair or not repaired or self.repaired() == self.text:
+                raise Wrong("is refused, or not repaired")
+            return
         if not name:
             if refused or self.repair or self.repaired() != self.text:
                 raise Wrong("is refused or repaired, but not named refused-NN-...")
@@ -156,11 +163,11 @@ class Check:
         for call in sample.calls:
             self.compare(call.call, call.answer, call.written)
         self.list_tables(file)
-        if sample.number is None:
+        if not sample.repair:
             return
         file = self.build(sample.repaired())
         for call in sample.calls:
-            if call.refused:
+            if call.repaired_answer:
                 changed = call.repaired_call or call.call
                 self.compare(changed, call.repaired_answer, {}, "repaired: ")
         self.list_tables(file)
@@ -313,7 +320,7 @@ def check_refusal_table(samples):
     """docs/FILE-FORMAT.md: a row for each number, with a sample and its repair."""
     rows = table_rows(ROOT / "docs/FILE-FORMAT.md", "## Refusals")
     if [row[0] for row in rows] != [str(number) for number in NUMBERS]:
-        raise Wrong("the table of refusals does not have the rows 1 to 17")
+        raise Wrong("the table of refusals does not have the rows 1 to 12 and 14 to 17")
     for number, _, name, repair in rows:
         sample = samples.get(name.strip("`"))
         if not sample or sample.number != int(number):
@@ -326,6 +333,7 @@ def check_sample_list(samples, folder):
     """README.md of the samples: a row for each, with its first call."""
     page = folder / "README.md"
     rows = table_rows(page, "## Rigs that work")
+    rows += table_rows(page, "## Rigs with a fault that no call refuses")
     rows += table_rows(page, "## Rigs and calls that are refused")
     for name, call, answer, shows in rows:
         sample = samples.get(name.strip("`"))

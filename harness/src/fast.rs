@@ -328,15 +328,6 @@ impl Domain {
         if cut_off < count {
             return Err(refusal(12, cut_off, 0));
         }
-        // 13
-        for (index, phy) in domain.phys.iter().enumerate() {
-            if phy.kind == EXPANDER
-                && phy.attribute == TABLE
-                && domain.phys[domain.far(phy)].attribute == TABLE
-            {
-                return Err(domain.refuse(13, index));
-            }
-        }
         // 14
         let mut stamps = vec![0u32; domain.devices];
         let mut stamp = 0;
@@ -348,6 +339,9 @@ impl Domain {
                     continue;
                 }
                 done |= 1 << phy.device;
+                if domain.is_table_to_table(phy) {
+                    continue;
+                }
                 stamp += 1;
                 domain.level_list(x, phy.device as usize, &mut stamps, stamp, &mut list);
                 if list.len() > domain.route_indexes[x] {
@@ -357,6 +351,11 @@ impl Domain {
             }
         }
         Ok(domain)
+    }
+
+    /// Of a table phy attached to an expander: is its far end a table phy?
+    fn is_table_to_table(&self, phy: &Phy) -> bool {
+        self.phys[self.far(phy)].attribute == TABLE
     }
 
     fn level_list(&self, x: usize, n: usize, stamps: &mut [u32], stamp: u32, list: &mut Vec<u64>) {
@@ -394,6 +393,7 @@ impl Domain {
                             && phy.attribute == TABLE
                             && phy.device != u32::from(from)
                             && next >> phy.device & 1 == 0
+                            && !self.is_table_to_table(phy)
                         {
                             next |= 1 << phy.device;
                             order[end] = (phy.device as u8, expander);

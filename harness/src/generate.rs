@@ -59,10 +59,12 @@ pub fn make(seed: u64, random: &mut Random) -> Made {
             refused_shape(self_cabled(random, &size), random),
         ),
         89..=92 => ("islands", refused_shape(islands(random, &size), random)),
-        93..=95 => (
-            "table to table",
-            refused_shape(table_to_table(random, &size), random),
-        ),
+        93..=95 => {
+            let mut plan = table_to_table(random, &size).lay_out(random);
+            let short = random.chance(1, 4);
+            set_route_indexes(&mut plan, random, short);
+            ("table to table", finish(&plan, random))
+        }
         96..=97 => ("random graph", refused_shape(graph(random, &size), random)),
         _ => ("junk", junk(random)),
     };
@@ -520,6 +522,9 @@ fn tree_links(random: &mut Random, expanders: usize, shape: usize) -> Sketch {
 }
 
 fn tree(random: &mut Random, size: &Size) -> Sketch {
+    if size.expanders > 1 && random.chance(1, 8) {
+        return table_to_table(random, size);
+    }
     let mut sketch = any_links(random, size.expanders);
     sketch.furnish(random, size);
     sketch
@@ -598,6 +603,7 @@ fn islands(random: &mut Random, size: &Size) -> Sketch {
     sketch
 }
 
+/// A tree in which some links are table at both ends.
 fn table_to_table(random: &mut Random, size: &Size) -> Sketch {
     let mut sketch = any_links(random, size.expanders.max(2));
     for _ in 0..random.pick(&[1, 1, 2]) {

@@ -501,7 +501,7 @@ impl Domain {
         (words, bits)
     }
 
-    /// Causes 11 to 13.
+    /// Causes 11 and 12.
     pub fn test_shape(&self) -> Result<(), Refusal> {
         let neighbours = self.neighbours();
         let mut seen = HashSet::new();
@@ -518,20 +518,16 @@ impl Domain {
                 .keys()
                 .find(|number| !reached.contains(number))
                 .map(|&number| (number, 0)),
-        )?;
-
-        refuse_lowest(
-            13,
-            self.phys()
-                .find(|(_, _, phy)| {
-                    phy.attribute == Attribute::Table
-                        && self
-                            .far_end(phy)
-                            .and_then(|far| self.phy_at(far))
-                            .is_some_and(|far| far.attribute == Attribute::Table)
-                })
-                .map(|(place, ..)| place),
         )
+    }
+
+    /// A table phy whose far end is a table phy: levels end there.
+    fn is_table_to_table(&self, phy: &Phy) -> bool {
+        phy.attribute == Attribute::Table
+            && self
+                .far_end(phy)
+                .and_then(|far| self.phy_at(far))
+                .is_some_and(|far| far.attribute == Attribute::Table)
     }
 
     /// The level list of a table phy of expander `x` attached to expander `n`.
@@ -575,6 +571,7 @@ impl Domain {
                     .phys
                     .values()
                     .filter(|phy| phy.attribute == Attribute::Table)
+                    .filter(|phy| !self.is_table_to_table(phy))
                     .filter_map(|phy| self.far_end(phy))
                     .filter(|far| far.0 != step.from)
                     .map(|far| Step {
@@ -587,16 +584,21 @@ impl Domain {
         self.take_levels(next, list);
     }
 
-    /// Causes 11 to 14 on a domain that passed 1 to 10.
+    /// Causes 11, 12 and 14 on a domain that passed 1 to 10.
     pub fn judge(self) -> Result<Judged, Refusal> {
         self.test_shape()?;
         let mut lists = HashMap::new();
         for (place, _, phy) in self.phys() {
             if phy.attribute == Attribute::Table {
                 if let Some((far, _)) = self.far_end(phy) {
-                    lists
-                        .entry((place.0, far))
-                        .or_insert_with(|| self.level_list(place.0, far));
+                    // A table phy cabled to a table phy has no levels and an empty list.
+                    lists.entry((place.0, far)).or_insert_with(|| {
+                        if self.is_table_to_table(phy) {
+                            Vec::new()
+                        } else {
+                            self.level_list(place.0, far)
+                        }
+                    });
                 }
             }
         }
@@ -698,7 +700,7 @@ impl LevelList {
 
 // ---------------------------------------------------------------- tables
 
-/// A domain that passed 1 to 13 (1 to 14 when handed out), with its lists.
+/// A domain that passed 1 to 12 (14 too when handed out), with its lists.
 #[derive(Clone, Debug)]
 pub struct Judged {
     pub domain: Domain,

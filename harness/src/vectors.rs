@@ -1144,7 +1144,7 @@ impl Test<'_> {
         )
     }
 
-    // ------------------------------------------------------------ causes 11 to 13
+    // ------------------------------------------------------------ causes 11 and 12, and table-to-table links
 
     fn looped(&mut self, name: &str, file: &[u8], bits: u64, words: &[u64]) -> Done {
         self.wire(name, file, bits, words)?;
@@ -1228,7 +1228,7 @@ impl Test<'_> {
             Expander::new(e(1), 0, true).link(TABLE, e(1), 0),
         ]);
         self.looped("a self-cabled island", &island, 1, &[0, 2])?;
-        // A loop of table-to-table links only: 11 before 13.
+        // A loop of table-to-table links only.
         let tables = file(vec![
             Expander::new(e(0), 0, true)
                 .link(TABLE, e(1), 0)
@@ -1265,7 +1265,7 @@ impl Test<'_> {
         ]);
         self.wire("two expanders and no link", &alone, 0, &[0, 0])?;
         self.judge_refused("two expanders and no link", &alone, refused(12, 1, 0))?;
-        // 12 before 13 and 14.
+        // 12 before 14.
         let tables = file(vec![
             Expander::new(e(0), 0, true).link(TABLE, e(1), 0),
             Expander::new(e(1), 0, true)
@@ -1291,21 +1291,43 @@ impl Test<'_> {
             ])
         };
         self.wire("wide table-to-table link", &wide(9), 2, &[2, 1])?;
-        self.judge_refused("wide table-to-table link", &wide(9), refused(13, 0, 1))?;
-        // 13 before 14.
-        self.judge_refused("wide table-to-table link, R 0", &wide(0), refused(13, 0, 1))?;
-        // The link is lower down, after a list that is too long.
-        let below = file(vec![
-            Expander::new(e(0), 0, true).link(TABLE, e(1), 0),
-            Expander::new(e(1), 9, true)
-                .link(SUBTRACTIVE, e(0), 0)
-                .link(TABLE, e(2), 0),
-            Expander::new(e(2), 9, true)
-                .link(TABLE, e(1), 1)
-                .drive(DIRECT, d(2, 1)),
-        ]);
-        self.wire("table to table below", &below, 4, &[2, 5, 2])?;
-        self.judge_refused("table to table below", &below, refused(13, 1, 1))
+        // Empty lists: R zeros in each of the four tables, and R 0 is enough.
+        self.judge("wide table-to-table link", &wide(9), 2)?;
+        self.table_words("wide table-to-table link", &wide(9), 4, &[0; 36])?;
+        self.judge("wide table-to-table link, R 0", &wide(0), 2)?;
+        self.table_words("wide table-to-table link, R 0", &wide(0), 4, &[])?;
+        // Each expander reaches the other, and neither the other's drive.
+        let name = "wide table-to-table link";
+        let (rig, words) = (wide(0), []);
+        self.trace(name, &rig, &words, (0, 0), e(1), arrived(1, 255, 2), &[0, 1])?;
+        self.trace(name, &rig, &words, (0, 0), d(1, 2), no_destination(0, 1), &[0])?;
+        self.trace(name, &rig, &words, (1, 2), d(0, 0), no_destination(1, 1), &[1])?;
+        // The link is lower down: the expander beyond is entered, its drive is not.
+        let below = |route_indexes| {
+            file(vec![
+                Expander::new(e(0), route_indexes, true).link(TABLE, e(1), 0),
+                Expander::new(e(1), 2, true)
+                    .link(SUBTRACTIVE, e(0), 0)
+                    .link(TABLE, e(2), 0)
+                    .drive(DIRECT, d(1, 2)),
+                Expander::new(e(2), 1, true)
+                    .link(TABLE, e(1), 1)
+                    .drive(DIRECT, d(2, 1)),
+            ])
+        };
+        let name = "table to table below";
+        self.wire(name, &below(2), 4, &[2, 5, 2])?;
+        self.judge_refused(name, &below(1), refused(14, 0, 0))?;
+        self.judge(name, &below(2), 3)?;
+        let words = [e(2), d(1, 2), 0, 0, 0];
+        self.table_words(name, &below(2), 3, &words)?;
+        let rig = below(2);
+        self.trace(name, &rig, &words, (0, 255), e(2), arrived(2, 255, 3), &[0, 1, 2])?;
+        self.trace(name, &rig, &words, (0, 255), d(2, 1), no_destination(0, 1), &[0])?;
+        self.trace(name, &rig, &words, (1, 2), d(2, 1), no_destination(0, 2), &[1, 0])?;
+        self.trace(name, &rig, &words, (2, 1), e(0), no_destination(2, 1), &[2])?;
+        self.trace(name, &rig, &words, (2, 1), e(1), arrived(1, 255, 2), &[2, 1])?;
+        self.trace(name, &rig, &words, (0, 255), d(1, 2), arrived(1, 2, 2), &[0, 1])
     }
 
     // ------------------------------------------------------------ many expanders

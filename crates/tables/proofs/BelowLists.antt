@@ -141,7 +141,7 @@ unfolding below belowPhys keep once
 below-past d i h = ap (λ (e : Expander). once [] (belowPhys d (e .phys))) (List·getD-eq-default d noExpander h)
 
 -- phys of one link have the same expander below
-pub linked-number : (d : Domain) (φ ψ : Phy) → T (oneLink φ ψ) → belowPhys d (φ ∷ []) ≡ belowPhys d (ψ ∷ [])
+pub linked-number : (d : Domain) (φ ψ : Phy) → T (oneLink d φ ψ) → belowPhys d (φ ∷ []) ≡ belowPhys d (ψ ∷ [])
 unfolding oneLink
 linked-number d φ ψ one =
     let more = and-right (down d φ) _ one in

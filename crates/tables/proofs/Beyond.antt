@@ -1,18 +1,19 @@
 -- The levels of a table phy are the expanders beyond it: those to which a chain leads that begins by that phy.
 use mathlib.Core.Path.{_≡_, refl, sym, ap, subst, subst₂, _∙_}
-use mathlib.Core.Logic.{_⊎_, inl, inr, _↔_, ⊎-elim, by-cases}
+use mathlib.Core.Logic.{_⊎_, inl, inr, _≢_, _↔_, ⊎-elim, by-cases}
 use mathlib.Core.List.{List, [], _∷_, _++_, flatMap, map}
-use mathlib.Core.Bool.{Bool, true, false, cond, not}
+use mathlib.Core.Bool.{Bool, true, false, cond, not, _&&_}
 use Prim.Native.Nat.{ℕ, zero, suc, _+_, _≤_, _<_}
 use native.Mathlib.Omega.{arith}
 use native.Mathlib.Decide.{decLt}
 use lib.ListN.{length, length-append}
-use lib.Dec.{T, not-T}
+use lib.Dec.{T, not-T, T-not}
 use Rattle.wiring.specs.declared.Phy.the-variants.{Vacant}
 use Rattle.wiring.specs.Lists.{keep, isIn, In, Distinct, Below, last}
 use Rattle.wiring.specs.Domain.{Domain, expanderAt, phyAt, addressOf, farOf, routes, attached, toExpander, numberOf}
 use Rattle.wiring.specs.Causes.{farPhy}
 use Rattle.wiring.specs.Graph.{Steps}
+use Rattle.wiring.specs.Devices.{TableToTable, Clear, NoTableToTable}
 use Rattle.wiring.specs.Neighbours.{neighbours}
 use Rattle.wiring.proofs.Members.{tests, and-both, keep-more, in-cast, all-cons, in-append, in-left, in-right, in-getD, getD-in, keeps, kept, in-map, map-in, in-flatMap, flatMap-in, of-isIn, last-in, distinct-append, at-most}
 use Rattle.wiring.proofs.Walks.{NoBack, noback, repeats-nothing, same-rest}
@@ -46,18 +47,6 @@ pub record Table (d : Domain) (i j : ℕ) : Type 0 where
   pub end : j < length d
   pub single : ¬ (FarTable d i phy)
 
--- expander i has a table phy that is attached to a table phy of expander j
-pub record Tied (d : Domain) (i j : ℕ) : Type 0 where
-  pub phy : ℕ
-  pub to : To d i phy j
-  pub routed : T (routes 2 (phyAt d i phy))
-  pub double : FarTable d i phy
-
--- the walk i ∷ l crosses no link with table phys at both ends
-abbrev pub Clear : Domain → ℕ → List ℕ → Type 0
-Clear d i [] = Unit {0}
-Clear d i (j ∷ l) = ¬ (Tied d i j) × Clear d j l
-
 -- expander i has a subtractive phy that is attached to expander j
 abbrev pub Sub : Domain → ℕ → ℕ → Type 0
 Sub d i j = Link d 1 i j
@@ -73,6 +62,12 @@ Fall d i [] = Unit {0}
 Fall d i (j ∷ []) = Link d 2 i j
 Fall d i (j ∷ k ∷ l) = Table d i j × Fall d j (k ∷ l)
 
+-- the walk i ∷ l crosses no table-to-table link but for its last
+abbrev pub ClearBut : Domain → ℕ → List ℕ → Type 0
+ClearBut d i [] = Unit {0}
+ClearBut d i (j ∷ []) = Unit {0}
+ClearBut d i (j ∷ k ∷ l) = ¬ (TableToTable d i j) × ClearBut d j (k ∷ l)
+
 -- a level has each of its expanders once
 pub next-distinct : (d : Domain) (before level : List ℕ) → Distinct (nextLevel d before level)
 unfolding nextLevel
@@ -82,10 +77,10 @@ pub last-snoc : (x : ℕ) (l : List ℕ) (v : ℕ) → last x (l ++ (v ∷ [])) 
 last-snoc x [] v = refl
 last-snoc x (y ∷ l) v = last-snoc y l v
 
--- past cause 13, every walk is clear
-pub linked-clear : (d : Domain) → Linked d → (x : ℕ) (l : List ℕ) → Clear d x l
-linked-clear d r x [] = tt
-linked-clear d r x (y ∷ l) = (λ t. r .noTables x (t .phy) (t .to .expander) (t .routed) (t .double), linked-clear d r y l)
+-- where there is no table-to-table link, every walk is clear
+pub all-clear : (d : Domain) → NoTableToTable d → (x : ℕ) (l : List ℕ) → Clear d x l
+all-clear d n x [] = tt
+all-clear d n x (y ∷ l) = (n x y, all-clear d n y l)
 
 module _ (d : Domain) (w : Wired d) where
   pub table-start : (i j : ℕ) → Table d i j → i < length d
@@ -98,7 +93,7 @@ module _ (d : Domain) (w : Wired d) where
   link-adj a i j t = to-adj d w i (t .phy) j (t .to)
 
   -- neighbours are linked by a subtractive phy, or by a table phy whose far end is none
-  pub adj-cases : (i j : ℕ) → i < length d → j < length d → T (neighbours d i j) → ¬ (Tied d i j) → Sub d i j ⊎ Table d i j
+  pub adj-cases : (i j : ℕ) → i < length d → j < length d → T (neighbours d i j) → ¬ (TableToTable d i j) → Sub d i j ⊎ Table d i j
   adj-cases i j h k t n =
       let r = adj-to d w i j h t in
       ⊎-elim (λ u. inl (record { phy = r .0; to = r .1; routed = u; end = k }))
@@ -108,7 +103,7 @@ module _ (d : Domain) (w : Wired d) where
   link-attached : (k i j : ℕ) → (t : Link d k i j) → T (attached (phyAt d i (t .phy)))
   link-attached k i j t = expander-attached (phyAt d i (t .phy)) (t .to .expander)
 
-  table-link : (i j : ℕ) → Table d i j → Link d 2 i j
+  pub table-link : (i j : ℕ) → Table d i j → Link d 2 i j
   table-link i j t = record { phy = t .phy; to = t .to; routed = t .routed; end = t .end }
 
   -- 9: not both subtractive and table phys from one expander to another, and subtractive phys to one expander only
@@ -165,7 +160,7 @@ module _ (d : Domain) (w : Wired d) where
       ends = e;
     }
 
-    descent-fall : (x : ℕ) (l : List ℕ) → Descent d x l → Fall d x l
+    pub descent-fall : (x : ℕ) (l : List ℕ) → Descent d x l → Fall d x l
     descent-fall x [] t = tt
     descent-fall x (y ∷ []) t = table-link x y (t .0)
     descent-fall x (y ∷ z ∷ l) t = (t .0, descent-fall y (z ∷ l) (t .1))
@@ -179,7 +174,7 @@ module _ (d : Domain) (w : Wired d) where
     descent-chain x m l h t e = fall-chain x m l h (descent-fall x l t) e
 
     -- a link whose far end is subtractive is not also one whose far end is a table phy
-    tied-back : (i j : ℕ) → Tied d i j → j < length d → Link d 2 j i
+    tied-back : (i j : ℕ) → TableToTable d i j → j < length d → Link d 2 j i
     tied-back i j t h =
         let p = t .phy in
         let b = to-back d w i p j h (t .to) in
@@ -190,18 +185,49 @@ module _ (d : Domain) (w : Wired d) where
           routed = subst (λ v. T (routes 2 (phyAt d v (farOf (phyAt d i p))))) (to-number d w i p j h (t .to)) (t .double);
         }
 
-    pub table-untied : (i j : ℕ) → Table d i j → ¬ (Tied d i j)
+    pub table-untied : (i j : ℕ) → Table d i j → ¬ (TableToTable d i j)
     table-untied i j t o = link-both j i (table-back i j t) (tied-back i j o (t .end))
 
     pub descent-clear : (x : ℕ) (l : List ℕ) → Descent d x l → Clear d x l
     descent-clear x [] t = tt
     descent-clear x (y ∷ l) t = (table-untied x y (t .0), descent-clear y l (t .1))
 
+    pub fall-clear : (x : ℕ) (l : List ℕ) → Fall d x l → ClearBut d x l
+    fall-clear x [] t = tt
+    fall-clear x (y ∷ []) t = tt
+    fall-clear x (y ∷ z ∷ l) t = (table-untied x y (t .0), fall-clear y (z ∷ l) (t .1))
+
+    -- a walk that begins by a table phy and never turns straight back goes on by table phys, up to a table-to-table link
+    after-table : (a b c : ℕ) → Table d a b → c < length d → T (neighbours d b c) → a ≢ c → Link d 2 b c
+    after-table a b c t h s n =
+        let k = adj-to d w b c (t .end) s in
+        let link : (m : ℕ) → T (routes m (phyAt d b (k .0))) → Link d m b c = λ m u. record { phy = k .0; to = k .1; routed = u; end = h } in
+        ⊎-elim (λ u. absurd (n (one-sub b a c (table-back a b t) (link 1 u)))) (link 2) (w .routing b (k .0) (k .1 .expander))
+
+    single-link : (i j : ℕ) → Link d 2 i j → ¬ (TableToTable d i j) → Table d i j
+    single-link i j k n = record {
+      phy = k .phy;
+      to = k .to;
+      routed = k .routed;
+      end = k .end;
+      single = λ v. n (record { phy = k .phy; to = k .to; routed = k .routed; double = v });
+    }
+
+    walk-fall : (a b : ℕ) (l : List ℕ) → Table d a b → Steps (neighbours d) b l → NoBack a (b ∷ l) → Below (length d) l → ClearBut d b l → Fall d b l
+    walk-fall a b [] t s nb h n = tt
+    walk-fall a b (c ∷ []) t s nb h n = after-table a b c t (h c (inl refl)) (s .0) (nb .0)
+    walk-fall a b (c ∷ e ∷ l) t s nb h n =
+        let k = single-link b c (after-table a b c t (h c (inl refl)) (s .0) (nb .0)) (n .0) in
+        (k, walk-fall b c (e ∷ l) k (s .1) (nb .1) (λ v m. h v (inr m)) (n .1))
+
+    pub chain-fall : (x n m : ℕ) (l : List ℕ) → Table d x n → Way d x m (n ∷ l) → ClearBut d n l → Fall d n l
+    chain-fall x n m l t c k =
+        walk-fall x n l t (c .steps .1) (noback (length d) (neighbours d) x (n ∷ l) (c .diff)) (λ v h. c .below v (inr (inr h))) k
+
     walk-descent : (a b : ℕ) (l : List ℕ) → Table d a b → Steps (neighbours d) b l → NoBack a (b ∷ l) → Below (length d) l → Clear d b l → Descent d b l
     walk-descent a b [] t s nb h n = tt
     walk-descent a b (c ∷ l) t s nb h n =
-        let link = adj-cases b c (t .end) (h c (inl refl)) (s .0) (n .0) in
-        let k : Table d b c = ⊎-elim (λ u. absurd (nb .0 (one-sub b a c (table-back a b t) u))) (λ u. u) link in
+        let k = single-link b c (after-table a b c t (h c (inl refl)) (s .0) (nb .0)) (n .0) in
         (k, walk-descent b c l k (s .1) (nb .1) (λ v m. h v (inr m)) (n .1))
 
     -- a clear chain that begins by a table phy goes down the tables
@@ -213,15 +239,17 @@ module _ (d : Domain) (w : Wired d) where
     descent-snoc x [] v t k = (k, tt)
     descent-snoc x (y ∷ l) v t k = (t .0, descent-snoc y l v (t .1) k)
 
-    -- the levels go on at phys that lead down: here cause 13 is used
+    -- the levels go on at phys that lead down
     pub down-leads : (i p : ℕ) → T (down d (phyAt d i p)) → Leads d i p
     down-leads i p t =
-        let x : T (toExpander (phyAt d i p)) = search tests in
-        let y : T (routes 2 (phyAt d i p)) = search tests in
-        record { expander = x; routed = y; single = r .noTables i p x y }
+        let far = routes 2 (farPhy d (phyAt d i p)) in
+        record { expander = search tests; routed = search tests; single = T-not far (search tests) }
 
     leads-down : (i p : ℕ) → Leads d i p → T (down d (phyAt d i p))
-    leads-down i p l = and-both (toExpander (phyAt d i p)) (routes 2 (phyAt d i p)) (l .expander) (l .routed)
+    leads-down i p l =
+        let φ = phyAt d i p in
+        let far = routes 2 (farPhy d φ) in
+        and-both (toExpander φ) (routes 2 φ && not far) (l .expander) (and-both (routes 2 φ) (not far) (l .routed) (not-T far (l .single)))
 
     -- an expander below is one to which a table phy leads
     pub in-below : (i v : ℕ) → In v (below d i) → Table d i v

@@ -114,11 +114,11 @@ module _ (d : Domain) (i p : ℕ) {m : ℕ} {part : List ℕ} (so : Collected d 
       }
 
   -- a lower phy of the link gave the same number
-  pub collect-skip : (q : ℕ) → q < p → T (oneLink (phyAt d i q) (phyAt d i p)) → p < length φs → Collected d i (p + 1) m part
+  pub collect-skip : (q : ℕ) → q < p → T (oneLink d (phyAt d i p) (phyAt d i q)) → p < length φs → Collected d i (p + 1) m part
   collect-skip q k one h =
       let there : (w : ℕ) → In w new → In w done =
       λ w o. below-among d (take p φs) (phyAt d i q) (in-take φs (Vacant 0) q p k (omega arith)) w
-      (subst (λ (l : List ℕ). In w l) (sym (linked-number d (phyAt d i q) (phyAt d i p) one)) o) in
+      (subst (λ (l : List ℕ). In w l) (linked-number d (phyAt d i p) (phyAt d i q) one) o) in
       let same : take m part ≡ addAll 65 (take m part) new =
       so .whole ∙ sym (ap (λ (l : List ℕ). addAll 65 l new) (so .whole) ∙ add-again 65 done new [] there) in
       record { room = so .room; fits = so .fits; whole = same ∙ more h }

@@ -14,7 +14,7 @@ use Rattle.wiring.specs.File.{limits, domainRead}
 use Rattle.wiring.specs.Causes.{wiredDomain}
 use Rattle.wiring.specs.Graph.{loopfree}
 use Rattle.wiring.specs.Neighbours.{neighbours}
-use Rattle.wiring.specs.Links.{unlooped, joined, joinedIn, tableToTable, linkedDomain}
+use Rattle.wiring.specs.Links.{unlooped, joined, joinedIn, linkedDomain}
 use Rattle.wiring.proofs.Results.{never, then-good, good-then}
 use Rattle.wiring.proofs.Accepted.{passed-iff}
 use Rattle.wiring.proofs.Read.{read-numbered}
@@ -28,7 +28,7 @@ use Rattle.tables.specs.declared.TablesGiven.{TablesGiven}
 use Rattle.tables.specs.declared.TablesGiven.the-variants.{Refused, Counts}
 use Rattle.tables.proofs.Given.{judged-routable, routable-iff, tables-same, judged-file, tableCall-iff}
 
--- causes 11 to 14 refuse with their numbers
+-- causes 11, 12 and 14 refuse with their numbers
 joined-numbered : (P : ℕ → Type 0) (l : List ℕ) (d : Domain) → P 12 → Numbered P (joinedIn l d)
 unfolding joinedIn
 joined-numbered P [] d h = tt
@@ -38,23 +38,22 @@ joined-numbered P (i ∷ l) d h = go (joined d i) (joined-numbered P l d h)
     go true r = r
     go false r = h
 
-linked-numbered : (P : ℕ → Type 0) → ((n : ℕ) → 11 ≤ n → n ≤ 13 → P n) → (d : Domain) → Numbered P (linkedDomain d)
+linked-numbered : (P : ℕ → Type 0) → ((n : ℕ) → 11 ≤ n → n ≤ 12 → P n) → (d : Domain) → Numbered P (linkedDomain d)
 unfolding linkedDomain unlooped
 linked-numbered P h d =
     numbered-then P (unlooped d) _
     (numbered-unless P (loopfree (length d) (neighbours d)) (refusal 11 0 0) (good d) (h 11 (omega arith) (omega arith)) tt)
-    (λ a. numbered-then P (joinedIn (upTo (length d)) d) _ (joined-numbered P (upTo (length d)) d (h 12 (omega arith) (omega arith)))
-    (λ b. first-numbered P 13 (tableToTable d) _ d (h 13 (omega arith) (omega arith))))
+    (λ a. joined-numbered P (upTo (length d)) d (h 12 (omega arith) (omega arith)))
 
-pub judged-numbered : (P : ℕ → Type 0) → ((n : ℕ) → 1 ≤ n → n ≤ 14 → P n) → (file : List ℕ) → Numbered P (judged file)
+pub judged-numbered : (P : ℕ → Type 0) → ((n : ℕ) → judgingNumber n → P n) → (file : List ℕ) → Numbered P (judged file)
 unfolding judgedDomain
 judged-numbered P h file =
-    numbered-then P (domainRead limits file) judgedDomain (read-numbered limits file P (λ n a b. h n a (omega arith)))
-    (λ d. numbered-then P (wiredDomain d) _ (wired-numbered P (λ n a b. h n (omega arith) (omega arith)) d)
-    (λ _. numbered-then P (linkedDomain d) _ (linked-numbered P (λ n a b. h n (omega arith) (omega arith)) d)
-    (λ _. first-numbered P 14 (overlong d) _ d (h 14 (omega arith) (omega arith)))))
+    numbered-then P (domainRead limits file) judgedDomain (read-numbered limits file P (λ n a b. h n (inl (a, omega arith))))
+    (λ d. numbered-then P (wiredDomain d) _ (wired-numbered P (λ n a b. h n (inl (omega arith, omega arith))) d)
+    (λ _. numbered-then P (linkedDomain d) _ (linked-numbered P (λ n a b. h n (inl (omega arith, omega arith))) d)
+    (λ _. first-numbered P 14 (overlong d) _ d (h 14 (inr refl)))))
 
--- a file is accepted exactly when none of causes 1 to 14 holds
+-- a file is accepted exactly when none of causes 1 to 12 and 14 holds
 pub judged-causes : (file : List ℕ) (d : Domain) → judged file ≡ good d → (c : NoJudgingCause file) × (c .domain ≡ d)
 judged-causes file d j =
     let e = judged-file file d .0 j in
@@ -71,7 +70,7 @@ pub judging-exactly : (file : List ℕ) (answer : Judgement) → judgeAnswer ans
     → Exactly (judgeAnswer answer) (NoJudgingCause file) judgingNumber
 judging-exactly file answer q =
     exactly judgingNumber (judgeAnswer answer) (then (judged file) expandersIn) (NoJudgingCause file) q
-    (numbered-then judgingNumber (judged file) expandersIn (judged-numbered judgingNumber (λ n a b. (a, b)) file) (λ d. tt))
+    (numbered-then judgingNumber (judged file) expandersIn (judged-numbered judgingNumber (λ n h. h) file) (λ d. tt))
     (λ n e. let a = then-good (judged file) expandersIn n e in judged-causes file (a .0) (a .1) .0)
     (λ c. (length (c .domain), good-then (judged file) expandersIn (c .domain) (length (c .domain)) (causes-judged file c) refl))
 
@@ -113,7 +112,7 @@ tables-exactly file before after answer t =
     numbered : Numbered tableNumber (then (tableCall file room) countsIn)
     numbered =
         numbered-then tableNumber (tableCall file room) countsIn
-        (numbered-then tableNumber (judged file) (tablesFor room) (judged-numbered tableNumber (λ n a b. inl (a, b)) file)
+        (numbered-then tableNumber (judged file) (tablesFor room) (judged-numbered tableNumber (λ n h. inl h) file)
         (λ d. numbered-unless tableNumber (leb (needed d) room) (refusal 16 0 0) (good d) (inr refl) tt))
         (λ d. tt)
 

@@ -121,10 +121,6 @@ module _ (f : ℕ → List ℕ) (m k : ℕ) (part order : List ℕ) {v : List �
   pub lists-end : length order ≤ k → take m part ≡ v
   lists-end h = sym (append-nil (take m part)) ∙ ap (λ (l : List ℕ). take m part ++ l) (sym (flat-last f order k h)) ∙ inv
 
-pub and-false : (b : Bool) → (b && false) ≡ false
-and-false true = refl
-and-false false = refl
-
 -- what phys give, piece by piece
 pub giveAll-append : (d : Domain) (x : ℕ) (l : List ℕ) (xs ys : List Phy) → giveAll d x l (xs ++ ys) ≡ giveAll d x (giveAll d x l xs) ys
 unfolding giveAll

@@ -1,8 +1,8 @@
--- The law of level lists: past causes 1 to 13, each expander of the levels gives its own list, whatever the table.
+-- The law of level lists: past causes 1 to 12, each expander of the levels gives its own list, whatever the table.
 use mathlib.Core.Path.{_≡_, refl, sym, ap, subst, _∙_}
 use mathlib.Core.Logic.{_⊎_, inl, inr, _≢_, _↔_, ⊎-elim}
-use mathlib.Core.List.{List, [], _∷_, _++_, flatMap, append-assoc, append-nil}
-use mathlib.Core.Bool.{Bool, true, false, cond, not}
+use mathlib.Core.List.{List, [], _∷_, _++_, flatMap, append-assoc, append-nil, append-cancel-right}
+use mathlib.Core.Bool.{Bool, true, false, cond, not, and-false}
 use Prim.Native.Nat.{ℕ, zero, suc, _≤_, _<_}
 use native.Mathlib.Omega.{arith}
 use lib.ListN.{length}
@@ -12,15 +12,17 @@ use Rattle.wiring.specs.declared.Phy.the-variants.{Vacant}
 use Rattle.wiring.specs.Lists.{any, isIn, In, Distinct, last}
 use Rattle.wiring.specs.Domain.{Domain, expanderAt, phyAt, addressOf, attributeOf, routes, attached, toExpander, bears, numberOf}
 use Rattle.wiring.proofs.Members.{tests, or-cases, or-left, or-right, T?, is-true, is-false, same-test, in-cast, in-append, in-left, in-right, getD-in, isIn-of, of-isIn, last-in}
-use Rattle.wiring.proofs.Wires.{Wired, expander-attached, attached-cases, routes-one, plain-attribute, in-range, differ, far-below, far-is, to-adj, adj-symmetric}
+use Rattle.wiring.specs.Neighbours.{neighbours}
+use Rattle.wiring.proofs.Walks.{same-rest}
+use Rattle.wiring.proofs.Wires.{Way, To, Wired, one-step, expander-attached, attached-cases, routes-one, plain-attribute, in-range, differ, far-below, far-is, to-adj, adj-symmetric}
 use Rattle.wiring.specs.Tested.{Linked}
 use Rattle.tables.specs.Levels.{down, nextLevel, levelsFrom, levels}
 use Rattle.tables.specs.Tables.{word, heldBy, gives, give, giveAll, levelList}
 use Rattle.tables.specs.Own.{owns, ownFrom, own, ownList}
 use Rattle.tables.specs.Filling.{physOf}
-use Rattle.tables.proofs.Beyond.{Leads, Table, Sub, Descent, last-snoc, linked-clear, table-start, table-back, adj-cases, one-sub, descent-chain, descent-snoc, in-next, down-leads, levels-few, levels-none}
+use Rattle.tables.proofs.Beyond.{Leads, Link, Table, Descent, last-snoc, table-link, table-back, one-sub, fall-chain, fall-snoc, descent-snoc, in-next, down-leads, levels-few, levels-none}
 use Rattle.tables.proofs.Listed.{held-cases, held-self, held-phy, in-give, give-old, give-new, in-given, given-in, end-far}
-use Rattle.tables.proofs.Growing.{flat-append, and-false, giveAll-append}
+use Rattle.tables.proofs.Growing.{flat-append, giveAll-append}
 use Rattle.tables.proofs.BelowLists.{below-none, below-one}
 
 -- the phys of one expander, after the list `before`
@@ -96,10 +98,11 @@ attribute-cases (suc (suc zero)) h = inr (inr tt)
 attribute-cases (suc (suc (suc m))) h = absurd (omega arith)
 
 module _ (d : Domain) (w : Wired d) (r : Linked d) where
-  -- an expander has one expander above it: the one whose table phys are attached to it
-  table-to : (i p : ℕ) → T (toExpander (phyAt d i p)) → T (routes 2 (phyAt d i p)) → Table d i (numberOf d (addressOf (phyAt d i p)))
-  table-to i p t u = record { phy = p; to = far-is d w i p t; routed = u; end = far-below d w i p t; single = r .noTables i p t u }
+  -- the link of a table phy attached to an expander
+  abbrev link-to : (i p : ℕ) → T (toExpander (phyAt d i p)) → T (routes 2 (phyAt d i p)) → Link d 2 i (numberOf d (addressOf (phyAt d i p)))
+  link-to i p t u = record { phy = p; to = far-is d w i p t; routed = u; end = far-below d w i p t }
 
+  -- an expander has one expander above it: the one whose levels go on at it
   pub one-above : (u v e : ℕ) → Table d u e → Table d v e → u ≡ v
   one-above u v e s t = one-sub d w e u v (table-back d w r u e s) (table-back d w r v e t)
 
@@ -110,51 +113,59 @@ module _ (d : Domain) (w : Wired d) (r : Linked d) where
       let b = table-back d w r u e k in
       w .oneWay e q (b .phy) t (expander-attached (phyAt d e (b .phy)) (b .to .expander)) y (b .routed) ∙ b .to .address
 
-  -- the link from expander j back to an expander to which it is attached
-  link-back : (i p j : ℕ) → j < length d → T (attached (phyAt d i p)) → addressOf (phyAt d i p) ≡ expanderAt d j .address
-      → Sub d j i ⊎ Table d j i
-  link-back i p j h t e =
-      ⊎-elim (λ y. absurd (w .apart i p j y h e))
-      (λ y. let adj = to-adj d w i p j (record { expander = y; address = e }) in
-      adj-cases d w j i h (in-range d i p t .0) (adj-symmetric d i j adj) (linked-clear d r j (i ∷ []) .0))
-      (attached-cases (phyAt d i p) t)
-
-  -- the address at a table phy of e is not held by another expander m that is neither below that phy nor one level further
-  table-far : (e q m : ℕ) → m < length d → e ≢ m → T (attached (phyAt d e q)) → T (routes 2 (phyAt d e q))
-      → ((v : ℕ) → Table d e v → (v ≢ m) × ¬ (Table d v m)) → ¬ (T (heldBy d m (addressOf (phyAt d e q))))
-  table-far e q m h k t u f o =
-      ⊎-elim (λ y. end-far d w r e q m (addressOf (phyAt d e q)) y refl k h o)
-      (λ y. let c = table-to e q y u in
-      let v = numberOf d (addressOf (phyAt d e q)) in
-      let to = far-is d w e q y .address in
-      ⊎-elim (λ g. f v c .0 (differ d w v m (c .end) h (sym to ∙ sym g)))
-      (λ g. ⊎-elim (λ z. k (one-sub d w v e m (table-back d w r e v c) z)) (f v c .1) (link-back m (g .0) v (c .end) (g .1) (g .2 ∙ to)))
-      (held-cases d m (addressOf (phyAt d e q)) o))
-      (attached-cases (phyAt d e q) t)
-
-  module _ (x : ℕ) where
-    -- expander v lies down the tables from x
+  module _ (x : ℕ) (start : x < length d) where
+    -- expander v is x, or lies down the tables from x
     abbrev Under : ℕ → Type 0
-    Under v = (y : ℕ) × (l : List ℕ) × Descent d x (y ∷ l) × (last y l ≡ v)
-
-    under-start : (v : ℕ) → Under v → x < length d
-    under-start v b = table-start d w x (b .0) (b .2 .0)
-
-    under-off : (v : ℕ) → Under v → v ≢ x
-    under-off v b e =
-        let c = descent-chain d w r x v (b .0 ∷ b .1) (under-start v b) (b .2) (b .3) in
-        c .diff .0 (in-cast (b .0 ∷ b .1) (sym e ∙ sym (b .3)) (last-in (b .0) (b .1)))
+    Under v = (l : List ℕ) × Descent d x l × (last x l ≡ v)
 
     under-next : (u v : ℕ) → Under u → Table d u v → Under v
-    under-next u v b t =
-        (b .0, b .1 ++ (v ∷ []), descent-snoc d w r x (b .0 ∷ b .1) v (b .2) (subst (λ y. Table d y v) (sym (b .3)) t), last-snoc (b .0) (b .1) v)
+    under-next u v b t = (b .0 ++ (v ∷ []), descent-snoc d w r x (b .0) v (b .1) (subst (λ y. Table d y v) (sym (b .2)) t), last-snoc x (b .0) v)
+
+    -- from there by a table phy to v, whether it is attached to a table phy or not: a chain
+    way-to : (u v : ℕ) → (b : Under u) → Link d 2 u v → Way d x v (b .0 ++ (v ∷ []))
+    way-to u v b k =
+        let fall = fall-snoc d w r x (b .0) v (b .1) (subst (λ y. Link d 2 y v) (sym (b .2)) k) in
+        fall-chain d w r x v (b .0 ++ (v ∷ [])) start fall (last-snoc x (b .0) v)
+
+    link-off : (u v : ℕ) → Under u → Link d 2 u v → v ≢ x
+    link-off u v b k e = way-to u v b k .diff .0 (in-cast (b .0 ++ (v ∷ [])) (sym e) (in-right (b .0) (v ∷ []) v (inl refl)))
+
+    -- so one of them alone has a table phy to v
+    one-link : (u m v : ℕ) → Under u → Under m → Link d 2 u v → Link d 2 m v → u ≡ m
+    one-link u m v b c k j =
+        let same = same-rest (length d) (neighbours d) (adj-symmetric d) (r .noLoop) x v (b .0 ++ (v ∷ [])) (c .0 ++ (v ∷ [])) (way-to u v b k) (way-to m v c j) in
+        sym (b .2) ∙ ap (last x) (append-cancel-right (b .0) (c .0) (v ∷ []) same) ∙ c .2
+
+    -- and only x itself neighbours x's neighbour
+    one-near : (u v : ℕ) → Under u → Link d 2 u v → T (neighbours d x v) → u ≡ x
+    one-near u v b k t =
+        let one = one-step d x v start (k .end) (λ e. link-off u v b k (sym e)) t in
+        let same = same-rest (length d) (neighbours d) (adj-symmetric d) (r .noLoop) x v (b .0 ++ (v ∷ [])) (v ∷ []) (way-to u v b k) one in
+        sym (b .2) ∙ ap (last x) (append-cancel-right (b .0) [] (v ∷ []) same)
+
+    -- the address at a table phy of such an expander other than x is not held by x
+    table-far : (e q : ℕ) → Under e → e ≢ x → T (attached (phyAt d e q)) → T (routes 2 (phyAt d e q)) → ¬ (T (heldBy d x (addressOf (phyAt d e q))))
+    table-far e q b k t u o =
+        let s = addressOf (phyAt d e q) in
+        ⊎-elim (λ y. end-far d w r e q x s y refl k start o)
+        (λ y. let v = numberOf d s in
+        let j = link-to e q y u in
+        ⊎-elim (λ g. link-off e v b j (differ d w v x (j .end) start (sym (j .to .address) ∙ sym g)))
+        (λ g. ⊎-elim (λ z. w .apart x (g .0) v z (j .end) (g .2 ∙ j .to .address))
+        (λ z. k (one-near e v b j (to-adj d w x (g .0) v (record { expander = z; address = g .2 ∙ j .to .address }))))
+        (attached-cases (phyAt d x (g .0)) (g .1)))
+        (held-cases d x s o))
+        (attached-cases (phyAt d e q) t)
 
     -- expander e lies below x or below one of those done
     record Follows (done : List ℕ) (e : ℕ) : Type 0 where
       above : ℕ
       earlier : In above (x ∷ done)
       link : Table d above e
-      under : Under e
+      from : Under above
+
+    follows-under : (done : List ℕ) (e : ℕ) → Follows done e → Under e
+    follows-under done e o = under-next (o .above) e (o .from) (o .link)
 
     -- so does each of those done
     abbrev Closed : List ℕ → Type 0
@@ -163,7 +174,7 @@ module _ (d : Domain) (w : Wired d) (r : Linked d) where
     follows-more : (done more : List ℕ) (e : ℕ) → Follows done e → Follows (done ++ more) e
     follows-more done more e o =
         let h = ⊎-elim inl (λ h. inr (in-left done more (o .above) h)) (o .earlier) in
-        record { above = o .above; earlier = h; link = o .link; under = o .under }
+        record { above = o .above; earlier = h; link = o .link; from = o .from }
 
     closed-more : (done : List ℕ) (e : ℕ) → Closed done → Follows done e → Closed (done ++ (e ∷ []))
     closed-more done e c o m h =
@@ -189,8 +200,7 @@ module _ (d : Domain) (w : Wired d) (r : Linked d) where
         ordered-append done level (levelsFrom k d level (nextLevel d before level)) f
         (ordered-levels k (done ++ level) level (nextLevel d before level)
         (λ e h. let o = in-next d w r before level e h in
-        let u = under-next (o .0) e (f (o .0) (o .1) .under) (o .2) in
-        record { above = o .0; earlier = inr (in-right done level (o .0) (o .1)); link = o .2; under = u }))
+        record { above = o .0; earlier = inr (in-right done level (o .0) (o .1)); link = o .2; from = follows-under done (o .0) (f (o .0) (o .1)) }))
 
     -- what those done give to x's list
     abbrev given : List ℕ → List ℕ
@@ -204,12 +214,9 @@ module _ (d : Domain) (w : Wired d) (r : Linked d) where
         ∙ giveAll-append d x [] (physOf d done) φs
 
     module _ (done : List ℕ) (c : Closed done) where
-      -- with an expander, the one above it is done
-      above-done : (u m : ℕ) → u ≢ x → Table d u m → In m done → In u done
-      above-done u m k t h =
-          let o = c m h in
-          let e = one-above u (o .above) m t (o .link) in
-          ⊎-elim (λ q. absurd (k (e ∙ q))) (in-cast done e) (o .earlier)
+      done-under : (m : ℕ) → In m (x ∷ done) → Under m
+      done-under m (inl f) = ([], tt, sym f)
+      done-under m (inr h) = follows-under done m (c m h)
 
       -- an address attached at x or at one of those done is held by x or listed, and so is the address of such an expander
       attached-old : (m q s : ℕ) → In m (x ∷ done) → T (attached (phyAt d m q)) → addressOf (phyAt d m q) ≡ s → T (heldBy d x s) ⊎ In s (given done)
@@ -225,30 +232,47 @@ module _ (d : Domain) (w : Wired d) (r : Linked d) where
 
       -- the next expander: its table phys have new addresses, its subtractive phys old ones
       module _ (e : ℕ) (o : Follows done e) (out : ¬ (In e done)) where
+        under : Under e
+        under = follows-under done e o
+
         off : e ≢ x
-        off = under-off e (o .under)
+        off = link-off (o .above) e (o .from) (table-link d w (o .above) e (o .link))
 
-        below-off : (v : ℕ) → Table d e v → (v ≢ x) × ¬ (Table d v x)
-        below-off v t =
-            let b = under-next e v (o .under) t in
-            (under-off v b, λ k. under-off x (under-next v x b k) refl)
+        -- x and those done have no table phy to an expander to which e has one
+        only : (v m : ℕ) → Link d 2 e v → In m (x ∷ done) → Link d 2 m v → ⊥
+        only v m k h j = let same = one-link e m v under (done-under m h) k j in ⊎-elim (λ f. off (same ∙ f)) (λ i. out (in-cast done same i)) h
 
-        below-out : (v : ℕ) → Table d e v → ¬ (In v done)
-        below-out v t h = out (above-done e v off t h)
+        -- and no phy to it at all
+        no-link : (v m p : ℕ) → Link d 2 e v → In m done → To d m p v → ⊥
+        no-link v m p k h t =
+            ⊎-elim
+            (λ y. let o = c m h in
+            let up = one-sub d w m v (o .above) (record { phy = p; to = t; routed = y; end = k .end }) (table-back d w r (o .above) m (o .link)) in
+            ⊎-elim (λ f. link-off e v under k (up ∙ f))
+            (λ i. let a = c (o .above) i in
+            only v (a .above) k (a .earlier) (subst (Link d 2 (a .above)) (sym up) (table-link d w (a .above) (o .above) (a .link))))
+            (o .earlier))
+            (λ y. only v m k (inr h) (record { phy = p; to = t; routed = y; end = k .end }))
+            (w .routing m p (t .expander))
 
         table-fresh : (q : ℕ) → T (attached (phyAt d e q)) → T (routes 2 (phyAt d e q)) → ¬ (In (addressOf (phyAt d e q)) (given done))
         table-fresh q t u h =
             let s = addressOf (phyAt d e q) in
             let g = in-given d x s done (w .attachedBorne e q t) h in
             let m = g .0 in
-            table-far e q m (in-range d m (g .1) (g .3 .0) .0) (λ f. out (in-cast done f (g .2))) t u
-            (λ v k. (λ f. below-out v k (in-cast done f (g .2)), λ z. below-out v k (above-done v m (below-off v k .0) z (g .2))))
-            (held-phy d m s (g .1) (g .3 .0) (g .3 .1))
+            ⊎-elim
+            (λ y. end-far d w r e q m s y refl (λ f. out (in-cast done f (g .2))) (in-range d m (g .1) (g .3 .0) .0) (held-phy d m s (g .1) (g .3 .0) (g .3 .1)))
+            (λ y. let v = numberOf d s in
+            let k = link-to e q y u in
+            let same = g .3 .1 ∙ k .to .address in
+            ⊎-elim (λ z. w .apart m (g .1) v z (k .end) same) (λ z. no-link v m (g .1) k (g .2) (record { expander = z; address = same }))
+            (attached-cases (phyAt d m (g .1)) (g .3 .0)))
+            (attached-cases (phyAt d e q) t)
 
         table-new : (q : ℕ) → T (attached (phyAt d e q)) → T (routes 2 (phyAt d e q)) → New d x (given done) (addressOf (phyAt d e q))
         table-new q t u = record {
           borne = w .attachedBorne e q t;
-          far = table-far e q x (under-start e (o .under)) off t u below-off;
+          far = table-far e q under off t u;
           fresh = table-fresh q t u;
         }
 
@@ -290,9 +314,9 @@ levels-empty d x p k = ap (levelsFrom (length d) d (x ∷ [])) (below-none d (ph
 law-down : (d : Domain) → Wired d → Linked d → (x p : ℕ) → T (down d (phyAt d x p)) → levelList d x p ≡ ownList d x p
 unfolding levelList ownList levels giveAll flatMap
 law-down d w r x p t =
-    all-give d w r x (levels d x p) [] (λ m h. absurd h)
-    (subst (λ v. Ordered d w r x [] (levelsFrom (length d) d (x ∷ []) v)) (sym (below-one d φ (is-true (down d φ) t)))
-    (ordered-levels d w r x (length d) [] (x ∷ []) (n ∷ []) (λ e. ⊎-elim (λ q. subst (Follows d w r x []) (sym q) first) (λ z. absurd z))))
+    all-give d w r x start (levels d x p) [] (λ m h. absurd h)
+    (subst (λ v. Ordered d w r x start [] (levelsFrom (length d) d (x ∷ []) v)) (sym (below-one d φ (is-true (down d φ) t)))
+    (ordered-levels d w r x start (length d) [] (x ∷ []) (n ∷ []) (λ e. ⊎-elim (λ q. subst (Follows d w r x start []) (sym q) first) (λ z. absurd z))))
     (levels-few d w r x p n (far-below d w x p (l .expander)) (far-is d w x p (l .expander)) (l .routed) (l .single) .0 .1) (λ e h k. k)
   where
     φ : Phy
@@ -304,11 +328,14 @@ law-down d w r x p t =
     l : Leads d x p
     l = down-leads d w r x p t
 
-    a : Table d x n
-    a = table-to d w r x p (l .expander) (l .routed)
+    start : x < length d
+    start = in-range d x p (expander-attached φ (l .expander)) .0
 
-    first : Follows d w r x [] n
-    first = record { above = x; earlier = inl refl; link = a; under = (n, [], (a, tt), refl) }
+    a : Table d x n
+    a = record { phy = p; to = far-is d w x p (l .expander); routed = l .routed; end = far-below d w x p (l .expander); single = l .single }
+
+    first : Follows d w r x start [] n
+    first = record { above = x; earlier = inl refl; link = a; from = ([], tt, refl) }
 
 pub law : (d : Domain) → Wired d → Linked d → (x p : ℕ) → levelList d x p ≡ ownList d x p
 unfolding levelList ownList flatMap giveAll

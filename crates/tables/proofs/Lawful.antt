@@ -35,7 +35,7 @@ use Rattle.tables.proofs.Judging.{judge-checked, own-checked}
 abbrev Same : Domain → Type 0
 Same d = (x p : ℕ) → levelList d x p ≡ orderList d x p
 
--- a domain past causes 7 to 13: the same domain, past 7 to 10 and past 11 to 13
+-- a domain past causes 7 to 12: the same domain, past 7 to 10 and past 11 and 12
 checked-passes : (d e : Domain) → checkedDomain d ≡ good e → (d ≡ e) × (wiredDomain d ≡ good d) × (linkedDomain d ≡ good d)
 unfolding checkedDomain
 checked-passes d e f =
@@ -48,7 +48,7 @@ law-order : (d : Domain) → Wired d → Linked d → Same d
 unfolding ownList orderList
 law-order d w r x p = law d w r x p ∙ ap (flatMap (own d)) (sym (order-levels d w r x p))
 
--- it holds of a domain that is read and passes causes 7 to 13, and so of one that was read from a file
+-- it holds of a domain that is read and passes causes 7 to 12, and so of one that was read from a file
 pub read-lawful : (most : Limits) (d : Domain) → Read most d → most .phys ≤ 255 → checkedDomain d ≡ good d → Same d
 read-lawful most d g m f = let p = checked-passes d d f in law-order d (wired-iff most d g m .0 (p .1)) (linked-iff d .0 (p .2))
 

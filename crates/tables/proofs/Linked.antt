@@ -7,38 +7,34 @@ use native.Mathlib.Omega.{arith}
 use lib.ListN.{length}
 use lib.Dec.{T, eqb}
 use Rattle.wiring.specs.declared.Phy.{Phy}
-use Rattle.wiring.specs.Domain.{Domain, expanderAt, phyAt, addressOf, routes, toExpander, numberOf}
+use Rattle.wiring.specs.Domain.{Domain, addressOf, toExpander, numberOf}
 use Rattle.wiring.specs.Rows.{domainIn}
 use Rattle.wiring.specs.Addresses.{farNumber}
 use Rattle.wiring.proofs.Members.{and-left, was-true}
 use Rattle.wiring.proofs.Wires.{phy-range}
 use Rattle.wiring.proofs.EndDevices.{short-in}
 use Rattle.wiring.proofs.Entries.{far-told}
+use Rattle.tables.specs.Levels.{down}
 use Rattle.tables.specs.Prepared.{oneLink, PhyIndexed}
 
-pub linked-by : (φ ψ : Phy) {a b : Bool} → (toExpander φ && routes 2 φ) ≡ a → (toExpander ψ && routes 2 ψ) ≡ b
-    → oneLink φ ψ ≡ (a && (b && eqb (addressOf φ) (addressOf ψ)))
+pub linked-by : (d : Domain) (φ ψ : Phy) {a b e : Bool} → down d φ ≡ a → down d ψ ≡ b → eqb (addressOf φ) (addressOf ψ) ≡ e
+    → oneLink d φ ψ ≡ (a && (b && e))
 unfolding oneLink
-linked-by φ ψ p q = rw (p, q)
+linked-by d φ ψ p q s = rw (p, q, s)
 
-pub linked-at : {φ ψ φ' ψ' : Phy} {r : Bool} → φ ≡ φ' → ψ ≡ ψ' → r ≡ oneLink φ ψ → r ≡ true → T (oneLink φ' ψ')
-linked-at {φ} {ψ} {φ'} {ψ'} p q e t = was-true (oneLink φ' ψ') (sym (ap (λ (χ : Phy). oneLink χ ψ) p ∙ ap (oneLink φ') q) ∙ sym e ∙ t)
+pub linked-at : (d : Domain) {φ ψ φ' ψ' : Phy} {r : Bool} → φ ≡ φ' → ψ ≡ ψ' → r ≡ oneLink d φ ψ → r ≡ true → T (oneLink d φ' ψ')
+linked-at d {φ} {ψ} {φ'} {ψ'} p q e t = was-true (oneLink d φ' ψ') (sym (ap (λ (χ : Phy). oneLink d χ ψ) p ∙ ap (oneLink d φ') q) ∙ sym e ∙ t)
 
--- where the levels go on at φ, it is attached to an expander, and there is such a phy, and each lower one
-module _ (d : Domain) (i p : ℕ) (φ : Phy) (here : φ ≡ phyAt d i p) (down : (toExpander φ && routes 2 φ) ≡ true) where
-  down-far : T (toExpander (phyAt d i p))
-  down-far = subst (λ ψ. T (toExpander ψ)) here (and-left (toExpander φ) (routes 2 φ) (was-true _ down))
-
-  down-range : p < length (expanderAt d i .phys)
-  down-range = phy-range d toExpander i p down-far (λ u. u)
-
-  pub lower-range : (q : ℕ) → q < p → q < length (expanderAt d i .phys)
-  lower-range q h = let w = down-range in omega arith
-
--- the number of the expander at which the levels go on, as the entries tell it
-pub far-down : (ws : List ℕ) (first : List ℕ) (i p : ℕ) (φ : Phy) → PhyIndexed (domainIn ws) first i p φ → (toExpander φ && routes 2 φ) ≡ true
+-- the number of the expander to which φ is attached, as the entries tell it
+pub far-number-is : (ws : List ℕ) (first : List ℕ) (i p : ℕ) (φ : Phy) → PhyIndexed (domainIn ws) first i p φ → T (toExpander φ)
     → farNumber (domainIn ws) first i p ≡ numberOf (domainIn ws) (addressOf φ)
-far-down ws first i p φ x e =
+far-number-is ws first i p φ x t =
     let d : Domain = domainIn ws in
-    far-told d i p (omega (arith, down-range d i p φ (x .phy) e, short-in ws i)) first (x .index) (down-far d i p φ (x .phy) e)
+    let far = subst (λ ψ. T (toExpander ψ)) (x .phy) t in
+    far-told d i p (omega (arith, phy-range d toExpander i p far (λ u. u), short-in ws i)) first (x .index) far
     ∙ ap (λ ψ. numberOf d (addressOf ψ)) (sym (x .phy))
+
+-- the same where the levels go on at φ
+pub far-down : (ws : List ℕ) (first : List ℕ) (i p : ℕ) (φ : Phy) → PhyIndexed (domainIn ws) first i p φ → down (domainIn ws) φ ≡ true
+    → farNumber (domainIn ws) first i p ≡ numberOf (domainIn ws) (addressOf φ)
+far-down ws first i p φ x e = far-number-is ws first i p φ x (and-left (toExpander φ) _ (was-true _ e))

@@ -1,4 +1,5 @@
--- What a level list holds: a non-zero address that is neither X's nor attached at X is in it exactly when a device beyond bears it.
+-- What a level list holds: a non-zero address that is neither X's nor attached at X is in it exactly when a device beyond bears it, to which
+-- no table-to-table link is crossed, or the first expander beyond such a link.
 use mathlib.Core.Path.{_≡_, refl, sym, ap, subst, _∙_}
 use mathlib.Core.Logic.{_⊎_, inl, inr, _≢_, _↔_, ⊎-elim}
 use mathlib.Core.List.{List, [], _∷_, _++_}
@@ -13,11 +14,12 @@ use Rattle.wiring.specs.Lists.{any, isIn, In, last}
 use Rattle.wiring.specs.Domain.{Domain, expanderAt, phyAt, addressOf, routes, attached, toEnd, toExpander, bears, numberOf}
 use Rattle.wiring.proofs.Members.{tests, or-cases, or-left, or-right, is-true, was-true, not-not, eq→eqb, any-of, of-any, in-cast, in-append, in-left, in-right, in-getD, getD-in, in-flatMap, flatMap-in, of-isIn, last-in}
 use Rattle.wiring.proofs.Wires.{Way, To, Wired, Home, end-attached, expander-attached, attached-cases, routes-one, in-range, far-below, far-is}
+use Rattle.wiring.specs.Devices.{TableToTable, Clear}
 use Rattle.wiring.specs.Tested.{Linked}
 use Rattle.tables.specs.Levels.{levels}
 use Rattle.tables.specs.Tables.{word, heldBy, gives, give, giveAll, levelList}
 use Rattle.tables.specs.Filling.{physOf}
-use Rattle.tables.proofs.Beyond.{FarTable, Link, Table, Sub, Clear, Descent, last-snoc, table-start, table-back, one-sub, fall-chain, fall-snoc, descent-chain, descent-clear, chain-descent, linked-clear, down-leads, levels-down, levels-are-beyond}
+use Rattle.tables.proofs.Beyond.{FarTable, Link, Table, Sub, Descent, Fall, ClearBut, last-snoc, table-start, table-link, table-back, table-untied, one-sub, fall-chain, fall-snoc, fall-clear, chain-fall, descent-chain, descent-fall, descent-clear, chain-descent, down-leads, levels-down, levels-are-beyond}
 
 module _ (d : Domain) (x s : ℕ) where
   -- x holds s: it bears s, or has it at an attached phy
@@ -140,8 +142,8 @@ module _ (d : Domain) (w : Wired d) (r : Linked d) where
   up-again a b v (c ∷ l) t k u =
       ⊎-elim (λ e. inr ([], tt, sym e)) (λ o. inr (c ∷ o .0, (k .0, o .1), o .2)) (up-again b c v l (k .0) (k .1) u)
 
-  last-step : (b c : ℕ) (l : List ℕ) → Descent d b (c ∷ l) → (l′ : List ℕ) × Descent d b l′ × Table d (last b l′) (last c l)
-  last-step b c [] k = ([], tt, k .0)
+  last-step : (b c : ℕ) (l : List ℕ) → Fall d b (c ∷ l) → (l′ : List ℕ) × Descent d b l′ × Link d 2 (last b l′) (last c l)
+  last-step b c [] k = ([], tt, k)
   last-step b c (e ∷ l) k = let o = last-step c e l (k .1) in (c ∷ o .0, (k .0, o .1), o .2)
 
   -- the address of an end device elsewhere is not held here
@@ -160,9 +162,19 @@ module _ (d : Domain) (w : Wired d) (r : Linked d) where
 
   -- phy p of expander x is a table phy attached to expander n
   module _ (x p n s : ℕ) (h : n < length d) (t : To d x p n) (u : T (routes 2 (phyAt d x p))) where
-    -- beyond n, seen from x, a device bears s
+    -- expander m bears s, at the end of a chain that crosses no table-to-table link but for its last; or an end device at m does, and the
+    -- chain crosses none
+    abbrev Entered : ℕ → List ℕ → Type 0
+    Entered m l =
+        (ClearBut d x (n ∷ l) × (expanderAt d m .address ≡ s))
+        ⊎ (Clear d x (n ∷ l) × ((q : ℕ) × T (toEnd (phyAt d m q)) × (addressOf (phyAt d m q) ≡ s)))
+
+    -- beyond n, seen from x, such a device bears s
     abbrev Beyond : Type 0
-    Beyond = (m : ℕ) × (l : List ℕ) × Way d x m (n ∷ l) × Home d s m
+    Beyond = (m : ℕ) × (l : List ℕ) × Way d x m (n ∷ l) × Entered m l
+
+    entered-home : (m : ℕ) (l : List ℕ) → Entered m l → Home d s m
+    entered-home m l = ⊎-elim (λ e. inl (e .1)) (λ e. inr (e .1))
 
     module _ (single : ¬ (FarTable d x p)) where
       a : Table d x n
@@ -183,11 +195,11 @@ module _ (d : Domain) (w : Wired d) (r : Linked d) where
           (λ y. let up : Sub d (last n l) v = subst (λ i. Sub d i v) (sym ends) (record { phy = q; to = to; routed = y; end = end }) in
           ⊎-elim
           (λ c. absurd (far (held-self d x s (ap (λ i. expanderAt d i .address) (sym c) ∙ home))))
-          (λ c. (v, c .0, descended (c .0) v (c .1) (c .2), inl home))
+          (λ c. (v, c .0, descended (c .0) v (c .1) (c .2), inl (fall-clear d w r x (n ∷ c .0) (descent-fall d w r x (n ∷ c .0) (a, c .1)), home)))
           (up-again x n v l a k up))
           (λ y. let link : Link d 2 (last n l) v = subst (λ i. Link d 2 i v) (sym ends) (record { phy = q; to = to; routed = y; end = end }) in
           let fall = fall-snoc d w r x (n ∷ l) v (a, k) link in
-          (v, l ++ (v ∷ []), fall-chain d w r x v (n ∷ (l ++ (v ∷ []))) (table-start d w x n a) fall (last-snoc n l v), inl home))
+          (v, l ++ (v ∷ []), fall-chain d w r x v (n ∷ (l ++ (v ∷ []))) (table-start d w x n a) fall (last-snoc n l v), inl (fall-clear d w r x (n ∷ (l ++ (v ∷ []))) fall, home)))
           (w .routing m q e)
 
       down-beyond : s ≢ 0 → In s (levelList d x p) → (¬ (T (heldBy d x s))) × Beyond
@@ -200,13 +212,13 @@ module _ (d : Domain) (w : Wired d) (r : Linked d) where
           let k = chain-descent d w r x n m l a (c .1) (c .2) in
           let other : m ≢ x = λ f. c .1 .diff .0 (in-cast (n ∷ l) (sym f ∙ sym (c .1 .ends)) (last-in n l)) in
           ⊎-elim
-          (λ e. (end-far m q x s e (g .3 .1) other (table-start d w x n a), (m, l, c .1, inr (q, e, g .3 .1))))
+          (λ e. (end-far m q x s e (g .3 .1) other (table-start d w x n a), (m, l, c .1, inr ((table-untied d w r x n a, c .2), (q, e, g .3 .1)))))
           (λ e. let far : ¬ (T (heldBy d x s)) = ⊎-elim (λ y. absurd (no-direct m q e y)) (λ y. y) (g .3 .2) in
           (far, through m q l e (g .3 .1) far k (c .1 .ends)))
           (attached-cases (phyAt d m q) (g .3 .0))
 
       -- an expander's address is at the phy of the level before that leads to it
-      self-listed : (m : ℕ) (l : List ℕ) → ¬ (T (heldBy d x s)) → Descent d n l → last n l ≡ m → expanderAt d m .address ≡ s → In s (levelList d x p)
+      self-listed : (m : ℕ) (l : List ℕ) → ¬ (T (heldBy d x s)) → Fall d n l → last n l ≡ m → expanderAt d m .address ≡ s → In s (levelList d x p)
       self-listed m [] far k e f =
           absurd (far (held-phy d x s p (expander-attached (phyAt d x p) (t .expander)) (t .address ∙ ap (λ i. expanderAt d i .address) e ∙ f)))
       self-listed m (y ∷ l) far k e f =
@@ -217,24 +229,45 @@ module _ (d : Domain) (w : Wired d) (r : Linked d) where
           list-in d x s p i (b .phy) level (expander-attached (phyAt d i (b .phy)) (b .to .expander))
           (b .to .address ∙ ap (λ j. expanderAt d j .address) e ∙ f) far
 
-      down-listed : ¬ (T (heldBy d x s)) → (m : ℕ) (l : List ℕ) → Way d x m (n ∷ l) → Clear d n l → Home d s m → In s (levelList d x p)
-      down-listed far m l c clear home = ⊎-elim
-          (λ e. self-listed m l far (chain-descent d w r x n m l a c clear) (c .ends) e)
-          (λ e. let level = levels-are-beyond d w r x p n m h t u single .1 (l, c, clear) in
-          list-in d x s p m (e .0) level (end-attached (phyAt d m (e .0)) (e .1)) (e .2) far)
-          home
+      end-listed : (m q : ℕ) (l : List ℕ) → ¬ (T (heldBy d x s)) → Way d x m (n ∷ l) → Clear d n l → T (toEnd (phyAt d m q)) → addressOf (phyAt d m q) ≡ s
+          → In s (levelList d x p)
+      end-listed m q l far c clear e f =
+          let level = levels-are-beyond d w r x p n m h t u single .1 (l, c, clear) in
+          list-in d x s p m q level (end-attached (phyAt d m q) e) f far
 
-    -- what is listed is borne beyond the phy, and not held at x
-    pub list-beyond : s ≢ 0 → In s (levelList d x p) → (¬ (T (heldBy d x s))) × ((m : ℕ) × (l : List ℕ) × Way d x m (n ∷ l) × Home d s m)
-    list-beyond z o =
+    untied : ¬ (TableToTable d x n) → ¬ (FarTable d x p)
+    untied k v = k (record { phy = p; to = t; routed = u; double = v })
+
+    listed-beyond : s ≢ 0 → In s (levelList d x p) → (¬ (T (heldBy d x s))) × Beyond
+    listed-beyond z o =
         let g = in-list d x s p z o in
         down-beyond (down-leads d w r x p (levels-down d x p (g .0) (g .2)) .single) z o
 
+    -- what is listed is borne beyond the phy, and not held at x
+    pub list-beyond : s ≢ 0 → In s (levelList d x p) → (¬ (T (heldBy d x s))) × ((m : ℕ) × (l : List ℕ) × Way d x m (n ∷ l) × Home d s m)
+    list-beyond z o = let b = listed-beyond z o in (b .0, (b .1 .0, b .1 .1, b .1 .2, entered-home (b .1 .0) (b .1 .1) (b .1 .3)))
+
+    clear-but : (i : ℕ) (l : List ℕ) → Clear d i l → ClearBut d i l
+    clear-but i [] c = tt
+    clear-but i (j ∷ []) c = tt
+    clear-but i (j ∷ k ∷ l) c = (c .0, clear-but j (k ∷ l) (c .1))
+
+    entered-list : ¬ (T (heldBy d x s)) → (m : ℕ) (l : List ℕ) → Way d x m (n ∷ l) → Entered m l → In s (levelList d x p)
+    entered-list far m [] c (inl e) =
+        absurd (far (held-phy d x s p (expander-attached (phyAt d x p) (t .expander)) (t .address ∙ ap (λ i. expanderAt d i .address) (c .ends) ∙ e .1)))
+    entered-list far m (y ∷ l) c (inl e) =
+        let single = untied (e .0 .0) in
+        self-listed single m (y ∷ l) far (chain-fall d w r x n m (y ∷ l) (a single) c (e .0 .1)) (c .ends) (e .1)
+    entered-list far m [] c (inr e) = end-listed (untied (e .0 .0)) m (e .1 .0) [] far c tt (e .1 .1) (e .1 .2)
+    entered-list far m (y ∷ l) c (inr e) = end-listed (untied (e .0 .0)) m (e .1 .0) (y ∷ l) far c (e .0 .1) (e .1 .1) (e .1 .2)
+
     -- what is borne at the end of a clear chain through the phy is listed
     pub beyond-list : ¬ (T (heldBy d x s)) → (m : ℕ) (l : List ℕ) → Way d x m (n ∷ l) → Clear d x (n ∷ l) → Home d s m → In s (levelList d x p)
-    beyond-list far m l c clear home =
-        down-listed (λ v. clear .0 (record { phy = p; to = t; routed = u; double = v })) far m l c (clear .1) home
+    beyond-list far m l c clear home = entered-list far m l c (⊎-elim (λ e. inl (clear-but x (n ∷ l) clear, e)) (λ e. inr (clear, e)) home)
 
-    -- a non-zero address that x does not hold is in the list exactly when a device beyond n bears it
-    pub listed-iff : s ≢ 0 → ¬ (T (heldBy d x s)) → In s (levelList d x p) ↔ ((m : ℕ) × (l : List ℕ) × Way d x m (n ∷ l) × Home d s m)
-    listed-iff z far = (λ o. list-beyond z o .1, λ b. beyond-list far (b .0) (b .1) (b .2) (linked-clear d r x (n ∷ b .1)) (b .3))
+    -- a non-zero address that x does not hold is in the list exactly when a device beyond n bears it, to which no table-to-table link is
+    -- crossed, or the first expander beyond such a link
+    pub listed-iff : s ≢ 0 → ¬ (T (heldBy d x s)) → In s (levelList d x p) ↔ ((m : ℕ) × (l : List ℕ) × Way d x m (n ∷ l)
+        × ((ClearBut d x (n ∷ l) × (expanderAt d m .address ≡ s))
+        ⊎ (Clear d x (n ∷ l) × ((q : ℕ) × T (toEnd (phyAt d m q)) × (addressOf (phyAt d m q) ≡ s)))))
+    listed-iff z far = (λ o. listed-beyond z o .1, λ b. entered-list far (b .0) (b .1) (b .2) (b .3))

@@ -7,4 +7,4 @@ unfoldable pub use Rattle.wiring.specs.ShortFile.{shortPhys, shortExpanders, sh
 unfoldable pub use Rattle.wiring.specs.Causes.{unanswered, endAt, claimed, clash, clashing, fixed, phyPlaces, placesFrom, firstIn, wiredDomain}
 unfoldable pub use Rattle.wiring.specs.Graph.{strip, reach}
 unfoldable pub use Rattle.wiring.specs.Neighbours.{cabled, neighbours}
-unfoldable pub use Rattle.wiring.specs.Links.{unlooped, joined, joinedIn, tableToTable, linkedDomain}
+unfoldable pub use Rattle.wiring.specs.Links.{unlooped, joined, joinedIn, linkedDomain}

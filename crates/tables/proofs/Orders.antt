@@ -1,4 +1,4 @@
--- The order of a phy, made in a queue: past causes 1 to 13 it is the levels, level by level.
+-- The order of a phy, made in a queue: past causes 1 to 12 it is the levels, level by level.
 use Prim.Native.Nat.{ℕ, zero, suc, _+_, _-_, _*_, _≤_, _<_}
 use mathlib.Core.Path.{_≡_, refl, sym, _∙_, ap, subst, subst₂}
 use mathlib.Core.Bool.{Bool, true, false, not, _||_}
@@ -55,7 +55,7 @@ unfolding orderOf
 order-none d φ q = ap (queue (length d) d) (below-none d φ q) ∙ queue-none d (length d)
 
 -- phys of one link have the same order
-pub order-linked : (d : Domain) (φ ψ : Phy) → T (oneLink φ ψ) → orderOf d φ ≡ orderOf d ψ
+pub order-linked : (d : Domain) (φ ψ : Phy) → T (oneLink d φ ψ) → orderOf d φ ≡ orderOf d ψ
 unfolding orderOf
 order-linked d φ ψ one = ap (queue (length d) d) (linked-number d φ ψ one)
 

@@ -1,7 +1,7 @@
 -- A level list that is too long, by own lists: a phy on a link with a lower phy, one where the levels do not go on, and the others.
 use Prim.Native.Nat.{ℕ, _+_, _<_}
 use mathlib.Core.Path.{_≡_, refl, sym, _∙_, ap}
-use mathlib.Core.Bool.{Bool, true, false}
+use mathlib.Core.Bool.{Bool, true, false, and-false}
 use mathlib.Core.Logic.{by-cases}
 use mathlib.Core.List.{List, [], flatMap}
 use native.Mathlib.Omega.{arith}
@@ -14,22 +14,21 @@ use Rattle.wiring.proofs.Members.{and-left, and-right, is-true, is-false, was-t
 use Rattle.tables.specs.Levels.{down}
 use Rattle.tables.specs.Own.{own}
 use Rattle.tables.specs.Prepared.{orderOf, orderList, oneLink, overOwn}
-use Rattle.tables.proofs.Growing.{and-false}
 use Rattle.tables.proofs.Orders.{order-none, order-linked}
 
 -- phys of one link are table phys with the same order
-module _ (d : Domain) (φ ψ : Phy) (one : T (oneLink φ ψ)) where
+module _ (d : Domain) (φ ψ : Phy) (one : T (oneLink d φ ψ)) where
   linked-routes : T (routes 2 φ) × T (routes 2 ψ)
   unfolding oneLink
   linked-routes =
       let more = and-right (down d φ) _ one in
-      (and-right (toExpander φ) _ (and-left (down d φ) _ one), and-right (toExpander ψ) _ (and-left (down d ψ) _ more))
+      (and-left (routes 2 φ) _ (and-right (toExpander φ) _ (and-left (down d φ) _ one)), and-left (routes 2 ψ) _ (and-right (toExpander ψ) _ (and-left (down d ψ) _ more)))
 
-pub over-linked : (d : Domain) (i q p : ℕ) → T (oneLink (phyAt d i q) (phyAt d i p)) → overOwn d i q ≡ overOwn d i p
+pub over-linked : (d : Domain) (i p q : ℕ) → T (oneLink d (phyAt d i p) (phyAt d i q)) → overOwn d i p ≡ overOwn d i q
 unfolding overOwn orderList
-over-linked d i q p one =
-    let r = linked-routes d (phyAt d i q) (phyAt d i p) one in
-    rw (is-true (routes 2 (phyAt d i q)) (r .0), is-true (routes 2 (phyAt d i p)) (r .1), order-linked d (phyAt d i q) (phyAt d i p) one) refl
+over-linked d i p q one =
+    let r = linked-routes d (phyAt d i p) (phyAt d i q) one in
+    rw (is-true (routes 2 (phyAt d i p)) (r .0), is-true (routes 2 (phyAt d i q)) (r .1), order-linked d (phyAt d i p) (phyAt d i q) one) refl
 
 -- phy p, by the tests of the phy that was read
 module _ (d : Domain) (i p : ℕ) (φ : Phy) (at : φ ≡ phyAt d i p) where
@@ -50,7 +49,7 @@ module _ (d : Domain) (i p : ℕ) (φ : Phy) (at : φ ≡ phyAt d i p) where
       → ltb (expanderAt d i .indexes) (length (flatMap (own d) order)) ≡ overOwn d i p
   unfolding overOwn orderList
   over-order order q e =
-      let a = is-true (routes 2 (phyAt d i p)) (and-right (toExpander (phyAt d i p)) _ (was-true _ (goes q))) in
+      let a = is-true (routes 2 (phyAt d i p)) (and-left (routes 2 (phyAt d i p)) _ (and-right (toExpander (phyAt d i p)) _ (was-true _ (goes q)))) in
       let f = e ∙ ap (orderOf d) at in
       rw (a, f) refl
 

@@ -2,7 +2,7 @@
 pub use Rattle.wiring.proofs.Members.{tests, or-cases, or-left, or-right, is-true, was-true, eq→eqb, neqb, in-cast, all-cons, in-upTo, last-in, at-most}
 pub use Rattle.wiring.proofs.Walks.{Skip, NoBack, repeats-nothing, same-rest, same-chain, rest-of}
 pub use Rattle.wiring.proofs.Reach.{Joined, prepend}
-pub use Rattle.wiring.proofs.Wires.{Way, Wired, end-attached, expander-attached, attached-cases, in-range}
+pub use Rattle.wiring.proofs.Wires.{Way, Wired, one-step, end-attached, expander-attached, attached-cases, in-range}
 pub use Rattle.wiring.proofs.Wires.{differ, far-below, far-is, to-adj, adj-symmetric}
 pub use Rattle.wiring.proofs.Results.{good-one, unless-good, good-unless, then-good, good-then}
 pub use Rattle.wiring.proofs.Read.{read-good, stated-expanders}

@@ -10,7 +10,7 @@ use Rattle.wiring.specs.Domain.{Domain, numberOf}
 use Rattle.wiring.specs.Causes.{unanswered, endAt, claimed, clash, clashing, fixed, phyPlaces, placesFrom, firstIn, wiredDomain}
 use Rattle.wiring.specs.Graph.{strip, reach}
 use Rattle.wiring.specs.Neighbours.{cabled, neighbours}
-use Rattle.wiring.specs.Links.{unlooped, joined, joinedIn, tableToTable, linkedDomain}
+use Rattle.wiring.specs.Links.{unlooped, joined, joinedIn, linkedDomain}
 use Rattle.tables.specs.Levels.{once, belowPhys, below, nextLevel, levelsFrom, levels}
 use Rattle.tables.specs.Tables.{heldBy, gives, give, giveAll, levelList, table}
 use Rattle.tables.specs.Judge.{overlong, judgedDomain}
@@ -33,7 +33,7 @@ pub figure-50 : (judgedDomain figure50 ≡ good figure50)
     × ((table figure50 1 1 ≡ 11 ∷ 12 ∷ 0 ∷ 0 ∷ [])
     × (table figure50 0 0 ≡ 3 ∷ 4 ∷ 11 ∷ 12 ∷ 21 ∷ 22 ∷ 0 ∷ 0 ∷ []))
 unfolding figure50 numbers any keep isIn numberOf unanswered endAt claimed clash clashing fixed phyPlaces placesFrom firstIn wiredDomain
-    strip reach cabled neighbours unlooped joined joinedIn tableToTable linkedDomain once belowPhys below nextLevel levelsFrom levels heldBy
+    strip reach cabled neighbours unlooped joined joinedIn linkedDomain once belowPhys below nextLevel levelsFrom levels heldBy
     gives give giveAll levelList table overlong judgedDomain flatMap
 figure-50 = (refl, (refl, refl))
 

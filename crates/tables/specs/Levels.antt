@@ -6,21 +6,22 @@ use lib.ListN.{length}
 use Rattle.wiring.specs.declared.Phy.{Phy}
 use Rattle.wiring.specs.Lists.{keep, isIn}
 use Rattle.wiring.specs.Domain.{Domain, expanderAt, phyAt, addressOf, routes, toExpander, numberOf}
+use Rattle.wiring.specs.Causes.{farPhy}
 
 -- each number once, where it first stands, without those seen
 unfoldable pub once : List ℕ → List ℕ → List ℕ
 once seen [] = []
 once seen (x ∷ xs) = cond (isIn x seen) (once seen xs) (x ∷ once (x ∷ seen) xs)
 
--- the levels go on at a table phy attached to an expander
+-- the levels go on at a table phy attached to an expander, and end where it is attached to a table phy (document 02, paper 3)
 abbrev pub down : Domain → Phy → Bool
-down d φ = toExpander φ && routes 2 φ
+down d φ = toExpander φ && (routes 2 φ && not (routes 2 (farPhy d φ)))
 
--- the expanders attached to table phys among these phys, in their order
+-- the expanders at which the levels go on from these phys, in their order
 unfoldable pub belowPhys : Domain → List Phy → List ℕ
 belowPhys d φs = map (λ φ. numberOf d (addressOf φ)) (keep (down d) φs)
 
--- the expanders attached to table phys of expander i, lowest phy first
+-- the same of the phys of expander i, lowest phy first
 unfoldable pub below : Domain → ℕ → List ℕ
 below d i = belowPhys d (expanderAt d i .phys)
 
@@ -33,7 +34,7 @@ unfoldable pub levelsFrom : ℕ → Domain → List ℕ → List ℕ → List �
 levelsFrom zero d last level = []
 levelsFrom (suc count) d last level = level ++ levelsFrom count d level (nextLevel d last level)
 
--- the expanders of the levels of phy p of expander x; none where it is attached to no expander. As many levels as there are expanders
+-- the expanders of the levels of phy p of expander x; none where they do not go on from it. As many levels as there are expanders
 -- are enough: `levels-enough` (proofs/Beyond)
 unfoldable pub levels : Domain → ℕ → ℕ → List ℕ
 levels d x p = levelsFrom (length d) d (x ∷ []) (belowPhys d (phyAt d x p ∷ []))

@@ -1,4 +1,4 @@
--- What one expander gives to every level list in whose levels it is, on a domain past causes 1 to 13.
+-- What one expander gives to every level list in whose levels it is, on a domain past causes 1 to 12.
 use Prim.Native.Nat.{ℕ, zero, suc}
 use mathlib.Core.Bool.{Bool, cond, not, _||_, _&&_}
 use mathlib.Core.List.{List, [], _∷_, flatMap}

@@ -8,11 +8,11 @@ use lib.ListN.{length, getD, take, drop, replicate}
 use lib.Dec.{T, eqb, ltb}
 use Rattle.wiring.specs.Frames.{Result, refused, good, then}
 use Rattle.wiring.specs.declared.Phy.{Phy}
-use Rattle.wiring.specs.Domain.{Domain, expanderAt, phyAt, addressOf, routes, attached, toExpander}
+use Rattle.wiring.specs.Domain.{Domain, expanderAt, phyAt, addressOf, routes, attached}
 use Rattle.wiring.specs.Causes.{Place, places, firstOf}
 use Rattle.wiring.specs.Checks.{checkedIn}
 use Rattle.wiring.specs.Addresses.{IndexedFirst, lowestPhy}
-use Rattle.tables.specs.Levels.{once, belowPhys, below}
+use Rattle.tables.specs.Levels.{once, down, belowPhys, below}
 use Rattle.tables.specs.Tables.{needed}
 use Rattle.tables.specs.Filling.{withTables}
 use Rattle.tables.specs.Judge.{tablesAnswer, countsIn}
@@ -37,7 +37,7 @@ pub record Counted (d : Domain) (counts : List ℕ) : Type 0 where
   pub enough : length d ≤ length counts
   pub each : (i : ℕ) → i < length d → getD counts i 0 ≡ length (own d i)
 
--- the expanders below expander i (attached to its table phys), each once
+-- the expanders below expander i (at which the levels go on from it), each once
 abbrev pub belowOnce : Domain → ℕ → List ℕ
 belowOnce d i = once [] (below d i)
 
@@ -60,12 +60,12 @@ unfoldable pub orderList : Domain → ℕ → ℕ → List ℕ
 orderList d x p = flatMap (own d) (orderOf d (phyAt d x p))
 
 -- two phys of one expander at which the levels go on to the same expander: phys of one link
-unfoldable pub oneLink : Phy → Phy → Bool
-oneLink φ ψ = (toExpander φ && routes 2 φ) && ((toExpander ψ && routes 2 ψ) && eqb (addressOf φ) (addressOf ψ))
+unfoldable pub oneLink : Domain → Phy → Phy → Bool
+oneLink d φ ψ = down d φ && (down d ψ && eqb (addressOf φ) (addressOf ψ))
 
 -- q, where it is lower than p, is on one link with phy p of expander i
 abbrev pub Told : Domain → ℕ → ℕ → ℕ → Type 0
-Told d i p q = q < p → T (oneLink (phyAt d i q) (phyAt d i p))
+Told d i p q = q < p → T (oneLink d (phyAt d i p) (phyAt d i q))
 
 -- 14 by own lists: those of the phy's order have more than R words in all
 unfoldable pub overOwn : Domain → ℕ → ℕ → Bool

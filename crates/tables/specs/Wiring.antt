@@ -18,4 +18,4 @@ unfoldable pub use Rattle.wiring.specs.Causes.{phyPlaces, placesFrom}
 pub use Rattle.wiring.specs.Checks.{checkAnswer, FileRoom}
 pub use Rattle.wiring.specs.Graph.{Steps, self}
 pub use Rattle.wiring.specs.Neighbours.{neighbours}
-pub use Rattle.wiring.specs.Devices.{LoopIn, ChainIn, Home, Borne}
+pub use Rattle.wiring.specs.Devices.{LoopIn, ChainIn, TableToTable, Clear, ClearChain, NoTableToTable, Home, Borne}

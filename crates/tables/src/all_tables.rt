@@ -117,12 +117,14 @@ fn put_tables(
 {
     let n = wiring::phy_count(rows, i);
     let mut to = at;
+    let mut q = PhyId(255);
     let mut g = Phy::Vacant(0);
     let mut m: usize = 0;
     let mut p: u8 = 0;
     while p < n {
         let f = wiring::phy_below(rows, i, PhyId(p));
-        m = order::order_for(rows, first, below, g, m, i, PhyId(p), f, order);
+        m = order::order_for(rows, first, below, q, g, m, i, PhyId(p), f, order);
+        q = PhyId(p);
         g = f;
         to = put_table(rows, lists, &order[..m], i, PhyId(p), words, to);
         p += 1;

@@ -1,4 +1,4 @@
-// The expanders below each expander (attached to its table phys), each once: their count and
+// The expanders below each expander (at which the levels go on from it), each once: their count and
 // then their numbers, one list every 66 bytes. A list has at most 65 numbers: at most 64 expanders, and
 // their count for an address that no expander has.
 use crate::wide;
@@ -60,7 +60,7 @@ fn add_phy(
     requires { ⌜ IndexedFirst (domainIn (now rows)) (now first) × ((f ≡ phyAt (domainIn (now rows)) (i .0) (p .0)) × (m ≤ length (now part))) ⌝ }
     ensures { λ r. ⌜ Added (now (part .entry)) (now (part .exit)) m r (belowPhys (domainIn (now (rows .entry))) (f ∷ [])) ⌝ }
 {
-    if !wide::is_down(f) {
+    if !wide::is_down(rows, first, i, p, f) {
         return m;
     }
     add_number(part, m, wiring::far_number(rows, first, i, p))
@@ -82,7 +82,7 @@ fn collect_below(
     let mut p: u8 = 0;
     while p < n {
         let f = wiring::phy_below(rows, i, PhyId(p));
-        let q = wide::lower_phy(rows, low, i, PhyId(p), f);
+        let q = wide::lower_phy(rows, first, low, i, PhyId(p), f);
         if q.0 >= p {
             m = add_phy(rows, first, i, PhyId(p), f, part, m);
         }

@@ -4,9 +4,11 @@ use crate::wide;
 use wiring::ExpanderNumber;
 use wiring::Phy;
 use wiring::PhyId;
+ghost use mathlib.Core.Path.{_≡_};
 ghost use mathlib.Core.List.{[], _∷_, _++_};
 ghost use Prim.Native.Nat.{_+_, _*_, _≤_, _<_};
 ghost use lib.ListN.{length, take};
+ghost use Rattle.wiring.specs.Domain.{phyAt};
 ghost use Rattle.wiring.specs.Rows.{domainIn};
 ghost use Rattle.tables.specs.Levels.{belowPhys};
 ghost use Rattle.tables.specs.Filling.{Grown};
@@ -54,7 +56,7 @@ fn first_level(
     requires { ⌜ PhyIndexed (domainIn (now rows)) (now first) (i .0) (p .0) f × (1 ≤ length (now level)) ⌝ }
     ensures { λ r. ⌜ Grown (now (level .entry)) (now (level .exit)) r (belowPhys (domainIn (now (rows .entry))) (f ∷ [])) ⌝ }
 {
-    if !wide::is_down(f) {
+    if !wide::is_down(rows, first, i, p, f) {
         return 0;
     }
     level[0] = wiring::far_number(rows, first, i, p).0;
@@ -88,12 +90,13 @@ pub(crate) fn put_order(
     m
 }
 
-// The same, where the first n numbers of `order` are the order of phy g, which is kept where f is on g's
-// link.
+// The same, where the first n numbers of `order` are the order of g, phy q of expander i, which is kept where f is
+// on g's link.
 pub(crate) fn order_for(
     rows: &[u64],
     first: &[u16],
     below: &[u8],
+    q: PhyId,
     g: Phy,
     n: usize,
     i: ExpanderNumber,
@@ -101,10 +104,11 @@ pub(crate) fn order_for(
     f: Phy,
     order: &mut [u8],
 ) -> usize
-    requires { ⌜ PhyIndexed (domainIn (now rows)) (now first) (i .0) (p .0) f × (BelowHeld (domainIn (now rows)) (now below) × ((65 * length (domainIn (now rows)) < length (now order)) × Grown (now order) (now order) n (orderOf (domainIn (now rows)) g))) ⌝ }
+    requires { ⌜ (PhyIndexed (domainIn (now rows)) (now first) (i .0) (p .0) f × (g ≡ phyAt (domainIn (now rows)) (i .0) (q .0)))
+        × (BelowHeld (domainIn (now rows)) (now below) × ((65 * length (domainIn (now rows)) < length (now order)) × Grown (now order) (now order) n (orderOf (domainIn (now rows)) g))) ⌝ }
     ensures { λ r. ⌜ Grown (now (order .entry)) (now (order .exit)) r (orderOf (domainIn (now (rows .entry))) f) ⌝ }
 {
-    if wide::are_one_link(g, f) {
+    if wide::are_one_link(rows, first, i, p, f, q, g) {
         return n;
     }
     put_order(rows, first, below, i, p, f, order)

@@ -58,7 +58,7 @@ fn is_overlong(
     if q.0 < p.0 {
         return false;
     }
-    if !wide::is_down(f) {
+    if !wide::is_down(rows, first, i, p, f) {
         return false;
     }
     let m = order::put_order(rows, first, below, i, p, f, order);
@@ -83,7 +83,7 @@ fn overlong_phy(
     let mut p: u8 = 0;
     while p < n {
         let f = wiring::phy_below(rows, i, PhyId(p));
-        let q = wide::lower_phy(rows, low, i, PhyId(p), f);
+        let q = wide::lower_phy(rows, first, low, i, PhyId(p), f);
         if is_overlong(rows, first, counts, below, i, PhyId(p), q, f, order) {
             return Check::Refused(Refusal {
                 number: 14,

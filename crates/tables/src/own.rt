@@ -1,4 +1,4 @@
-// The own list of each expander: on a domain past causes 1 to 13, the words that it gives to every level
+// The own list of each expander: on a domain past causes 1 to 12, the words that it gives to every level
 // list in whose levels it is.
 use wiring::ExpanderNumber;
 use wiring::Phy;

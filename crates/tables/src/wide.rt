@@ -4,50 +4,69 @@ use wiring::ExpanderNumber;
 use wiring::Phy;
 use wiring::PhyId;
 ghost use mathlib.Core.Path.{_≡_};
-ghost use mathlib.Core.Bool.{_&&_};
 ghost use Prim.Native.Nat.{_<_};
 ghost use lib.ListN.{length};
-ghost use Rattle.wiring.specs.Domain.{phyAt, routes, toExpander};
+ghost use Rattle.wiring.specs.Domain.{expanderAt};
 ghost use Rattle.wiring.specs.Rows.{domainIn};
-ghost use Rattle.tables.specs.Prepared.{oneLink, Told};
+ghost use Rattle.tables.specs.Levels.{down};
+ghost use Rattle.tables.specs.Prepared.{oneLink, Told, PhyIndexed};
 
-// Do the levels go on at this phy: a table phy attached to an expander?
-pub(crate) fn is_down(f: Phy) -> bool
-    ensures { λ r. ⌜ r ≡ (toExpander f && routes 2 f) ⌝ }
+// Do the levels go on at f, phy p of expander i: a table phy attached to an expander, and not to a table phy?
+pub(crate) fn is_down(rows: &[u64], first: &[u16], i: ExpanderNumber, p: PhyId, f: Phy) -> bool
+    requires { ⌜ PhyIndexed (domainIn (now rows)) (now first) (i .0) (p .0) f ⌝ }
+    ensures { λ r. ⌜ r ≡ down (domainIn (now (rows .entry))) f ⌝ }
 {
     if wiring::phy_type(f) < 2 {
         return false;
     }
-    wiring::phy_attribute(f) == 2
+    if wiring::phy_attribute(f) != 2 {
+        return false;
+    }
+    let j = wiring::far_number(rows, first, i, p);
+    wiring::phy_attribute(wiring::phy_at(rows, j, wiring::phy_far(f))) != 2
 }
 
-// Do the levels of two phys of one expander go on, at the same expander?
-pub(crate) fn are_one_link(f: Phy, g: Phy) -> bool
-    ensures { λ r. ⌜ r ≡ oneLink f g ⌝ }
+// Do the levels go on at f and g, phys p and q of expander i, at the same expander?
+pub(crate) fn are_one_link(
+    rows: &[u64],
+    first: &[u16],
+    i: ExpanderNumber,
+    p: PhyId,
+    f: Phy,
+    q: PhyId,
+    g: Phy,
+) -> bool
+    requires { ⌜ PhyIndexed (domainIn (now rows)) (now first) (i .0) (p .0) f × PhyIndexed (domainIn (now rows)) (now first) (i .0) (q .0) g ⌝ }
+    ensures { λ r. ⌜ r ≡ oneLink (domainIn (now (rows .entry))) f g ⌝ }
 {
-    if !is_down(f) {
+    if wiring::phy_address(f) != wiring::phy_address(g) {
         return false;
     }
-    if !is_down(g) {
+    if !is_down(rows, first, i, p, f) {
         return false;
     }
-    wiring::phy_address(f) == wiring::phy_address(g)
+    is_down(rows, first, i, q, g)
 }
 
 // A lower phy on the link of f, which is phy p of expander i, or 255 where there is none: the lowest with its
 // address.
-pub(crate) fn lower_phy(rows: &[u64], low: &[u8], i: ExpanderNumber, p: PhyId, f: Phy) -> PhyId
-    requires { ⌜ f ≡ phyAt (domainIn (now rows)) (i .0) (p .0) ⌝ }
+pub(crate) fn lower_phy(
+    rows: &[u64],
+    first: &[u16],
+    low: &[u8],
+    i: ExpanderNumber,
+    p: PhyId,
+    f: Phy,
+) -> PhyId
+    requires { ⌜ PhyIndexed (domainIn (now rows)) (now first) (i .0) (p .0) f × (p .0 < length (expanderAt (domainIn (now rows)) (i .0) .phys)) ⌝ }
     ensures { λ r. ⌜ Told (domainIn (now (rows .entry))) (i .0) (p .0) (r .0) ⌝ }
 {
-    if !is_down(f) {
-        return PhyId(255);
-    }
     let q = wiring::lowest_phy(low, i, p);
     if q.0 >= p.0 {
         return PhyId(255);
     }
-    if are_one_link(wiring::phy_below(rows, i, q), f) {
+    let g = wiring::phy_below(rows, i, q);
+    if are_one_link(rows, first, i, p, f, q, g) {
         return q;
     }
     PhyId(255)

@@ -6,10 +6,10 @@ use Prim.Native.Nat.{ℕ, zero, suc, _<_}
 use native.Mathlib.Omega.{arith}
 use lib.ListN.{length}
 use lib.Dec.{T, eqb}
-use Rattle.tables.specs.Wiring.{In, Domain, expanderAt, phyAt, addressOf, farOf, routes, attached, toEnd, toExpander, numberOf, self, neighbours, ChainIn, Home, Borne}
+use Rattle.tables.specs.Wiring.{In, Domain, expanderAt, phyAt, addressOf, farOf, routes, attached, toEnd, toExpander, numberOf, self, neighbours, ChainIn, Clear, ClearChain, Home, Borne}
 use Rattle.tables.specs.Tables.{heldBy, levelList, table, tables, stretch}
-use Rattle.tables.proofs.Wiring.{is-true, eq→eqb, neqb, in-cast, all-cons, last-in, at-most, same-rest, same-chain, rest-of, Joined, prepend, Way, Wired, end-attached, expander-attached, attached-cases, in-range, differ, far-below, far-is, to-adj, adj-symmetric}
-use Rattle.tables.proofs.Beyond.{Table, Sub, Clear, adj-cases, one-sub}
+use Rattle.tables.proofs.Wiring.{is-true, eq→eqb, neqb, in-cast, last-in, at-most, same-rest, same-chain, rest-of, Joined, prepend, Way, Wired, one-step, end-attached, expander-attached, attached-cases, in-range, differ, far-below, far-is, to-adj, adj-symmetric}
+use Rattle.tables.proofs.Beyond.{Table, Sub, adj-cases, one-sub}
 use Rattle.tables.proofs.Listed.{held-cases, held-self, held-phy, list-beyond, beyond-list}
 use Rattle.tables.proofs.Tables.{in-table}
 use Rattle.tables.proofs.Stretches.{stretch-is}
@@ -43,11 +43,6 @@ abbrev headOr : List ℕ → ℕ
 headOr [] = 0
 headOr (x ∷ l) = x
 
--- a chain that crosses no link with table phys at both ends
-abbrev pub ClearChain : Domain → List ℕ → Type 0
-ClearChain d [] = Unit {0}
-ClearChain d (x ∷ l) = Clear d x l
-
 module _ (d : Domain) (w : Wired d) where
   -- one address is one device
   pub home-once : (s i j : ℕ) → i < length d → j < length d → Home d s i → Home d s j → i ≡ j
@@ -68,21 +63,28 @@ module _ (d : Domain) (w : Wired d) where
   attached-borne s i p t e =
       ⊎-elim (λ u. (i, in-range d i p t .0, inr (p, u, e))) (λ u. (farEnd d i p, far-below d w i p u, far-home s i p u e)) (attached-cases (phyAt d i p) t)
 
-  -- an arrival says that a device bears the address, whatever the words
-  arrived-borne : (words : List ℕ) (s k i arrival : ℕ) → i < length d → traceFrom k d words i arrival s .outcome ≡ Arrived → Borne d s
+  -- where a trace ends, a device bears the address
+  abbrev EndsBorne : ℕ → Traced → Type 0
+  EndsBorne s t = (t .last < length d) × EndsAt d s (t .last) (t .phy)
+
+  -- an arrival says so, whatever the words
+  arrived-borne : (words : List ℕ) (s k i arrival : ℕ) → i < length d → traceFrom k d words i arrival s .outcome ≡ Arrived
+      → EndsBorne s (traceFrom k d words i arrival s)
   unfolding traceFrom afterStep
   arrived-borne words s zero i arrival h e = let z : _≡_ {A = ℕ} 0 1 = cc in absurd (omega arith)
   arrived-borne words s (suc k) i arrival h e = go (step d words i arrival s) (stepped d words i s arrival) (λ j q m. arrived-borne words s k j q m) e
     where
-      go : (st : Step) → Stepped d words i s (cameFrom d i arrival) st → ((j q : ℕ) → j < length d → traceFrom k d words j q s .outcome ≡ Arrived → Borne d s)
-          → afterStep i (λ j q. traceFrom k d words j q s) st .outcome ≡ Arrived → Borne d s
-      go st (isHere f) r o = (i, h, inl f)
-      go st (isEnd p t f n) r o = (i, h, inr (p, t, f))
+      go : (st : Step) → Stepped d words i s (cameFrom d i arrival) st
+          → ((j q : ℕ) → j < length d → traceFrom k d words j q s .outcome ≡ Arrived → EndsBorne s (traceFrom k d words j q s))
+          → afterStep i (λ j q. traceFrom k d words j q s) st .outcome ≡ Arrived → EndsBorne s (afterStep i (λ j q. traceFrom k d words j q s) st)
+      go st (isHere f) r o = (h, inl (f, refl))
+      go st (isEnd p t f n) r o = (h, inr (t, f))
       go st (isBad p t f g) r o = let z : _≡_ {A = ℕ} 0 1 = cc in absurd (omega arith)
       go st (isLost n a u g) r o = let z : _≡_ {A = ℕ} 0 1 = cc in absurd (omega arith)
       go st (isMove p n x f c) r o = r (farEnd d i p) (farOf (phyAt d i p)) (far-below d w i p x) o
 
-  pub traced-borne : (words : List ℕ) (s i arrival : ℕ) → i < length d → traced d words (request i arrival s) .outcome ≡ Arrived → Borne d s
+  pub traced-borne : (words : List ℕ) (s i arrival : ℕ) → i < length d → traced d words (request i arrival s) .outcome ≡ Arrived
+      → EndsBorne s (traced d words (request i arrival s))
   unfolding traced
   traced-borne words s i arrival h = arrived-borne words s (length d) i arrival h
 
@@ -182,13 +184,7 @@ module _ (d : Domain) (w : Wired d) where
         next i j p l c cl n x (atOnce e) =
             let q = home-once s (farEnd d i p) m (far-below d w i p x) below (far-home s i p x e) home in
             let t : T (neighbours d i m) = subst (λ v. T (neighbours d i v)) q (to-adj d w i p (farEnd d i p) (far-is d w i p x)) in
-            q ∙ same-first i m m j [] l
-            (record {
-              diff = (⊎-elim (moves-off i m j l c) (λ o. o), (λ o. o, tt));
-              below = all-cons (λ v. v < length d) i (m ∷ []) (c .below i (inl refl)) (all-cons (λ v. v < length d) m [] below (λ v o. absurd o));
-              steps = (t, tt);
-              ends = refl;
-            }) c
+            q ∙ same-first i m m j [] l (one-step d i m (c .below i (inl refl)) below (moves-off i m j l c) t) c
         next i j p l c cl n x (listed a t o) = leads i p j l c x t o
         next i j p l c cl n x (upward a u t) =
             ⊎-elim

@@ -1,27 +1,27 @@
 -- Demand 3, whole: over a domain that is read, under any limits, and past causes 7 to 10; and over a domain file.
 use mathlib.Core.Path.{_≡_, refl, sym, ap, subst, _∙_}
-use mathlib.Core.Logic.{_↔_}
-use mathlib.Core.List.{List, _∷_, _++_}
+use mathlib.Core.Logic.{inl, inr, _↔_, ⊎-elim}
+use mathlib.Core.List.{List, [], _∷_, _++_}
 use Prim.Native.Nat.{ℕ, _≤_, _<_}
 use native.Mathlib.Omega.{arith}
 use lib.ListN.{length, take, drop}
 use lib.Seq.{take-at}
 use Rattle.tables.specs.Wiring.{Result, good, then, Distinct, Below, Limits, limits, Domain, Read, wiredDomain, wired}
-use Rattle.tables.specs.Wiring.{Home, Borne}
+use Rattle.tables.specs.Wiring.{NoTableToTable, Home, Borne}
 use Rattle.tables.specs.Tables.{tables, needed}
 use Rattle.tables.specs.Judge.{judgedDomain, tablesFor, judgedTables, tableCall, TablesDone}
 use Rattle.tables.specs.Tested.{Routable}
 use Rattle.tables.specs.declared.TablesGiven.{TablesGiven}
 use Rattle.tables.specs.declared.TablesGiven.the-variants.{Counts}
 use Rattle.tables.proofs.Wiring.{good-one, then-good, Wired, read-good, wired-iff, wired-file}
-use Rattle.tables.proofs.Beyond.{linked-clear}
+use Rattle.tables.proofs.Beyond.{all-clear}
 use Rattle.tables.proofs.Given.{judged-routable, routable-iff, tables-iff, tables-same}
 use Rattle.tables.proofs.Exactly.{counts-iff, tables-of}
 use Rattle.tracing.specs.declared.Outcome.the-variants.{Arrived, NoDestination, BadDestination}
 use Rattle.tracing.specs.declared.End.{End}
-use Rattle.tracing.specs.Trace.{Request, endingAt, traced, requested, traceCall, Reported, report, bytesAfter, tracedRequest, judgedRequest}
+use Rattle.tracing.specs.Trace.{Traced, Request, endingAt, traced, requested, traceCall, Reported, report, bytesAfter, tracedRequest, judgedRequest}
 use Rattle.tracing.specs.Tested.{Asks}
-use Rattle.tracing.specs.Demand.{Starts, ForItself, EndsAt, StepsTaken, Delivered, ToldBad, Over, OverTables, Demand3}
+use Rattle.tracing.specs.Demand.{Starts, ForItself, Uncrossed, EndsAt, StepsTaken, Delivered, ToldBad, Over, OverTables, Mission, Demand3}
 use Rattle.tracing.proofs.Asked.{requested-iff}
 use Rattle.tracing.proofs.Passing.{passes-once, passes-below, steps-taken, bad-itself}
 use Rattle.tracing.proofs.Arrives.{tables-given, traced-borne, joined-all, one-chain, traced-arrives, ends-nowhere}
@@ -87,6 +87,10 @@ module _ (most : Limits) (d : Domain) (read : Read most d) (few : most .phys ≤
         let s = steps-taken d w words (q .address) (a .routable .linked .noLoop) (q .start) (q .arrival) (a .asks .start) in
         rw (counted, a .outcome, a .end, a .phy) s
 
+    -- a request that arrives arrives where the address is borne
+    arrived-borne : e .outcome ≡ Arrived → (e .last .0 < length d) × EndsAt d (q .address) (e .last .0) (e .phy .0)
+    arrived-borne f = rw (a .end, a .phy) (traced-borne d w words (q .address) (q .start) (q .arrival) (a .asks .start) (sym (a .outcome) ∙ f))
+
     told-bad : ForItself d q → ToldBad q e lent after
     told-bad s =
         let t : traced d words q ≡ endingAt BadDestination (q .start) 255 = bad-itself d w words (q .address) (q .start) (q .arrival) (s .0) (s .1) in
@@ -107,6 +111,9 @@ module _ (most : Limits) (d : Domain) (read : Read most d) (few : most .phys ≤
         λ r. c .1 (d, tables-iff (judgedDomain d) (length before) d .1 (routable-iff d past .1 r, h)),
       )
 
+  ends-home : (s m p : ℕ) → EndsAt d s m p → Home d s m
+  ends-home s m p = ⊎-elim (λ e. inl (e .0)) (λ e. inr (p, e .0, e .1))
+
   -- a request over the tables given
   module _ (q : Request) (e : End) (lent after : List ℕ) (o : OverTables d (judgedTables d) (judgedRequest d) q e lent after) where
     abbrev rest : List ℕ
@@ -119,12 +126,12 @@ module _ (most : Limits) (d : Domain) (read : Read most d) (few : most .phys ≤
     a : Answer (tables d ++ rest) q e lent after
     a = subst (λ l. Answer l q e lent after) words-are (answer (o .words) q e lent after (o .over))
 
-    delivered : Starts d q → (m : ℕ) → m < length d → Home d (q .address) m → Delivered d q m e lent after
-    delivered st m k home =
+    delivered : Uncrossed d q → Starts d q → (m : ℕ) → m < length d → Home d (q .address) m → Delivered d q m e lent after
+    delivered un st m k home =
         let r = a .routable in
         let i = q .start in
         let c = joined-all d w r i m (a .asks .start) k in
-        let clear = linked-clear d (r .linked) i (c .0) in
+        let clear = un m k home (i ∷ c .0) (refl, c .1) in
         let u = traced-arrives d w r (tables d ++ rest) (tables-given d rest) (q .address) (a .asks .nonzero) i (q .arrival) m (a .asks .start) st k home
         (i ∷ c .0) (refl, c .1) clear in
         record {
@@ -138,10 +145,10 @@ module _ (most : Limits) (d : Domain) (read : Read most d) (few : most .phys ≤
           bytes = a .bytes ∙ ap (λ l. l ++ drop (length l) lent) (u .passed);
         }
 
-    arrives-iff : Starts d q → (e .outcome ≡ Arrived) ↔ Borne d (q .address)
-    arrives-iff st = (
-      λ f. traced-borne d w (tables d ++ rest) (q .address) (q .start) (q .arrival) (a .asks .start) (sym (a .outcome) ∙ f),
-      λ b. delivered st (b .0) (b .1) (b .2) .outcome,
+    arrives-iff : Uncrossed d q → Starts d q → (e .outcome ≡ Arrived) ↔ Borne d (q .address)
+    arrives-iff un st = (
+      λ f. let b = arrived-borne (tables d ++ rest) q e lent after a f in (e .last .0, b .0, ends-home (q .address) (e .last .0) (e .phy .0) (b .1)),
+      λ b. delivered un st (b .0) (b .1) (b .2) .outcome,
     )
 
     nobody-bears : ¬ (Borne d (q .address)) → e .outcome ≡ NoDestination
@@ -153,13 +160,22 @@ module _ (most : Limits) (d : Domain) (read : Read most d) (few : most .phys ≤
   pub demand3 : Demand3 d (judgedTables d) (judgedRequest d)
   demand3 = record {
     given = counts-routable;
-    arrives = arrives-iff;
-    along = delivered;
-    otherwise = nobody-bears;
+    mission = λ q e lent after o un. record { arrives = arrives-iff q e lent after o un; along = delivered q e lent after o un; otherwise = nobody-bears q e lent after o };
+    borne = λ words q e lent after o. arrived-borne words q e lent after (answer words q e lent after o);
     once = λ words q e lent after o. passes-different words q e lent after (answer words q e lent after o);
     steps = λ words q e lent after o. takes-steps words q e lent after (answer words q e lent after o);
     itself = λ words q e lent after o. told-bad words q e lent after (answer words q e lent after o);
   }
+
+-- where the domain has no table-to-table link, every request over the tables given ends as in the mission
+pub demand3-clear : (d : Domain) (tableCalled : ℕ → Result Domain) (traceCalled : List ℕ → ℕ → Request → Result Traced) → Demand3 d tableCalled traceCalled
+    → NoTableToTable d → (q : Request) (e : End) (lent after : List ℕ) → OverTables d tableCalled traceCalled q e lent after
+    → Mission d q e lent after
+demand3-clear d tableCalled traceCalled c n q e lent after o = c .mission q e lent after o uncrossed
+  where
+    uncrossed : Uncrossed d q
+    uncrossed m k home [] f = absurd f
+    uncrossed m k home (i ∷ l) f = all-clear d n i l
 
 -- demand 3 of the table call and the trace call on a file that reads as x
 abbrev FromFile : Domain → Result Domain → Type 0

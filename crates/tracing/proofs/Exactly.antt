@@ -2,6 +2,7 @@
 use Prim.Native.Nat.{ℕ}
 use mathlib.Core.Path.{_≡_, refl, sym, subst}
 use mathlib.Core.Bool.{not, _&&_}
+use mathlib.Core.Logic.{inl, inr}
 use mathlib.Core.List.{List}
 use native.Mathlib.Omega.{arith}
 use lib.ListN.{length}
@@ -19,9 +20,9 @@ use Rattle.tracing.proofs.Asked.{requested-iff}
 requested-numbered : (q : Request) (words bytes : ℕ) (d : Domain) → Numbered traceNumber (requested q words bytes d)
 unfolding requested
 requested-numbered q words bytes d =
-    numbered-unless traceNumber (allowed d (q .start) (q .arrival)) (refusal 15 0 0) _ (omega arith, omega arith)
-    (numbered-unless traceNumber (leb (needed d) words && leb (length d) bytes) (refusal 16 0 0) _ (omega arith, omega arith)
-    (numbered-unless traceNumber (not (eqb (q .address) 0)) (refusal 17 0 0) (good d) (omega arith, omega arith) tt))
+    numbered-unless traceNumber (allowed d (q .start) (q .arrival)) (refusal 15 0 0) _ (inr (omega arith, omega arith))
+    (numbered-unless traceNumber (leb (needed d) words && leb (length d) bytes) (refusal 16 0 0) _ (inr (omega arith, omega arith))
+    (numbered-unless traceNumber (not (eqb (q .address) 0)) (refusal 17 0 0) (good d) (inr (omega arith, omega arith)) tt))
 
 -- the trace call answers exactly when none of its causes holds, and refuses with no other number
 pub trace-exactly : (file words lent after : List ℕ) (q : Request) (answer : TraceAnswer) → TraceDone (traceCall file words (length lent) q) answer lent after
@@ -36,7 +37,7 @@ trace-exactly file words lent after q answer o =
     numbered : Numbered traceNumber (then (traceCall file words bytes q) report)
     numbered =
         numbered-then traceNumber (traceCall file words bytes q) report
-        (numbered-then traceNumber (judged file) _ (judged-numbered traceNumber (λ n a b. (a, omega arith)) file)
+        (numbered-then traceNumber (judged file) _ (judged-numbered traceNumber (λ n h. inl h) file)
         (λ d. numbered-then traceNumber (requested q (length words) bytes d) _ (requested-numbered q (length words) bytes d) (λ _. tt)))
         (λ t. tt)
 

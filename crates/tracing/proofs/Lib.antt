@@ -3,6 +3,7 @@ pub mod Picks
 pub mod Turns
 pub mod Asked
 pub mod Stepping
+pub mod TableToTable
 pub mod Passing
 pub mod Arrives
 pub mod Demand

@@ -7,7 +7,7 @@ use native.Mathlib.Omega.{arith}
 use lib.ListN.{length, drop, replicate, set, length-append}
 use lib.Dec.{T}
 use Rattle.tables.specs.Wiring.{Phy, Present, Result, refused, good, then, refusal, Domain, phyAt, toEnd, limits}
-use Rattle.tables.proofs.Opened.{numberAt, bytesOf, frameSize, generalFixed, generalRead, discoverFixed, discoverRead, numbers, any, keep, isIn, numberOf, sizeAt, phyUnit, phyUnits, expanderUnit, expanders, headerUnit, domainRead, unanswered, endAt, claimed, clash, clashing, fixed, phyPlaces, placesFrom, firstIn, wiredDomain, strip, reach, cabled, neighbours, unlooped, joined, joinedIn, tableToTable, linkedDomain}
+use Rattle.tables.proofs.Opened.{numberAt, bytesOf, frameSize, generalFixed, generalRead, discoverFixed, discoverRead, numbers, any, keep, isIn, numberOf, sizeAt, phyUnit, phyUnits, expanderUnit, expanders, headerUnit, domainRead, unanswered, endAt, claimed, clash, clashing, fixed, phyPlaces, placesFrom, firstIn, wiredDomain, strip, reach, cabled, neighbours, unlooped, joined, joinedIn, linkedDomain}
 use Rattle.tables.proofs.Wiring.{good-then}
 use Rattle.tables.proofs.Given.{tableCall-iff}
 use Rattle.tables.specs.Levels.{once, belowPhys, below, nextLevel, levelsFrom, levels}
@@ -99,7 +99,7 @@ unfolding general discover pair rig
     numberAt bytesOf frameSize generalFixed generalRead discoverFixed discoverRead
     numbers any keep isIn numberOf sizeAt phyUnit phyUnits expanderUnit expanders headerUnit domainRead
     unanswered endAt claimed clash clashing fixed phyPlaces placesFrom firstIn wiredDomain
-    strip reach cabled neighbours unlooped joined joinedIn tableToTable linkedDomain
+    strip reach cabled neighbours unlooped joined joinedIn linkedDomain
     once belowPhys below nextLevel levelsFrom levels flatMap
     heldBy gives give giveAll levelList overlong judgedDomain
 rig-judged = refl
@@ -141,7 +141,7 @@ unfolding general discover pair rig words ending
     numberAt bytesOf frameSize generalFixed generalRead discoverFixed discoverRead
     numbers any keep isIn numberOf sizeAt phyUnit phyUnits expanderUnit expanders headerUnit domainRead
     unanswered endAt claimed clash clashing fixed phyPlaces placesFrom firstIn wiredDomain
-    strip reach cabled neighbours unlooped joined joinedIn tableToTable linkedDomain
+    strip reach cabled neighbours unlooped joined joinedIn linkedDomain
     once belowPhys below nextLevel levelsFrom levels flatMap
     heldBy gives give giveAll levelList overlong judgedDomain
     pick offsetIn size stretch subtractively byTable directly step afterStep traceFrom traced

@@ -6,7 +6,7 @@ use mathlib.Core.List.{List, [], _∷_, _++_}
 use lib.ListN.{length, take, drop}
 use lib.Dec.{T}
 use Rattle.tables.specs.Wiring.{Result, Distinct, Below, last, Domain, expanderAt, phyAt, addressOf, toEnd}
-use Rattle.tables.specs.Wiring.{ChainIn, Home, Borne}
+use Rattle.tables.specs.Wiring.{ChainIn, ClearChain, Home, Borne}
 use Rattle.tables.specs.Tables.{needed}
 use Rattle.tables.specs.Judge.{TablesDone}
 use Rattle.tables.specs.Tested.{Routable}
@@ -28,6 +28,11 @@ Starts d q =
 -- a request from an end device for that device's own address
 abbrev pub ForItself : Domain → Request → Type 0
 ForItself d q = T (toEnd (phyAt d (q .start) (q .arrival))) × (addressOf (phyAt d (q .start) (q .arrival)) ≡ q .address)
+
+-- "requests whose chain crosses no such link, or whose address no device bears" (document 02, paper 3): whichever device bears the
+-- address, the chain to it crosses no table-to-table link
+abbrev pub Uncrossed : Domain → Request → Type 0
+Uncrossed d q = (m : ℕ) → m < length d → Home d (q .address) m → (l : List ℕ) → ChainIn d (q .start) m l → ClearChain d l
 
 -- where a trace for address s that arrives at expander m ends: phy 255 where m bears s, else a phy of m attached to an end device with s
 abbrev pub EndsAt : Domain → ℕ → ℕ → ℕ → Type 0
@@ -74,6 +79,15 @@ pub record ToldBad (q : Request) (e : End) (lent after : List ℕ) : Type 0 wher
   pub count : e .count ≡ 1
   pub bytes : after ≡ q .start ∷ drop 1 lent
 
+-- how a request over the tables given ends, by the mission: what its answer is, and the lent bytes after
+pub record Mission (d : Domain) (q : Request) (e : End) (lent after : List ℕ) : Type 0 where
+  -- "a request arrives exactly when a device bears the address"
+  pub arrives : Starts d q → (e .outcome ≡ Arrived) ↔ Borne d (q .address)
+  -- "along the one chain, each expander once, and reports them and their number"
+  pub along : Starts d q → (m : ℕ) → m < length d → Home d (q .address) m → Delivered d q m e lent after
+  -- "otherwise NO DESTINATION"
+  pub otherwise : ¬ (Borne d (q .address)) → e .outcome ≡ NoDestination
+
 -- domain d, past causes 1 to 10; what its table call yields with so many words lent, and its trace call over words, with so many bytes lent
 module _ (d : Domain) (tableCalled : ℕ → Result Domain) (traceCalled : List ℕ → ℕ → Request → Result Traced) where
   -- a request over these words, which is a trace that isn't refused: the trace call answered e, and left these bytes of those lent
@@ -90,17 +104,15 @@ module _ (d : Domain) (tableCalled : ℕ → Result Domain) (traceCalled : List 
     pub over : Over words q e lent after
 
   pub record Demand3 : Type 0 where
-    -- "tables are given exactly when there is no loop, every expander is chained to the first, no link is table at both ends, and no level
-    -- list exceeds R": with room, the table call answers with counts exactly then
+    -- "tables are given exactly when there is no loop, every expander is chained to the first, and no level list exceeds R": with room, the
+    -- table call answers with counts exactly then
     pub given : (before words : List ℕ) (answer : TablesGiven) → needed d ≤ length before → TablesDone (tableCalled (length before)) answer before words
         → ((t w : ℕ) × (answer ≡ Counts t w)) ↔ Routable d
-    -- "over those tables a request arrives exactly when a device bears the address"
-    pub arrives : (q : Request) (e : End) (lent after : List ℕ) → OverTables q e lent after → Starts d q → (e .outcome ≡ Arrived) ↔ Borne d (q .address)
-    -- "along the one chain, each expander once, and reports them and their number"
-    pub along : (q : Request) (e : End) (lent after : List ℕ) → OverTables q e lent after → Starts d q
-        → (m : ℕ) → m < length d → Home d (q .address) m → Delivered d q m e lent after
-    -- "otherwise NO DESTINATION"
-    pub otherwise : (q : Request) (e : End) (lent after : List ℕ) → OverTables q e lent after → ¬ (Borne d (q .address)) → e .outcome ≡ NoDestination
+    -- "over those tables": requests whose chain crosses no table-to-table link, or whose address no device bears, end as in the mission
+    pub mission : (q : Request) (e : End) (lent after : List ℕ) → OverTables q e lent after → Uncrossed d q → Mission d q e lent after
+    -- whatever words: a request that arrives arrives where the address is borne
+    pub borne : (words : List ℕ) (q : Request) (e : End) (lent after : List ℕ) → Over words q e lent after → e .outcome ≡ Arrived
+        → (e .last .0 < length d) × EndsAt d (q .address) (e .last .0) (e .phy .0)
     -- "whatever words the tables hold, no request passes an expander twice": as many of the bytes as are counted are different expanders
     pub once : (words : List ℕ) (q : Request) (e : End) (lent after : List ℕ) → Over words q e lent after
         → (length (take (e .count) after) ≡ e .count) × (Distinct (take (e .count) after) × Below (length d) (take (e .count) after))

@@ -7,7 +7,7 @@ use lib.ListN.{length}
 use lib.Dec.{T}
 use Rattle.tables.specs.Wiring.{Domain, phyAt, toEnd}
 use Rattle.tables.specs.Tables.{needed}
-use Rattle.tables.specs.Tested.{NoJudgingCause}
+use Rattle.tables.specs.Tested.{NoJudgingCause, judgingNumber}
 use Rattle.tracing.specs.Trace.{Request}
 
 -- none of causes 15 to 17 holds of a request with so many table words and bytes lent
@@ -21,11 +21,11 @@ pub record Asks (q : Request) (words bytes : ℕ) (d : Domain) : Type 0 where
   -- 17: requested address zero
   pub nonzero : q .address ≢ 0
 
--- none of the causes that the trace call tests holds: 1 to 14 of the file, and 15 to 17
+-- none of the causes that the trace call tests holds: those of the judging call, and 15 to 17
 pub record NoTraceCause (file : List ℕ) (q : Request) (words bytes : ℕ) : Type 0 where
   pub judging : NoJudgingCause file
   pub asks : Asks q words bytes (judging .domain)
 
--- 1 to 17
+-- 1 to 12, 14, and 15 to 17
 abbrev pub traceNumber : ℕ → Type 0
-traceNumber n = (1 ≤ n) × (n ≤ 17)
+traceNumber n = judgingNumber n ⊎ ((15 ≤ n) × (n ≤ 17))

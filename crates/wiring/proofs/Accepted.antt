@@ -1,4 +1,4 @@
--- What the causes leave of a domain that is read: 7 to 10 of one that is wired, 11 to 13 of one that is linked.
+-- What the causes leave of a domain that is read: 7 to 10 of one that is wired, 11 and 12 of one that is linked.
 use mathlib.Core.Path.{_≡_, refl, sym, ap, subst, _∙_}
 use mathlib.Core.Logic.{_⊎_, inl, inr, _≢_, _↔_, ⊎-elim, by-cases}
 use mathlib.Core.List.{List, [], _∷_}
@@ -20,7 +20,7 @@ use Rattle.wiring.specs.Causes.{Place, place, places, farPhy, names, una
 use Rattle.wiring.specs.Tested.{Passed, Linked}
 use Rattle.wiring.specs.Graph.{loopfree}
 use Rattle.wiring.specs.Neighbours.{neighbours}
-use Rattle.wiring.specs.Links.{unlooped, joined, joinedIn, tableToTable, linkedDomain}
+use Rattle.wiring.specs.Links.{unlooped, joined, joinedIn, linkedDomain}
 use Rattle.wiring.proofs.Results.{never, good-one, unless-good, good-unless, then-good, good-then, then-same}
 use Rattle.wiring.proofs.Read.{read-good}
 use Rattle.wiring.proofs.Members.{tests, or-cases, not-not, is-true, is-false, was-true, eq→eqb, in-cast, all-cons, any-of, of-any, in-getD, getD-in, in-take, take-in, map-in, in-upTo, numbers-below}
@@ -321,7 +321,7 @@ wired-file file d = then-same (domainRead limits file) wiredDomain d (λ a. wire
 pub wired-wires : (file : List ℕ) (d : Domain) → wired file ≡ good d → Wired d
 wired-wires file d e = let r = wired-file file d .0 e in wired-iff limits d (read-good limits file d (r .0)) (omega arith) .0 (r .1)
 
--- causes 11 to 13
+-- causes 11 and 12
 unlooped-good : (d e : Domain) → unlooped d ≡ good e → ¬ (LoopIn d)
 unfolding unlooped
 unlooped-good d e f =
@@ -352,31 +352,23 @@ pub joined-iff : (d : Domain) (i : ℕ) → i < length d → T (joined d i) ↔ 
 unfolding joined
 joined-iff d i h = reached-iff (length d) (neighbours d) 0 i (omega arith)
 
-tables-range : (d : Domain) (i p : ℕ) → T (tableToTable d i p) → p < length (expanderAt d i .phys)
-unfolding tableToTable
-tables-range d i p t = phy-range d toExpander i p (search tests) (λ u. u)
-
 linked-links : (d e : Domain) → linkedDomain d ≡ good e → (d ≡ e) × Linked d
-unfolding linkedDomain tableToTable
+unfolding linkedDomain
 linked-links d e f =
     let a = then-good (unlooped d) _ e f in
-    let b = then-good (joinedIn (upTo (length d)) d) _ e (a .2) in
-    let c = firstOf-good 13 (tableToTable d) d e (tables-range d) (b .2) in (
-      c .0,
+    let b = joinedIn-good (upTo (length d)) d e (a .2) in (
+      b .0,
       record {
         noLoop = unlooped-good d (a .0) (a .1);
-        chained = λ i h. joined-iff d i h .0 (joinedIn-good (upTo (length d)) d (b .0) (b .1) .1 i (in-upTo (length d) i h));
-        noTables = λ i p t u v. c .1 i p (search tests);
+        chained = λ i h. joined-iff d i h .0 (b .1 i (in-upTo (length d) i h));
       },
     )
 
 links-linked : (d : Domain) → Linked d → linkedDomain d ≡ good d
-unfolding linkedDomain tableToTable
+unfolding linkedDomain
 links-linked d r =
     good-then (unlooped d) _ d d (good-unlooped d (r .noLoop))
-    (good-then (joinedIn (upTo (length d)) d) _ d d
     (good-joinedIn (upTo (length d)) d (λ i h. let k = numbers-below (length d) i h in joined-iff d i k .1 (r .chained i k)))
-    (good-firstOf 13 (tableToTable d) d (λ i p t. r .noTables i p (search tests) (search tests) (search tests))))
 
 pub linked-iff : (d : Domain) → (linkedDomain d ≡ good d) ↔ Linked d
 linked-iff d = (λ e. linked-links d d e .1, links-linked d)

@@ -15,11 +15,11 @@ use Rattle.wiring.specs.declared.Wiring.{Wiring}
 use Rattle.wiring.specs.declared.Wiring.the-variants.{Refused, Bits}
 use Rattle.wiring.specs.Lists.{upTo}
 use Rattle.wiring.specs.Domain.{Domain}
-use Rattle.wiring.specs.Causes.{firstOf, wiredDomain}
+use Rattle.wiring.specs.Causes.{wiredDomain}
 use Rattle.wiring.specs.Graph.{loopfree}
 use Rattle.wiring.specs.Neighbours.{neighbours, neighbourWord, neighbourWords, bitsIn, wordsFor, wiringCall, WiringDone}
 use Rattle.wiring.specs.File.{limits, domainRead}
-use Rattle.wiring.specs.Links.{unlooped, joinedIn, tableToTable, linkedDomain, checkedDomain}
+use Rattle.wiring.specs.Links.{unlooped, joinedIn, linkedDomain, checkedDomain}
 use Rattle.wiring.specs.Addresses.{slotsBefore}
 use Rattle.wiring.specs.Checks.{checkedIn}
 use Rattle.wiring.specs.Rounds.{Held}
@@ -35,17 +35,16 @@ pub wiring-refused : (room : ℕ) (before : List ℕ) (r : Refusal) (x : Result 
 wiring-refused room before r x e = rw e (record { answers = refl; words = refl })
 
 module _ (d : Domain) where
-  -- causes 11 to 13
+  -- causes 11 and 12
   pub links-loop : loopfree (length d) (neighbours d) ≡ false → linkedDomain d ≡ refused (refusal 11 0 0)
   unfolding linkedDomain unlooped
   links-loop q = rw q
 
-  pub links-joined : (x : Result Domain) → loopfree (length d) (neighbours d) ≡ true → joinedIn (upTo (length d)) d ≡ x
-      → linkedDomain d ≡ then x (λ _. firstOf 13 (tableToTable d) d)
+  pub links-joined : loopfree (length d) (neighbours d) ≡ true → linkedDomain d ≡ joinedIn (upTo (length d)) d
   unfolding linkedDomain unlooped
-  links-joined x q e = rw (q, e)
+  links-joined q = rw q
 
-  -- causes 7 to 13
+  -- causes 7 to 12
   pub checked-by : (x : Result Domain) → wiredDomain d ≡ x → checkedDomain d ≡ then x (λ _. linkedDomain d)
   unfolding checkedDomain
   checked-by x e = rw e

@@ -14,18 +14,13 @@ use Rattle.wiring.specs.Lists.{In}
 use Rattle.wiring.specs.Domain.{Expander, Domain, noExpander, expanderAt, phyAt, typeOf, addressOf, farOf, attributeOf, routes, attached, toEnd, toExpander, numberOf}
 use Rattle.wiring.specs.Causes.{farPhy, place, phyPlaces, placesFrom, places}
 use Rattle.wiring.specs.Graph.{Tail, Symmetric}
-pub use Rattle.wiring.specs.Devices.{LoopIn, ChainIn, Home}
+pub use Rattle.wiring.specs.Devices.{LoopIn, ChainIn, Home, To}
 use Rattle.wiring.specs.Neighbours.{cabled, neighbours}
-use Rattle.wiring.proofs.Members.{tests, or-cases, or-left, or-right, any-of, of-any, in-getD, getD-in, in-left, in-right, eq→eqb}
+use Rattle.wiring.proofs.Members.{tests, or-cases, or-left, or-right, any-of, of-any, in-getD, getD-in, in-left, in-right, all-cons, eq→eqb}
 
 -- a way is a chain without its first
 abbrev pub Way : Domain → ℕ → ℕ → List ℕ → Type 0
 Way d = Tail (length d) (neighbours d)
-
--- phy p of expander i is attached to expander j
-pub record To (d : Domain) (i p j : ℕ) : Type 0 where
-  pub expander : T (toExpander (phyAt d i p))
-  pub address : addressOf (phyAt d i p) ≡ expanderAt d j .address
 
 -- cause 6 leaves types up to 3 and attributes up to 2
 abbrev pub Plain : Phy → Type 0
@@ -55,6 +50,15 @@ pub record Wired (d : Domain) : Type 0 where
       → addressOf (phyAt d i p) ≡ addressOf (phyAt d i q)
   -- 10
   pub configured : (i p : ℕ) → T (routes 2 (phyAt d i p)) → expanderAt d i .configurable ≢ 0
+
+-- one step is a way
+pub one-step : (d : Domain) (i j : ℕ) → i < length d → j < length d → i ≢ j → T (neighbours d i j) → Way d i j (j ∷ [])
+one-step d i j h k n t = record {
+  diff = (⊎-elim n (λ o. o), (λ o. o, tt));
+  below = all-cons (λ v. v < length d) i (j ∷ []) h (all-cons (λ v. v < length d) j [] k (λ v o. absurd o));
+  steps = (t, tt);
+  ends = refl;
+}
 
 -- types and attributes
 pub type-attached : (φ : Phy) → typeOf φ ≢ 0 → T (attached φ)

@@ -11,7 +11,7 @@ use Rattle.wiring.specs.Domain.{Domain, numberOf}
 use Rattle.wiring.specs.Causes.{unanswered, endAt, claimed, clash, clashing, fixed, phyPlaces, placesFrom, firstIn, wiredDomain}
 use Rattle.wiring.specs.Graph.{strip, reach}
 use Rattle.wiring.specs.Neighbours.{cabled, neighbours, setOf, neighbourWord, neighbourWords, bitsIn}
-use Rattle.wiring.specs.Links.{unlooped, joined, joinedIn, tableToTable, linkedDomain}
+use Rattle.wiring.specs.Links.{unlooped, joined, joinedIn, linkedDomain}
 
 -- one expander with address 1: a subtractive phy at its own address, with this far phy
 abbrev self : ℕ → Phy
@@ -28,5 +28,5 @@ SelfCabled d =
 -- a phy that names itself, and two phys that name each other
 pub self-cabled : SelfCabled (bench (self 0 ∷ [])) × SelfCabled (bench (self 1 ∷ self 0 ∷ []))
 unfolding numbers any keep isIn numberOf unanswered endAt claimed clash clashing fixed phyPlaces placesFrom firstIn wiredDomain strip reach cabled
-    neighbours setOf neighbourWord neighbourWords bitsIn unlooped joined joinedIn tableToTable linkedDomain ones onesIn
+    neighbours setOf neighbourWord neighbourWords bitsIn unlooped joined joinedIn linkedDomain ones onesIn
 self-cabled = ((refl, (refl, (refl, refl))), (refl, (refl, (refl, refl))))

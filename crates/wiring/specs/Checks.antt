@@ -10,7 +10,7 @@ use Rattle.wiring.specs.declared.Check.{Check}
 use Rattle.wiring.specs.declared.Check.the-variants.{Refused, Passed}
 use Rattle.wiring.specs.Domain.{Domain, expanderAt}
 use Rattle.wiring.specs.Causes.{unanswered, claimed, clashing, fixed, phyPlaces, firstIn}
-use Rattle.wiring.specs.Links.{tableToTable, checkedDomain}
+use Rattle.wiring.specs.Links.{checkedDomain}
 use Rattle.wiring.specs.Addresses.{slotsBefore, IndexRoom}
 use Rattle.wiring.specs.File.{limits, domainRead}
 
@@ -25,8 +25,7 @@ causeOf k d i p =
     cond (eqb k 7) (unanswered d i p)
     (cond (eqb k 8) (claimed d i p)
     (cond (eqb k 9) (clashing d i p)
-    (cond (eqb k 10) (fixed d i p)
-    (cond (eqb k 13) (tableToTable d i p) false))))
+    (cond (eqb k 10) (fixed d i p) false)))
 
 -- number k, at the lowest phy of expander i at which cause k holds
 abbrev pub firstAt : ℕ → Domain → ℕ → Result Domain
@@ -43,7 +42,7 @@ pub record Testable (k : ℕ) (d : Domain) (i p : ℕ) : Type 0 where
   pub within : p < length (expanderAt d i .phys)
   pub none : (q : ℕ) → q < p → causeOf k d i q ≡ false
 
--- causes 7 to 13 in order, where there is room for entries of so many slots and phys: 16 otherwise
+-- causes 7 to 12 in order, where there is room for entries of so many slots and phys: 16 otherwise
 unfoldable pub checkedIn : ℕ → ℕ → Domain → Result Domain
 checkedIn first low d = unless (leb (slotsBefore (length d)) first && leb (128 * length d) low) (refusal 16 0 0) (checkedDomain d)
 

@@ -1,12 +1,12 @@
--- Causes 11 to 13: loops, chains to expander 0, and links that are table at both ends.
+-- Causes 11 and 12: loops, and chains to expander 0.
 use Prim.Native.Nat.{ℕ}
-use mathlib.Core.Bool.{Bool, cond, _&&_}
+use mathlib.Core.Bool.{Bool, cond}
 use mathlib.Core.List.{List, [], _∷_}
 use lib.ListN.{length}
 use Rattle.frames.specs.Refusals.{Result, refused, good, unless, then, refusal}
 use Rattle.wiring.specs.Lists.{upTo}
-use Rattle.wiring.specs.Domain.{Domain, phyAt, routes, toExpander}
-use Rattle.wiring.specs.Causes.{farPhy, firstOf, wiredDomain}
+use Rattle.wiring.specs.Domain.{Domain}
+use Rattle.wiring.specs.Causes.{wiredDomain}
 use Rattle.wiring.specs.Graph.{loopfree, reached}
 use Rattle.wiring.specs.Neighbours.{neighbours}
 
@@ -23,17 +23,10 @@ unfoldable pub joinedIn : List ℕ → Domain → Result Domain
 joinedIn [] d = good d
 joinedIn (i ∷ is) d = cond (joined d i) (joinedIn is d) (refused (refusal 12 i 0))
 
--- 13: table phy attached to a table phy
-unfoldable pub tableToTable : Domain → ℕ → ℕ → Bool
-tableToTable d i p = toExpander (phyAt d i p) && (routes 2 (phyAt d i p) && routes 2 (farPhy d (phyAt d i p)))
-
--- causes 11 to 13 in order
+-- causes 11 and 12 in order; 13 is withdrawn (document 02, paper 3)
 unfoldable pub linkedDomain : Domain → Result Domain
-linkedDomain d =
-    then (unlooped d) (λ _.
-    then (joinedIn (upTo (length d)) d) (λ _.
-    firstOf 13 (tableToTable d) d))
+linkedDomain d = then (unlooped d) (λ _. joinedIn (upTo (length d)) d)
 
--- causes 7 to 13 in order
+-- causes 7 to 12 in order
 unfoldable pub checkedDomain : Domain → Result Domain
 checkedDomain d = then (wiredDomain d) (λ _. linkedDomain d)

@@ -1,4 +1,4 @@
--- What the wiring call tests, cause by cause; and what causes 11 to 13 test, for the calls that run them too.
+-- What the wiring call tests, cause by cause; and what causes 11 and 12 test, for the calls that run them too.
 use Prim.Native.Nat.{ℕ, _≤_, _<_}
 use mathlib.Core.Path.{_≡_}
 use mathlib.Core.Logic.{_⊎_}
@@ -6,9 +6,9 @@ use mathlib.Core.List.{List}
 use lib.ListN.{length}
 use lib.Dec.{T}
 use Rattle.frames.specs.Refusals.{good}
-use Rattle.wiring.specs.Domain.{Domain, phyAt, routes, toExpander}
+use Rattle.wiring.specs.Domain.{Domain}
 use Rattle.wiring.specs.File.{limits, domainRead}
-use Rattle.wiring.specs.Causes.{farPhy, unanswered, claimed, clashing, fixed}
+use Rattle.wiring.specs.Causes.{unanswered, claimed, clashing, fixed}
 use Rattle.wiring.specs.Devices.{LoopIn, ChainIn}
 
 -- none of causes 7 to 10 holds of a phy
@@ -22,14 +22,12 @@ pub record Passed (d : Domain) : Type 0 where
   -- 10: non-vacant table phy, configurable bit 0
   pub ten : (i p : ℕ) → ¬ (T (fixed d i p))
 
--- none of causes 11 to 13 holds
+-- neither of causes 11 and 12 holds
 pub record Linked (d : Domain) : Type 0 where
   -- 11: there is no loop
   pub noLoop : ¬ (LoopIn d)
   -- 12: a chain joins expander 0 to every expander
   pub chained : (i : ℕ) → i < length d → (l : List ℕ) × ChainIn d 0 i l
-  -- 13: no link is table at both ends
-  pub noTables : (i p : ℕ) → T (toExpander (phyAt d i p)) → T (routes 2 (phyAt d i p)) → ¬ (T (routes 2 (farPhy d (phyAt d i p))))
 
 -- none of the causes that the wiring call tests holds, with so many words lent
 pub record NoWiringCause (file : List ℕ) (room : ℕ) : Type 0 where

@@ -1,4 +1,4 @@
-// Causes 7 to 10 and 13 at one phy, the lowest phy at which one of them holds, and causes 7 to 10 in order.
+// Causes 7 to 10 at one phy, the lowest phy at which one of them holds, and causes 7 to 10 in order.
 use crate::Check;
 use crate::Phy;
 use crate::addresses;
@@ -15,7 +15,6 @@ ghost use Rattle.wiring.specs.Domain.{expanderAt, phyAt, toExpander};
 ghost use Rattle.wiring.specs.Addresses.{IndexedFirst, Indexed};
 ghost use Rattle.wiring.specs.Rows.{domainIn};
 ghost use Rattle.wiring.specs.Causes.{farPhy, names, unanswered, claimed, fixed, firstOf, wiredDomain};
-ghost use Rattle.wiring.specs.Links.{tableToTable};
 ghost use Rattle.wiring.specs.Checks.{checkAnswer, causeOf, firstAt, Testable};
 
 // The far end of f, phy p of expander i, which is attached to an expander: a vacant phy where it is missing.
@@ -79,21 +78,6 @@ fn is_fixed(rows: &[u64], i: ExpanderNumber, p: PhyId) -> bool
     view::configurable_bit(rows, i) == 0
 }
 
-// Cause 13: table phy attached to a table phy.
-fn is_table_to_table(rows: &[u64], first: &[u16], i: ExpanderNumber, p: PhyId) -> bool
-    requires { ⌜ IndexedFirst (domainIn (now rows)) (now first) × (p .0 < length (expanderAt (domainIn (now rows)) (i .0) .phys)) ⌝ }
-    ensures { λ r. ⌜ r ≡ tableToTable (domainIn (now (rows .entry))) (i .0) (p .0) ⌝ }
-{
-    let f = view::phy_below(rows, i, p);
-    if view::phy_type(f) < 2 {
-        return false;
-    }
-    if view::phy_attribute(f) != 2 {
-        return false;
-    }
-    view::phy_attribute(far_phy(rows, first, i, p, f)) == 2
-}
-
 // Whether cause k holds at phy p of expander i, where it does not hold at a lower phy of it.
 fn cause_holds(rows: &[u64], first: &[u16], low: &[u8], k: u8, i: ExpanderNumber, p: PhyId) -> bool
     requires { ⌜ Indexed (domainIn (now rows)) (now first) (now low) × Testable k (domainIn (now rows)) (i .0) (p .0) ⌝ }
@@ -110,9 +94,6 @@ fn cause_holds(rows: &[u64], first: &[u16], low: &[u8], k: u8, i: ExpanderNumber
     }
     if k == 10 {
         return is_fixed(rows, i, p);
-    }
-    if k == 13 {
-        return is_table_to_table(rows, first, i, p);
     }
     false
 }
@@ -133,7 +114,7 @@ fn first_phy(rows: &[u64], first: &[u16], low: &[u8], k: u8, i: ExpanderNumber) 
     Check::Passed
 }
 
-// The lowest phy, by expander and then phy, at which cause k holds: 7 to 10 or 13.
+// The lowest phy, by expander and then phy, at which cause k holds: 7 to 10.
 pub(crate) fn first_of(rows: &[u64], first: &[u16], low: &[u8], k: u8) -> Check
     requires { ⌜ Indexed (domainIn (now rows)) (now first) (now low) ⌝ }
     ensures { λ r. ⌜ checkAnswer (domainIn (now (rows .entry))) r ≡ firstOf k (causeOf k (domainIn (now (rows .entry)))) (domainIn (now (rows .entry))) ⌝ }

@@ -1,4 +1,4 @@
-// Causes 11 to 13: loops, chains to expander 0, and links that are table at both ends.
+// Causes 11 and 12: loops, and chains to expander 0.
 use crate::Check;
 use crate::addresses;
 use crate::causes;
@@ -16,7 +16,7 @@ ghost use Rattle.wiring.specs.Graph.{loopfree};
 ghost use Rattle.wiring.specs.Neighbours.{neighbours};
 ghost use Rattle.wiring.specs.Links.{joinedIn, linkedDomain, checkedDomain};
 ghost use Rattle.wiring.specs.Checks.{checkAnswer, checkedIn};
-ghost use Rattle.wiring.specs.Addresses.{Indexed};
+ghost use Rattle.wiring.specs.Addresses.{IndexedFirst, Indexed};
 ghost use Rattle.wiring.specs.Rounds.{Held};
 
 // Whether cause 11 does not hold: in as many rounds as there are expanders, each round takes away those
@@ -49,9 +49,9 @@ fn check_joined(rows: &[u64], words: &[u64]) -> Check
     Check::Passed
 }
 
-// Causes 11 to 13 in order.
-fn check_links(rows: &[u64], first: &[u16], low: &[u8]) -> Check
-    requires { ⌜ Indexed (domainIn (now rows)) (now first) (now low) ⌝ }
+// Causes 11 and 12 in order.
+fn check_links(rows: &[u64], first: &[u16]) -> Check
+    requires { ⌜ IndexedFirst (domainIn (now rows)) (now first) ⌝ }
     ensures { λ r. ⌜ checkAnswer (domainIn (now (rows .entry))) r ≡ linkedDomain (domainIn (now (rows .entry))) ⌝ }
 {
     let mut words = [0u64; 64];
@@ -59,14 +59,10 @@ fn check_links(rows: &[u64], first: &[u16], low: &[u8]) -> Check
     if !is_loopfree(rows, &words[..]) {
         return refusals::check_refused(11, ExpanderNumber(0), PhyId(0));
     }
-    let joined = check_joined(rows, &words[..]);
-    match joined {
-        Check::Refused(r) => Check::Refused(r),
-        Check::Passed => causes::first_of(rows, first, low, 13),
-    }
+    check_joined(rows, &words[..])
 }
 
-// Causes 7 to 13 in order.
+// Causes 7 to 12 in order.
 fn check_indexed(rows: &[u64], first: &[u16], low: &[u8]) -> Check
     requires { ⌜ Indexed (domainIn (now rows)) (now first) (now low) ⌝ }
     ensures { λ r. ⌜ checkAnswer (domainIn (now (rows .entry))) r ≡ checkedDomain (domainIn (now (rows .entry))) ⌝ }
@@ -74,11 +70,11 @@ fn check_indexed(rows: &[u64], first: &[u16], low: &[u8]) -> Check
     let wired = causes::check_wiring(rows, first, low);
     match wired {
         Check::Refused(r) => Check::Refused(r),
-        Check::Passed => check_links(rows, first, low),
+        Check::Passed => check_links(rows, first),
     }
 }
 
-// Causes 7 to 13 in order, with entries for all slots in `first` and for all phys in `low`, which hold who has
+// Causes 7 to 12 in order, with entries for all slots in `first` and for all phys in `low`, which hold who has
 // their addresses where it passed. 16 where there is too little room for them.
 pub fn check_domain(rows: &[u64], first: &mut [u16], low: &mut [u8]) -> Check
     ensures { λ r. ⌜ checkAnswer (domainIn (now (rows .entry))) r ≡ checkedIn (length (now (first .entry))) (length (now (low .entry))) (domainIn (now (rows .entry))) ⌝ }

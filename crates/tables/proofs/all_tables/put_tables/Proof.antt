@@ -3,12 +3,13 @@ use Prim.Native.Nat.{ℕ, _+_, _-_, _≤_}
 use mathlib.Core.List.{List, [], _∷_}
 use mathlib.Core.Path.{_≡_, refl, sym, _∙_, ap}
 use native.Mathlib.Omega.{arith}
-use lib.ListN.{length}
+use lib.ListN.{length, List·getD-eq-default}
 use lib.Seq.{length-take-le}
 use Rattle.wiring.specs.declared.Phy.the-variants.{Vacant}
-use Rattle.wiring.specs.Domain.{Domain, expanderAt}
+use Rattle.wiring.specs.Domain.{Domain, expanderAt, phyAt}
 use Rattle.wiring.specs.Causes.{Place, place, phyPlaces}
 use Rattle.wiring.specs.Rows.{domainIn}
+use Rattle.wiring.proofs.EndDevices.{short-in}
 use Rattle.tables.specs.Tables.{sizes}
 use Rattle.tables.specs.Filling.{Grown, placesAt, overlay}
 use Rattle.tables.specs.Prepared.{orderOf, ownTablesOf}
@@ -20,17 +21,17 @@ use Rattle.tables.proofs.all_tables.put_tables.Statement.{statement}
 use Rattle.tables.proofs.all_tables.put_tables.Tie as tie
 
 abbrev Inv-loop : tie.InvT-loop
-Inv-loop rows first lists below order₀ i words₀ at n to₀ g₀ m₀ p₀ order words to g m p =
+Inv-loop rows first lists below order₀ i words₀ at n to₀ q₀ g₀ m₀ p₀ order words to q g m p =
     (p ≤ n)
     × ((length order ≡ length order₀)
-    × (Grown order order m (orderOf (domainIn rows) g)
+    × (((g ≡ phyAt (domainIn rows) (i .0) (q .0)) × Grown order order m (orderOf (domainIn rows) g))
     × ((length words ≡ length words₀)
     × ((to + sizes (domainIn rows) (phyPlaces (i .0) p (n - p)) ≡ at + sizes (domainIn rows) (placesAt (domainIn rows) (i .0)))
     × (overlay words to (ownTablesOf (domainIn rows) (phyPlaces (i .0) p (n - p)))
     ≡ overlay words₀ at (ownTablesOf (domainIn rows) (placesAt (domainIn rows) (i .0))))))))
 
 abbrev μ-loop : tie.MeasureT-loop
-μ-loop rows first lists below order₀ i words₀ at n to₀ g₀ m₀ p₀ order words to g m p = n - p
+μ-loop rows first lists below order₀ i words₀ at n to₀ q₀ g₀ m₀ p₀ order words to q g m p = n - p
 
 phy-count-requires : tie.Need-phy-count-requires Inv-loop μ-loop
 phy-count-requires c κs = search needs
@@ -42,13 +43,14 @@ loop-holds c =
     let e : c .phy-count .result - 0 ≡ length (expanderAt d (a .i .0) .phys) = omega arith in
     let o = grown-kept 0 (a .order .now) (order-none d (Vacant 0) refl) (omega arith) in
     let s = ap (λ (x : ℕ). a .at + sizes d (phyPlaces (a .i .0) 0 x)) e in
-    (omega arith, (refl, (o, (refl, (s, ap (λ (x : ℕ). overlay (a .words .now) (a .at) (ownTablesOf d (phyPlaces (a .i .0) 0 x))) e)))))
+    let none : Vacant 0 ≡ phyAt d (a .i .0) 255 = sym (List·getD-eq-default (expanderAt d (a .i .0) .phys) (Vacant 0) (omega (arith, short-in (a .rows .now) (a .i .0)))) in
+    (omega arith, (refl, ((none, o), (refl, (s, ap (λ (x : ℕ). overlay (a .words .now) (a .at) (ownTablesOf d (phyPlaces (a .i .0) 0 x))) e)))))
 
 phy-below-requires : tie.Need-phy-below-requires Inv-loop μ-loop
 phy-below-requires c κs = search needs
 
 order-for-requires : tie.Need-order-for-requires Inv-loop μ-loop
-order-for-requires c κs = (record { index = (c .before .before .before .before .before .before .before .before .before .before .before .pre) .0; phy = (c .before .phy-below) .ensures (omega arith) }, ((c .before .before .before .before .before .before .before .before .before .before .before .pre) .1 .1 .0, (omega (arith, (c .before .before .before .before .before .before .before .before .before .before .before .pre) .1 .1 .1 .0), (c .before .before .before .loop) .inv .1 .1 .0)))
+order-for-requires c κs = ((record { index = (c .before .before .before .before .before .before .before .before .before .before .before .pre) .0; phy = (c .before .phy-below) .ensures (omega arith) }, (c .before .before .before .loop) .inv .1 .1 .0 .0), ((c .before .before .before .before .before .before .before .before .before .before .before .pre) .1 .1 .0, (omega (arith, (c .before .before .before .before .before .before .before .before .before .before .before .pre) .1 .1 .1 .0), (c .before .before .before .loop) .inv .1 .1 .0 .1)))
 
 slice-reshare-prefix-put-table : tie.Need-slice-reshare-prefix-put-table Inv-loop μ-loop
 slice-reshare-prefix-put-table c = omega (arith, (c .before .before .order-for) .ensures .same, (c .before .before .order-for) .ensures .fits)
@@ -74,6 +76,7 @@ loop-again c =
     let d : Domain = domainIn (a .rows .now) in
     let n : ℕ = (c .before .before .before .before .before .before .before .before .before .before .before .before .phy-count) .result in
     let o = (c .before .before .before .before .before .before .before .order-for) .ensures in
+    let f = (c .before .before .before .before .before .before .before .before .before .phy-below) in
     let u = (c .before .before .put-table) .ensures in
     let rest : List Place = phyPlaces (a .i .0) (l .p) (n - l .p) in
     let piece : List Place = place (a .i .0) (l .p) ∷ [] in
@@ -81,7 +84,7 @@ loop-again c =
     let v = l .inv .1 .1 .1 in
     let s = put-long d (l .to) rest piece _ (u .next) e ∙ v .1 .0 in
     let g = put-go d (l .words) (l .to) rest (v .1 .1) piece _ u e (omega (arith, (c .before .before .before .before .before .before .before .before .before .before .before .before .before .before .before .before .before .before .before .pre) .1 .1 .1 .1 .1, v .0, v .1 .0)) in
-    (omega arith, (o .same ∙ l .inv .1 .0, (grown-again o, (u .same ∙ v .0, (s, g)))))
+    (omega arith, (o .same ∙ l .inv .1 .0, ((f .ensures (omega arith), grown-again o), (u .same ∙ v .0, (s, g)))))
 
 same-length : tie.Need-same-length Inv-loop μ-loop
 same-length c = search needs

@@ -16,7 +16,7 @@ use Rattle.tables.proofs.below.add_phy.Statement.{statement}
 use Rattle.tables.proofs.below.add_phy.Tie as tie
 
 is-down-requires : tie.Need-is-down-requires
-is-down-requires c κs = search needs
+is-down-requires c κs = record { index = (c .before .before .before .pre) .0; phy = (c .before .before .before .pre) .1 .0 }
 
 returns : tie.Need-returns
 returns c =

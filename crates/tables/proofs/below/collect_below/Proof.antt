@@ -27,7 +27,9 @@ phy-below-requires : tie.Need-phy-below-requires Inv-loop μ-loop
 phy-below-requires c κs = search needs
 
 lower-phy-requires : tie.Need-lower-phy-requires Inv-loop μ-loop
-lower-phy-requires c κs = (c .phy-below) .ensures (omega (arith, (c .before .before .before .phy-count) .ensures .0))
+lower-phy-requires c κs =
+    let n = (c .before .before .before .phy-count) .ensures .0 in
+    (record { index = (c .before .before .before .before .before .before .before .before .pre) .0; phy = (c .phy-below) .ensures (omega arith) }, omega arith)
 
 add-phy-requires : tie.Need-add-phy-requires Inv-loop μ-loop
 add-phy-requires c κs = ((c .before .before .before .before .before .before .before .before .before .before .before .before .pre) .0, ((c .before .before .before .before .phy-below) .ensures (omega (arith, (c .before .before .before .before .before .before .before .phy-count) .ensures .0)), omega (arith, (c .before .before .before .before .before .before .loop) .inv .1 .fits, (c .before .before .before .before .before .before .loop) .inv .1 .room)))

@@ -14,7 +14,7 @@ use Rattle.tables.proofs.order.first_level.Statement.{statement}
 use Rattle.tables.proofs.order.first_level.Tie as tie
 
 is-down-requires : tie.Need-is-down-requires
-is-down-requires c κs = search needs
+is-down-requires c κs = (c .before .before .before .pre) .0
 
 returns : tie.Need-returns
 returns c =

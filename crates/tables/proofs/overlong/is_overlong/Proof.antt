@@ -14,10 +14,13 @@ use Rattle.tables.proofs.overlong.is_overlong.Statement.{statement}
 use Rattle.tables.proofs.overlong.is_overlong.Tie as tie
 
 returns : tie.Need-returns
-returns c = sym (sym (over-linked (domainIn ((c .before .before .before .before .before .before .before .before .args) .rows .now)) ((c .before .before .before .before .before .before .before .before .args) .i .0) ((c .before .before .before .before .before .before .before .before .args) .q .0) ((c .before .before .before .before .before .before .before .before .args) .p .0) ((c .before .before .before .before .before .before .before .before .pre) .1 .1 .1 .1 .1 .0 ((c .if1) .taken))) ∙ (c .before .before .before .before .before .before .before .before .pre) .1 .1 .1 .1 .1 .1 ((c .before .before .before .before .before .before .before .before .args) .q .0) ((c .if1) .taken))
+returns c =
+    let a = (c .before .before .before .before .before .before .before .before .args) in
+    let pre = (c .before .before .before .before .before .before .before .before .pre) .1 .1 .1 .1 .1 in
+    sym (over-linked (domainIn (a .rows .now)) (a .i .0) (a .p .0) (a .q .0) (pre .0 ((c .if1) .taken)) ∙ pre .1 (a .q .0) ((c .if1) .taken))
 
 is-down-requires : tie.Need-is-down-requires
-is-down-requires c κs = search needs
+is-down-requires c κs = record { index = (c .before .before .before .before .before .before .before .before .pre) .0; phy = (c .before .before .before .before .before .before .before .before .pre) .1 .1 .1 .1 .0 }
 
 returns-2 : tie.Need-returns-2
 returns-2 c = sym (over-none (domainIn ((c .before .before .before .before .before .before .before .before .before .before .args) .rows .now)) ((c .before .before .before .before .before .before .before .before .before .before .args) .i .0) ((c .before .before .before .before .before .before .before .before .before .before .args) .p .0) _ ((c .before .before .before .before .before .before .before .before .before .before .pre) .1 .1 .1 .1 .0) (sym ((c .before .is-down) .ensures) ∙ not-true _ ((c .if2) .taken)))

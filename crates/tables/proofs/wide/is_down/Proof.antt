@@ -1,8 +1,14 @@
-use mathlib.Core.Path.{ap}
+-- is_down meets its contract: the type, the attribute, and the attribute of the far end tell.
+use Prim.Native.Nat.{_≤_}
+use mathlib.Core.Path.{_≡_, _∙_, ap}
 use native.Mathlib.Omega.{arith}
-use lib.Dec.{eqb}
-use borrow.Author.Tests.{le-leb, lt-leb}
-use Rattle.wiring.specs.Domain.{typeOf}
+use lib.Dec.{le→leb}
+use borrow.Author.Tests.{eq-eqb, ne-eqb, le-leb, lt-leb}
+use Rattle.wiring.specs.Causes.{farPhy}
+use Rattle.wiring.specs.Domain.{Domain, typeOf, attributeOf, farOf, phyAt}
+use Rattle.wiring.specs.declared.Phy.{Phy}
+use Rattle.wiring.specs.Rows.{domainIn}
+use Rattle.tables.proofs.Linked.{far-number-is}
 use borrow.Author.Needs.{needs}
 use Rattle.tables.proofs.wide.is_down.Statement.{statement}
 use Rattle.tables.proofs.wide.is_down.Tie as tie
@@ -11,13 +17,40 @@ phy-type-requires : tie.Need-phy-type-requires
 phy-type-requires c κs = search needs
 
 returns : tie.Need-returns
-returns c = simp (lt-leb 2 (typeOf (c .before .before .args .f)) (omega arith))
+returns c = simp (lt-leb 2 (typeOf ((c .before .before .before .before .args) .f)) (omega arith))
 
 phy-attribute-requires : tie.Need-phy-attribute-requires
 phy-attribute-requires c κs = search needs
 
 returns-2 : tie.Need-returns-2
-returns-2 c = simp (le-leb 2 (typeOf (c .before .before .before .args .f)) (omega arith)) (ap (λ n. eqb n 2) (c .phy-attribute .ensures))
+returns-2 c =
+    let φ = (c .before .before .before .before .before .before .args) .f in
+    let a = (c .before .phy-attribute) .ensures in
+    simp (le-leb 2 (typeOf φ) (omega arith), ne-eqb (attributeOf φ) 2 (λ x. omega arith))
+
+far-number-requires : tie.Need-far-number-requires
+far-number-requires c κs = search needs
+
+phy-far-requires : tie.Need-phy-far-requires
+phy-far-requires c κs = search needs
+
+phy-at-requires : tie.Need-phy-at-requires
+phy-at-requires c κs = search needs
+
+phy-attribute-requires-2 : tie.Need-phy-attribute-requires-2
+phy-attribute-requires-2 c κs = search needs
+
+returns-3 : tie.Need-returns-3
+returns-3 c =
+    let a = (c .before .before .before .before .before .before .before .before .before .before .args) in
+    let d : Domain = domainIn (a .rows .now) in
+    let φ = a .f in
+    let t : 2 ≤ typeOf φ = omega arith in
+    let r = (c .before .before .before .before .before .phy-attribute) .ensures in
+    let j = (c .before .before .before .far-number) .ensures ∙ far-number-is (a .rows .now) (a .first .now) (a .i .0) (a .p .0) φ (c .before .before .before .before .before .before .before .before .before .before .pre) (le→leb 2 (typeOf φ) t) in
+    let g : (c .before .phy-at) .result ≡ farPhy d φ = (c .before .phy-at) .ensures ∙ ap (λ n. phyAt d n ((c .before .before .phy-far) .result .0)) j ∙ ap (phyAt d _) ((c .before .before .phy-far) .ensures) in
+    let h = (c .phy-attribute2) .ensures ∙ ap attributeOf g in
+    simp (le-leb 2 (typeOf φ) t, eq-eqb (attributeOf φ) 2 (omega arith), h)
 
 pub is-down-spec : {M : Type 1} → statement M
-is-down-spec = tie.close (tie.spec phy-type-requires returns phy-attribute-requires returns-2)
+is-down-spec = tie.close (tie.spec phy-type-requires returns phy-attribute-requires returns-2 far-number-requires phy-far-requires phy-at-requires phy-attribute-requires-2 returns-3)

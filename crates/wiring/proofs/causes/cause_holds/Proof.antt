@@ -39,18 +39,9 @@ returns-4 : tie.Need-returns-4
 unfolding causeOf
 returns-4 c = search (needs, eq-eqb, ne-eqb)
 
-is-table-to-table-requires : tie.Need-is-table-to-table-requires
-is-table-to-table-requires c κs =
-    let pre = c .before .before .before .before .before .before .before .before .pre in
-    (pre .0 .firsts, pre .1 .within)
-
 returns-5 : tie.Need-returns-5
 unfolding causeOf
-returns-5 c = search (needs, eq-eqb, ne-eqb)
-
-returns-6 : tie.Need-returns-6
-unfolding causeOf
-returns-6 c = search (needs, ne-eqb)
+returns-5 c = search (needs, ne-eqb)
 
 pub cause-holds-spec : {M : Type 1} → statement M
-cause-holds-spec = tie.close (tie.spec is-unanswered-requires returns is-claimed-requires returns-2 is-clashing-requires returns-3 is-fixed-requires returns-4 is-table-to-table-requires returns-5 returns-6)
+cause-holds-spec = tie.close (tie.spec is-unanswered-requires returns is-claimed-requires returns-2 is-clashing-requires returns-3 is-fixed-requires returns-4 returns-5)

@@ -1,4 +1,4 @@
--- check_indexed meets its contract: causes 7 to 10, then 11 to 13.
+-- check_indexed meets its contract: causes 7 to 10, then 11 and 12.
 use mathlib.Core.Path.{sym, _∙_, ap}
 use Rattle.wiring.specs.Checks.{checkAnswer}
 use Rattle.wiring.proofs.Calls.{checked-by}
@@ -16,7 +16,7 @@ enum-told : tie.Need-enum-told
 enum-told c = search needs
 
 check-links-requires : tie.Need-check-links-requires
-check-links-requires c κs = search needs
+check-links-requires c κs = c .before .before .before .before .before .before .pre .firsts
 
 returns : tie.Need-returns
 returns c = sym (checked-by _ _ (sym (c .before .before .before .check-wiring .ensures) ∙ ap (checkAnswer _) (c .before .wired .given .1)))

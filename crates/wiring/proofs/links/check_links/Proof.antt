@@ -1,7 +1,7 @@
 -- check_links meets its contract: the answers for the causes in order.
 use mathlib.Core.Path.{sym, _∙_, ap}
 use borrow.Author.Tests.{not-true, not-false}
-use Rattle.wiring.specs.Checks.{checkAnswer, causeOf}
+use Rattle.wiring.specs.Checks.{checkAnswer}
 use Rattle.wiring.proofs.Calls.{held, links-loop, links-joined}
 use Rattle.wiring.proofs.InRows.{domain-few}
 use borrow.Author.Needs.{needs}
@@ -12,7 +12,7 @@ slice-aggregate-put-neighbours : tie.Need-slice-aggregate-put-neighbours
 slice-aggregate-put-neighbours c = search needs
 
 put-neighbours-requires : tie.Need-put-neighbours-requires
-put-neighbours-requires c κs = (c .before .before .before .before .pre .firsts, domain-few (c .before .before .before .before .args .rows .now))
+put-neighbours-requires c κs = (c .before .before .before .pre, domain-few (c .before .before .before .args .rows .now))
 
 slice-aggregate-is-loopfree : tie.Need-slice-aggregate-is-loopfree
 slice-aggregate-is-loopfree c = search needs
@@ -32,23 +32,10 @@ slice-aggregate-check-joined c = search needs
 check-joined-requires : tie.Need-check-joined-requires
 check-joined-requires c κs = held _ _ _ (c .before .before .before .before .before .put-neighbours .ensures .1)
 
-enum-known-joined : tie.Need-enum-known-joined
-enum-known-joined c = search needs
-
-enum-told : tie.Need-enum-told
-enum-told c = search needs
-
-first-of-requires : tie.Need-first-of-requires
-first-of-requires c κs = search needs
-
 returns-2 : tie.Need-returns-2
-returns-2 c = sym (links-joined _ _ (sym (c .before .before .before .before .before .before .is-loopfree .ensures) ∙ not-false _ (c .before .before .before .before .before .if1 .left)) (sym (c .before .before .before .check-joined .ensures) ∙ ap (checkAnswer _) (c .before .joined .given .1)))
-
-returns-3 : tie.Need-returns-3
-unfolding causeOf
-returns-3 c =
-    c .first-of .ensures
-    ∙ sym (links-joined _ _ (sym (c .before .before .before .before .before .before .is-loopfree .ensures) ∙ not-false _ (c .before .before .before .before .before .if1 .left)) (sym (c .before .before .before .check-joined .ensures) ∙ ap (checkAnswer _) (c .before .enum-told .given .1)))
+returns-2 c =
+    c .check-joined .ensures
+    ∙ sym (links-joined _ (sym (c .before .before .before .is-loopfree .ensures) ∙ not-false _ (c .before .before .if1 .left)))
 
 pub check-links-spec : {M : Type 1} → statement M
-check-links-spec = tie.close (tie.spec slice-aggregate-put-neighbours put-neighbours-requires slice-aggregate-is-loopfree is-loopfree-requires check-refused-requires returns slice-aggregate-check-joined check-joined-requires enum-known-joined enum-told first-of-requires returns-2 returns-3)
+check-links-spec = tie.close (tie.spec slice-aggregate-put-neighbours put-neighbours-requires slice-aggregate-is-loopfree is-loopfree-requires check-refused-requires returns slice-aggregate-check-joined check-joined-requires returns-2)
