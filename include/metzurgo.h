@@ -71,13 +71,13 @@ uint64_t metzurgo_wire(const uint8_t *file, size_t file_len,
                        uint64_t *words, size_t words_len);
 
 /*
- * Judging. Tests causes 1 to 14. Answer: the number of expanders.
+ * Judging. Tests causes 1 to 12 and 14. Answer: the number of expanders.
  */
 uint64_t metzurgo_judge(const uint8_t *file, size_t file_len);
 
 /*
- * Tables. Tests causes 1 to 14, then 16 (fewer words than the sum of the route
- * indexes over the non-vacant table phys). Writes the tables by expander and
+ * Tables. Tests causes 1 to 12 and 14, then 16 (fewer words than the sum of
+ * the route indexes over the non-vacant table phys). Writes the tables by expander and
  * then phy; later words stay. Answer: tables * 2^32 + words.
  */
 uint64_t metzurgo_tables(const uint8_t *file, size_t file_len,
@@ -85,7 +85,7 @@ uint64_t metzurgo_tables(const uint8_t *file, size_t file_len,
 
 /*
  * Tracing a connection request over the table words given. Tests causes 1 to
- * 14, then 15 (no such start expander, or an arrival phy that is neither 255
+ * 12 and 14, then 15 (no such start expander, or an arrival phy that is neither 255
  * nor attached to an end device), 16 (fewer table words than needed, or fewer
  * bytes in `passed` than expanders), 17 (address zero). Writes the numbers of
  * the expanders passed, in order; later bytes stay.

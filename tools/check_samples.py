@@ -3,9 +3,8 @@
 
     check_samples.py [--harness PROGRAM] [--routes PROGRAM] [--samples FOLDER]
 
-The calls are made by the test harness, on the archive. Each refused sample is
-or faulty sample is
-built and called a second time, repaired. A sample has no warnings. Every file
+The calls are made by the test harness, on the archive. Each refused or
+faulty sample is built and called a second time, repaired. A sample has no warnings. Every file
 built is printed and built again. With --routes the program lists every file, and
 its listing is compared with the words of the table call. docs/FILE-FORMAT.md,
 docs/RIG-TEXT.md and samples/README.md are compared with the samples. Ends with 1

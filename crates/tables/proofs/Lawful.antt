@@ -1,4 +1,4 @@
--- Own lists one after the other are the level lists, on every domain that is read and passes causes 7 to 13: cause 14
+-- Own lists one after the other are the level lists, on every domain that is read and passes causes 7 to 12: cause 14
 -- and the tables by own lists are cause 14 and the tables.
 use Prim.Native.Nat.{ℕ, _≤_}
 use mathlib.Core.Path.{_≡_, refl, sym, _∙_, ap, subst}

@@ -1,4 +1,4 @@
--- judge_rows meets its contract: cause 14 by own lists after causes 7 to 13.
+-- judge_rows meets its contract: cause 14 by own lists after causes 7 to 12.
 use mathlib.Core.Path.{refl, sym, _∙_, ap}
 use Rattle.wiring.specs.Checks.{checkAnswer}
 use Rattle.wiring.proofs.Calls.{not-passed}
