@@ -7,5 +7,6 @@ pub use Rattle.wiring.proofs.Wires.{differ, far-below, far-is, to-adj, adj-symm
 pub use Rattle.wiring.proofs.Results.{good-one, unless-good, good-unless, then-good, good-then}
 pub use Rattle.wiring.proofs.Read.{read-good, stated-expanders}
 pub use Rattle.wiring.proofs.Accepted.{wired-iff, wired-file}
+pub use Rattle.wiring.proofs.Entries.{far-in}
 pub use Rattle.wiring.proofs.Opening.{file-room, opened-as, opened-fits}
 pub use Rattle.wiring.proofs.ShortFile.{short-file}

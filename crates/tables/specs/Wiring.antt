@@ -16,6 +16,7 @@ pub use Rattle.wiring.specs.Rows.{domainIn}
 pub use Rattle.wiring.specs.Causes.{Place, place, wiredDomain, wired}
 unfoldable pub use Rattle.wiring.specs.Causes.{phyPlaces, placesFrom}
 pub use Rattle.wiring.specs.Checks.{checkAnswer, FileRoom}
+pub use Rattle.wiring.specs.Addresses.{IndexedFirst}
 pub use Rattle.wiring.specs.Graph.{Steps, self}
 pub use Rattle.wiring.specs.Neighbours.{neighbours}
 pub use Rattle.wiring.specs.Devices.{LoopIn, ChainIn, TableToTable, Clear, ClearChain, NoTableToTable, Home, Borne}

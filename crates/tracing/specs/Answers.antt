@@ -3,9 +3,8 @@ use Prim.Native.Nat.{ℕ}
 use mathlib.Core.Path.{_≡_}
 use mathlib.Core.List.{List, _++_}
 use lib.ListN.{length, take, drop}
-use Rattle.tables.specs.Wiring.{Phy}
 use Rattle.tables.specs.Wiring.{placesFrom}
-use Rattle.tables.specs.Wiring.{Result, then, Domain, addressOf, farOf, numberOf}
+use Rattle.tables.specs.Wiring.{Result, then, Domain}
 use Rattle.tables.specs.Tables.{sizes}
 use Rattle.tables.specs.Prepared.{judgedIn}
 use Rattle.tracing.specs.Steps.{Step as Stepped, here, endDevice, bad, lost, onward, Pick as Picked, at, nowhere, pick, phyNumbers}
@@ -40,10 +39,6 @@ listingPick d words i s = pick (listing d words i s) (phyNumbers d i)
 
 abbrev pub subtractingPick : Domain → ℕ → Picked
 subtractingPick d i = pick (subtracting d i) (phyNumbers d i)
-
--- on over a phy
-abbrev pub moveOver : Domain → Phy → Stepped
-moveOver d φ = onward (numberOf d (addressOf φ)) (farOf φ)
 
 -- (iv), (iii) and (ii), each with what comes after it
 abbrev pub subtractiveStep : Domain → ℕ → ℕ → Stepped

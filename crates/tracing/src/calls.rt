@@ -29,7 +29,7 @@ fn request_rows(
     let verdict = tables::judge_rows(rows, first, low);
     match verdict {
         Check::Refused(r) => TraceAnswer::Refused(r),
-        Check::Passed => requests::trace_rows(rows, words, start, arrival, s, passed),
+        Check::Passed => requests::trace_rows(rows, first, words, start, arrival, s, passed),
     }
 }
 

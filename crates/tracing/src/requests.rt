@@ -7,7 +7,7 @@ use tables::PhyId;
 use tables::Refusal;
 ghost use mathlib.Core.Path.{_≡_};
 ghost use lib.ListN.{length};
-ghost use Rattle.tables.specs.Wiring.{domainIn};
+ghost use Rattle.tables.specs.Wiring.{domainIn, IndexedFirst};
 ghost use Rattle.tables.specs.Wiring.{Refused};
 ghost use Rattle.tables.specs.Wiring.{checkAnswer};
 ghost use Rattle.tables.specs.Wiring.{refusal};
@@ -64,21 +64,24 @@ fn check_request(
     Check::Passed
 }
 
-// A request over rows: why it is refused, or how it ends; the expanders passed go into the lent bytes.
+// A request over rows: why it is refused, or how it ends; the expanders passed go into the lent bytes. `first`
+// has who has which address.
 pub(crate) fn trace_rows(
     rows: &[u64],
+    first: &[u16],
     words: &[u64],
     start: ExpanderNumber,
     arrival: PhyId,
     s: u64,
     passed: &mut [u8],
 ) -> TraceAnswer
+    requires { ⌜ IndexedFirst (domainIn (now rows)) (now first) ⌝ }
     ensures { λ r. ⌜ TraceDone
         (tracedRequest (domainIn (now (rows .entry))) (now (words .entry)) (length (now (passed .entry))) (request (start .0) (arrival .0) s))
         r (now (passed .entry)) (now (passed .exit)) ⌝ }
 {
     match check_request(rows, words.len(), passed.len(), start, arrival, s) {
         Check::Refused(r) => TraceAnswer::Refused(r),
-        Check::Passed => TraceAnswer::Ended(walk(rows, words, start, arrival, s, passed)),
+        Check::Passed => TraceAnswer::Ended(walk(rows, first, words, start, arrival, s, passed)),
     }
 }

@@ -8,13 +8,13 @@ use tables::PhyId;
 use tables::words_before;
 ghost use mathlib.Core.Path.{_≡_};
 ghost use mathlib.Core.Bool.{cond, _&&_};
-ghost use lib.Dec.{eqb};
+ghost use lib.Dec.{T, eqb};
 ghost use Rattle.tables.specs.Wiring.{domainIn};
-ghost use Rattle.tables.specs.Wiring.{addressOf, bears, routes, toEnd, toExpander};
+ghost use Rattle.tables.specs.Wiring.{IndexedFirst, phyAt, addressOf, attached, bears, routes, toEnd, toExpander};
 ghost use Rattle.tables.specs.Tables.{offset};
-ghost use Rattle.tracing.specs.Steps.{bad, endDevice, listing, cameFrom, step};
+ghost use Rattle.tracing.specs.Steps.{bad, endDevice, listing, cameFrom, moveBy, step};
 ghost use Rattle.tracing.specs.Answers.{stepAnswer, pickAnswer, bearingPick, listingPick, subtractingPick};
-ghost use Rattle.tracing.specs.Answers.{moveOver, subtractiveStep, tableStep, directStep};
+ghost use Rattle.tracing.specs.Answers.{subtractiveStep, tableStep, directStep};
 
 // The phy that a step picks, if any.
 enum Pick {
@@ -114,43 +114,63 @@ fn came_from(rows: &[u64], i: ExpanderNumber, arrival: PhyId) -> u64
     tables::phy_address(tables::phy_at(rows, i, arrival))
 }
 
-// On over phy f, or `back` where f is attached to the address at the arrival phy, `came`.
-fn move_unless(rows: &[u64], f: Phy, came: u64, back: Step) -> Step
-    ensures { λ r. ⌜ stepAnswer r ≡ cond (eqb (addressOf f) came) (stepAnswer back) (moveOver (domainIn (now (rows .entry))) f) ⌝ }
+// On over phy p of expander i, which is attached to an expander, or `back` where that has the address at the
+// arrival phy, `came`. `first` has who has which address.
+fn move_unless(
+    rows: &[u64],
+    first: &[u16],
+    i: ExpanderNumber,
+    p: PhyId,
+    came: u64,
+    back: Step,
+) -> Step
+    requires { ⌜ IndexedFirst (domainIn (now rows)) (now first) × T (toExpander (phyAt (domainIn (now rows)) (i .0) (p .0))) ⌝ }
+    ensures { λ r. ⌜ stepAnswer r ≡ cond (eqb (addressOf (phyAt (domainIn (now (rows .entry))) (i .0) (p .0))) came) (stepAnswer back) (moveBy (domainIn (now (rows .entry))) (i .0) (p .0)) ⌝ }
 {
-    let s = tables::phy_address(f);
-    if s == came {
+    let f = tables::phy_at(rows, i, p);
+    if tables::phy_address(f) == came {
         return back;
     }
-    Step::Onward(tables::number_of(rows, s), tables::phy_far(f))
+    Step::Onward(tables::far_number(rows, first, i, p), tables::phy_far(f))
 }
 
 // (iv), or (v).
-fn subtractive_step(rows: &[u64], i: ExpanderNumber, came: u64) -> Step
+fn subtractive_step(rows: &[u64], first: &[u16], i: ExpanderNumber, came: u64) -> Step
+    requires { ⌜ IndexedFirst (domainIn (now rows)) (now first) ⌝ }
     ensures { λ r. ⌜ stepAnswer r ≡ subtractiveStep (domainIn (now (rows .entry))) (i .0) came ⌝ }
 {
     match pick_subtracting(rows, i) {
-        Pick::At(p) => move_unless(rows, tables::phy_at(rows, i, p), came, Step::Lost),
+        Pick::At(p) => move_unless(rows, first, i, p, came, Step::Lost),
         Pick::Nowhere => Step::Lost,
     }
 }
 
 // (iii), or what comes after.
-fn table_step(rows: &[u64], words: &[u64], i: ExpanderNumber, came: u64, s: u64) -> Step
+fn table_step(
+    rows: &[u64],
+    first: &[u16],
+    words: &[u64],
+    i: ExpanderNumber,
+    came: u64,
+    s: u64,
+) -> Step
+    requires { ⌜ IndexedFirst (domainIn (now rows)) (now first) ⌝ }
     ensures { λ r. ⌜ stepAnswer r ≡ tableStep (domainIn (now (rows .entry))) (now (words .entry)) (i .0) came s ⌝ }
 {
     match pick_listing(rows, words, i, s) {
-        Pick::At(p) => move_unless(rows, tables::phy_at(rows, i, p), came, Step::Bad),
-        Pick::Nowhere => subtractive_step(rows, i, came),
+        Pick::At(p) => move_unless(rows, first, i, p, came, Step::Bad),
+        Pick::Nowhere => subtractive_step(rows, first, i, came),
     }
 }
 
-// What (ii) does with the phy it picks, p, where f is that phy.
-fn arrive_unless(rows: &[u64], p: PhyId, f: Phy, came: u64) -> Step
-    ensures { λ r. ⌜ stepAnswer r ≡ cond (eqb (addressOf f) came) bad (cond (toEnd f) (endDevice (p .0)) (moveOver (domainIn (now (rows .entry))) f)) ⌝ }
+// What (ii) does with the phy it picks: phy p of expander i, which is attached.
+fn arrive_unless(rows: &[u64], first: &[u16], i: ExpanderNumber, p: PhyId, came: u64) -> Step
+    requires { ⌜ IndexedFirst (domainIn (now rows)) (now first) × T (attached (phyAt (domainIn (now rows)) (i .0) (p .0))) ⌝ }
+    ensures { λ r. ⌜ stepAnswer r ≡ cond (eqb (addressOf (phyAt (domainIn (now (rows .entry))) (i .0) (p .0))) came) bad (cond (toEnd (phyAt (domainIn (now (rows .entry))) (i .0) (p .0))) (endDevice (p .0)) (moveBy (domainIn (now (rows .entry))) (i .0) (p .0))) ⌝ }
 {
+    let f = tables::phy_at(rows, i, p);
     if tables::phy_type(f) != 1 {
-        return move_unless(rows, f, came, Step::Bad);
+        return move_unless(rows, first, i, p, came, Step::Bad);
     }
     if tables::phy_address(f) == came {
         return Step::Bad;
@@ -159,27 +179,37 @@ fn arrive_unless(rows: &[u64], p: PhyId, f: Phy, came: u64) -> Step
 }
 
 // (ii), or what comes after.
-fn direct_step(rows: &[u64], words: &[u64], i: ExpanderNumber, came: u64, s: u64) -> Step
+fn direct_step(
+    rows: &[u64],
+    first: &[u16],
+    words: &[u64],
+    i: ExpanderNumber,
+    came: u64,
+    s: u64,
+) -> Step
+    requires { ⌜ IndexedFirst (domainIn (now rows)) (now first) ⌝ }
     ensures { λ r. ⌜ stepAnswer r ≡ directStep (domainIn (now (rows .entry))) (now (words .entry)) (i .0) came s ⌝ }
 {
     match pick_bearing(rows, i, s) {
-        Pick::At(p) => arrive_unless(rows, p, tables::phy_at(rows, i, p), came),
-        Pick::Nowhere => table_step(rows, words, i, came, s),
+        Pick::At(p) => arrive_unless(rows, first, i, p, came),
+        Pick::Nowhere => table_step(rows, first, words, i, came, s),
     }
 }
 
 // (i), or what comes after: what expander i does with a request for address s that arrived at this phy.
 pub(crate) fn take_step(
     rows: &[u64],
+    first: &[u16],
     words: &[u64],
     i: ExpanderNumber,
     arrival: PhyId,
     s: u64,
 ) -> Step
+    requires { ⌜ IndexedFirst (domainIn (now rows)) (now first) ⌝ }
     ensures { λ r. ⌜ stepAnswer r ≡ step (domainIn (now (rows .entry))) (now (words .entry)) (i .0) (arrival .0) s ⌝ }
 {
     if tables::expander_address(rows, i) == s {
         return Step::Here;
     }
-    direct_step(rows, words, i, came_from(rows, i, arrival), s)
+    direct_step(rows, first, words, i, came_from(rows, i, arrival), s)
 }

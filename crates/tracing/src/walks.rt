@@ -8,7 +8,7 @@ use tables::PhyId;
 ghost use mathlib.Core.Path.{_≡_};
 ghost use Prim.Native.Nat.{_≤_};
 ghost use lib.ListN.{length};
-ghost use Rattle.tables.specs.Wiring.{domainIn};
+ghost use Rattle.tables.specs.Wiring.{domainIn, IndexedFirst};
 ghost use Rattle.tracing.specs.Trace.{request, traced};
 ghost use Rattle.tracing.specs.Answers.{endOf, Walked};
 
@@ -24,16 +24,18 @@ fn ended(outcome: Outcome, last: ExpanderNumber, phy: PhyId, count: u8) -> End
     }
 }
 
-// Takes at most as many steps as there are expanders. The expanders passed go into the lent bytes.
+// Takes at most as many steps as there are expanders. The expanders passed go into the lent bytes. `first` has
+// who has which address.
 pub(crate) fn walk(
     rows: &[u64],
+    first: &[u16],
     words: &[u64],
     start: ExpanderNumber,
     arrival: PhyId,
     s: u64,
     passed: &mut [u8],
 ) -> End
-    requires { ⌜ length (domainIn (now rows)) ≤ length (now passed) ⌝ }
+    requires { ⌜ IndexedFirst (domainIn (now rows)) (now first) × (length (domainIn (now rows)) ≤ length (now passed)) ⌝ }
     ensures { λ r. ⌜ Walked
         (traced (domainIn (now (rows .entry))) (now (words .entry)) (request (start .0) (arrival .0) s))
         r (now (passed .entry)) (now (passed .exit)) ⌝ }
@@ -45,7 +47,7 @@ pub(crate) fn walk(
     while k < n {
         passed[k as usize] = i.0;
         k += 1;
-        let t = take_step(rows, words, i, q, s);
+        let t = take_step(rows, first, words, i, q, s);
         match t {
             Step::Here => return ended(Outcome::Arrived, i, PhyId(255), k),
             Step::EndDevice(p) => return ended(Outcome::Arrived, i, p, k),

@@ -1,15 +1,15 @@
 -- What the entries tell of a phy: which expander it is attached to, whether its end device is taken, and the lowest phy with its address.
 use Prim.Native.Nat.{ℕ, _+_, _-_, _*_, _/_, _%_, _<_}
-use mathlib.Core.Path.{_≡_, sym, _∙_, ap}
+use mathlib.Core.Path.{_≡_}
 use mathlib.Core.List.{List}
 use native.Mathlib.Omega.{arith}
-use lib.ListN.{length, getD}
+use lib.ListN.{getD}
 use lib.Dec.{T, ltb}
-use Rattle.wiring.specs.declared.Phy.{Phy}
-use Rattle.wiring.specs.Domain.{Domain, expanderAt, phyAt, addressOf, attached, toEnd, toExpander, numberOf}
-use Rattle.wiring.specs.Addresses.{slotOf, slotPhy, isTaken, LowestPhy, IndexedFirst, IndexedLow, farNumber, lowestPhy}
+use Rattle.wiring.specs.Domain.{Domain, phyAt, addressOf, attached, toEnd, toExpander, numberOf}
+use Rattle.wiring.specs.Rows.{domainIn}
+use Rattle.wiring.specs.Addresses.{slotOf, isTaken, LowestPhy, IndexedFirst, IndexedLow, farNumber, lowestPhy}
 use Rattle.wiring.proofs.Wires.{in-range, end-attached, expander-attached}
-use Rattle.wiring.proofs.EndDevices.{slot-is}
+use Rattle.wiring.proofs.EndDevices.{short-in, slot-is}
 
 module _ (d : Domain) (i p : ℕ) (h : p < 128) where
   module _ (first : List ℕ) (index : IndexedFirst d first) where
@@ -31,3 +31,10 @@ module _ (d : Domain) (i p : ℕ) (h : p < 128) where
       let a : (128 * i + p) / 128 ≡ i = omega arith in
       let b : (128 * i + p) % 128 ≡ p = omega arith in
       rw (a, b) at (index .each (128 * i + p) (omega arith) (rw (a, b) t))
+
+-- any words: the expander attached to a phy
+pub far-in : (ws first : List ℕ) (i p : ℕ) → IndexedFirst (domainIn ws) first → T (toExpander (phyAt (domainIn ws) i p))
+    → farNumber (domainIn ws) first i p ≡ numberOf (domainIn ws) (addressOf (phyAt (domainIn ws) i p))
+far-in ws first i p index t =
+    let l = in-range (domainIn ws) i p (expander-attached (phyAt (domainIn ws) i p) t) .1 in
+    far-told (domainIn ws) i p (omega (arith, short-in ws i)) first index t

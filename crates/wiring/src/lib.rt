@@ -21,7 +21,6 @@ pub use view::configurable_bit;
 pub use view::expander_address;
 pub use view::expander_count;
 pub use view::index_count;
-pub use view::number_of;
 pub use view::phy_address;
 pub use view::phy_at;
 pub use view::phy_attribute;

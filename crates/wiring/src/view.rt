@@ -6,7 +6,7 @@ use frames::PhyId;
 ghost use mathlib.Core.Path.{_≡_};
 ghost use Prim.Native.Nat.{_≤_, _<_};
 ghost use lib.ListN.{length, getD};
-ghost use Rattle.wiring.specs.Domain.{expanderAt, phyAt, typeOf, attributeOf, addressOf, farOf, numberOf};
+ghost use Rattle.wiring.specs.Domain.{expanderAt, phyAt, typeOf, attributeOf, addressOf, farOf};
 ghost use Rattle.wiring.specs.Rows.{phyIn, domainIn};
 ghost use Rattle.wiring.specs.Checks.{HeadIn};
 
@@ -148,19 +148,4 @@ pub fn phy_below(rows: &[u64], i: ExpanderNumber, p: PhyId) -> Phy
 {
     let k = 258 * (i.0 as usize) + 2 + 2 * (p.0 as usize);
     phy_from(word_at(rows, k), word_at(rows, k + 1))
-}
-
-// The number of the first expander with this address; the count of expanders where there is none.
-pub fn number_of(rows: &[u64], s: u64) -> ExpanderNumber
-    ensures { λ r. ⌜ r .0 ≡ numberOf (domainIn (now (rows .entry))) s ⌝ }
-{
-    let n = expander_count(rows);
-    let mut i: u8 = 0;
-    while i < n {
-        if expander_address(rows, ExpanderNumber(i)) == s {
-            return ExpanderNumber(i);
-        }
-        i += 1;
-    }
-    ExpanderNumber(n)
 }

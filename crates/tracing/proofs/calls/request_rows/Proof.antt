@@ -16,7 +16,7 @@ enum-told : tie.Need-enum-told
 enum-told c = search needs
 
 trace-rows-requires : tie.Need-trace-rows-requires
-trace-rows-requires c κs = search needs
+trace-rows-requires c κs = (c .before .before .before .before .before .before .before .before .judge-rows) .ensures .1 ((c .before .before .enum-told) .given .1) .firsts
 
 same-length : tie.Need-same-length
 same-length c = search needs
@@ -37,7 +37,7 @@ same-length-5 : tie.Need-same-length-5
 same-length-5 c = search needs
 
 returns-2 : tie.Need-returns-2
-returns-2 c = rows-done _ _ _ _ _ _ _ _ (sym ((c .before .before .before .before .before .before .before .before .before .before .judge-rows) .ensures .0) ∙ ap (checkAnswer _) ((c .before .before .before .before .enum-told) .given .1)) ((c .before .before .trace-rows) .ensures)
+returns-2 c = rows-done _ _ _ _ _ _ _ _ (sym ((c .before .before .before .before .before .before .before .before .before .before .before .judge-rows) .ensures .0) ∙ ap (checkAnswer _) ((c .before .before .before .before .before .enum-told) .given .1)) ((c .before .before .trace-rows) .ensures)
 
 pub request-rows-spec : {M : Type 1} → statement M
 request-rows-spec = tie.close (tie.spec judge-rows-requires enum-known-verdict enum-told trace-rows-requires same-length same-length-2 returns same-length-3 same-length-4 same-length-5 returns-2)

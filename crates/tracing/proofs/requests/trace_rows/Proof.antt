@@ -20,14 +20,14 @@ enum-told c = search needs
 
 walk-requires : tie.Need-walk-requires
 walk-requires c κs =
-    let a = c .before .before .before .before .before .before .before .args in
+    let a = c .before .before .before .before .before .before .before .before .args in
     let d : Domain = domainIn (a .rows .now) in
-    room (length (a .words .now)) (length (a .passed .now)) (request (a .start .0) (a .arrival .0) (a .s)) d
-    (ap (checkAnswer d) (sym (c .before .enum-told .given .1)) ∙ c .before .before .before .check-request .ensures)
+    let e = ap (checkAnswer d) (sym (c .before .enum-told .given .1)) ∙ c .before .before .before .check-request .ensures in
+    (c .before .before .before .before .before .before .before .before .pre, room (length (a .words .now)) (length (a .passed .now)) (request (a .start .0) (a .arrival .0) (a .s)) d e)
 
 returns : tie.Need-returns
 returns c =
-    let a = c .before .before .before .before .before .before .before .args in
+    let a = c .before .before .before .before .before .before .before .before .args in
     let d : Domain = domainIn (a .rows .now) in
     answer-no d (a .words .now) (request (a .start .0) (a .arrival .0) (a .s)) (a .passed .now)
     (ap (checkAnswer d) (sym (c .before .r .given .1)) ∙ c .before .before .before .check-request .ensures)
@@ -37,7 +37,7 @@ same-length c = search needs
 
 returns-2 : tie.Need-returns-2
 returns-2 c =
-    let a = c .before .before .before .before .before .before .before .before .before .before .args in
+    let a = c .before .before .before .before .before .before .before .before .before .before .before .args in
     let d : Domain = domainIn (a .rows .now) in
     let e = c .before .before .before .before .before .before .check-request .ensures in
     answer-yes d (a .words .now) (request (a .start .0) (a .arrival .0) (a .s)) (a .passed .now)

@@ -1,9 +1,8 @@
 use mathlib.Core.Path.{sym, _∙_, ap}
-use Rattle.tables.specs.Wiring.{Domain}
-use Rattle.tables.specs.Wiring.{domainIn}
+use Rattle.tables.specs.Wiring.{Domain, domainIn}
 use Rattle.tracing.specs.Steps.{Step}
 use Rattle.tracing.specs.Answers.{pickAnswer, tableStep}
-use Rattle.tracing.proofs.Picks.{direct-at, direct-none}
+use Rattle.tracing.proofs.Picks.{bearing-attached, direct-at, direct-none}
 use borrow.Author.Needs.{needs}
 use Rattle.tracing.proofs.steps.direct_step.Statement.{statement}
 use Rattle.tracing.proofs.steps.direct_step.Tie as tie
@@ -14,11 +13,11 @@ pick-bearing-requires c κs = search needs
 enum-known-p : tie.Need-enum-known-p
 enum-known-p c = search needs
 
-phy-at-requires : tie.Need-phy-at-requires
-phy-at-requires c κs = search needs
-
 arrive-unless-requires : tie.Need-arrive-unless-requires
-arrive-unless-requires c κs = search needs
+arrive-unless-requires c κs =
+    let a = c .before .before .before .before .before .before .before .args in
+    let e = ap pickAnswer (sym (c .before .p .given .1)) ∙ c .before .before .before .pick-bearing .ensures in
+    (c .before .before .before .before .before .before .before .pre, bearing-attached (domainIn (a .rows .now)) (a .i .0) (a .s) e)
 
 enum-told : tie.Need-enum-told
 enum-told c = search needs
@@ -31,16 +30,16 @@ returns c =
     let a = c .before .before .before .before .before .before .before .before .args in
     let d : Domain = domainIn (a .rows .now) in
     let after : Step = tableStep d (a .words .now) (a .i .0) (a .came) (a .s) in
-    let e = ap pickAnswer (sym (c .before .before .before .p .given .1)) ∙ c .before .before .before .before .before .pick-bearing .ensures in
-    c .arrive-unless .ensures ∙ direct-at d (a .i .0) (a .came) after e (c .before .phy-at .ensures)
+    let e = ap pickAnswer (sym (c .before .before .p .given .1)) ∙ c .before .before .before .before .pick-bearing .ensures in
+    c .arrive-unless .ensures ∙ direct-at d (a .i .0) (a .came) after e
 
 returns-2 : tie.Need-returns-2
 returns-2 c =
-    let a = c .before .before .before .before .before .before .args in
+    let a = c .before .before .before .before .before .before .before .args in
     let d : Domain = domainIn (a .rows .now) in
     let after : Step = tableStep d (a .words .now) (a .i .0) (a .came) (a .s) in
     let e = ap pickAnswer (sym (c .before .enum-told .given .1)) ∙ c .before .before .before .pick-bearing .ensures in
     c .table-step .ensures ∙ direct-none d (a .i .0) (a .came) after e
 
 pub direct-step-spec : {M : Type 1} → statement M
-direct-step-spec = tie.close (tie.spec pick-bearing-requires enum-known-p phy-at-requires arrive-unless-requires enum-told table-step-requires returns returns-2)
+direct-step-spec = tie.close (tie.spec pick-bearing-requires enum-known-p arrive-unless-requires enum-told table-step-requires returns returns-2)

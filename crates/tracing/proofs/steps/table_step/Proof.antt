@@ -1,8 +1,7 @@
 use mathlib.Core.Path.{sym, _∙_, ap}
-use Rattle.tables.specs.Wiring.{Domain}
-use Rattle.tables.specs.Wiring.{domainIn}
+use Rattle.tables.specs.Wiring.{Domain, domainIn}
 use Rattle.tracing.specs.Answers.{pickAnswer, subtractiveStep}
-use Rattle.tracing.proofs.Picks.{table-at, table-none}
+use Rattle.tracing.proofs.Picks.{listing-far, table-at, table-none}
 use borrow.Author.Needs.{needs}
 use Rattle.tracing.proofs.steps.table_step.Statement.{statement}
 use Rattle.tracing.proofs.steps.table_step.Tie as tie
@@ -13,11 +12,11 @@ pick-listing-requires c κs = search needs
 enum-known-p : tie.Need-enum-known-p
 enum-known-p c = search needs
 
-phy-at-requires : tie.Need-phy-at-requires
-phy-at-requires c κs = search needs
-
 move-unless-requires : tie.Need-move-unless-requires
-move-unless-requires c κs = search needs
+move-unless-requires c κs =
+    let a = c .before .before .before .before .before .before .before .args in
+    let e = ap pickAnswer (sym (c .before .p .given .1)) ∙ c .before .before .before .pick-listing .ensures in
+    (c .before .before .before .before .before .before .before .pre, listing-far (domainIn (a .rows .now)) (a .i .0) (a .words .now) (a .s) e)
 
 enum-told : tie.Need-enum-told
 enum-told c = search needs
@@ -29,15 +28,15 @@ returns : tie.Need-returns
 returns c =
     let a = c .before .before .before .before .before .before .before .before .args in
     let d : Domain = domainIn (a .rows .now) in
-    let e = ap pickAnswer (sym (c .before .before .before .p .given .1)) ∙ c .before .before .before .before .before .pick-listing .ensures in
-    c .move-unless .ensures ∙ table-at d (a .i .0) (a .came) (subtractiveStep d (a .i .0) (a .came)) e (c .before .phy-at .ensures)
+    let e = ap pickAnswer (sym (c .before .before .p .given .1)) ∙ c .before .before .before .before .pick-listing .ensures in
+    c .move-unless .ensures ∙ table-at d (a .i .0) (a .came) (subtractiveStep d (a .i .0) (a .came)) e
 
 returns-2 : tie.Need-returns-2
 returns-2 c =
-    let a = c .before .before .before .before .before .before .args in
+    let a = c .before .before .before .before .before .before .before .args in
     let d : Domain = domainIn (a .rows .now) in
     let e = ap pickAnswer (sym (c .before .enum-told .given .1)) ∙ c .before .before .before .pick-listing .ensures in
     c .subtractive-step .ensures ∙ table-none d (a .i .0) (a .came) (subtractiveStep d (a .i .0) (a .came)) e
 
 pub table-step-spec : {M : Type 1} → statement M
-table-step-spec = tie.close (tie.spec pick-listing-requires enum-known-p phy-at-requires move-unless-requires enum-told subtractive-step-requires returns returns-2)
+table-step-spec = tie.close (tie.spec pick-listing-requires enum-known-p move-unless-requires enum-told subtractive-step-requires returns returns-2)

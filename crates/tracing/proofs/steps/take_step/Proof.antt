@@ -14,7 +14,7 @@ expander-address-requires c κs = search needs
 
 returns : tie.Need-returns
 returns c =
-    let a = c .before .before .before .before .args in
+    let a = c .before .before .before .before .before .args in
     let d : Domain = domainIn (a .rows .now) in
     let e = eq-eqb (expanderAt d (a .i .0) .address) (a .s) (sym (c .before .expander-address .ensures) ∙ c .if1 .taken) in
     sym (step-by d (a .words .now) (a .i .0) (a .arrival .0) (a .s) e)
@@ -27,7 +27,7 @@ direct-step-requires c κs = search needs
 
 returns-2 : tie.Need-returns-2
 returns-2 c =
-    let a = c .before .before .before .before .before .before .args in
+    let a = c .before .before .before .before .before .before .before .args in
     let d : Domain = domainIn (a .rows .now) in
     let e = ne-eqb (expanderAt d (a .i .0) .address) (a .s) (λ e. c .before .before .if1 .left (c .before .before .before .expander-address .ensures ∙ e)) in
     c .direct-step .ensures

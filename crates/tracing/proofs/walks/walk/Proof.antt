@@ -14,14 +14,14 @@ use Rattle.tracing.proofs.walks.walk.Statement.{statement}
 use Rattle.tracing.proofs.walks.walk.Tie as tie
 
 abbrev Inv-loop : tie.InvT-loop
-Inv-loop rows words s passed₀ n i₀ q₀ k₀ passed i q k =
+Inv-loop rows first words s passed₀ n i₀ q₀ k₀ passed i q k =
     (k ≤ n)
     × (length passed ≡ length passed₀)
     × (drop k passed ≡ drop k passed₀)
     × (after (take k passed) (traceFrom (n - k) (domainIn rows) words (i .0) (q .0) s) ≡ traced (domainIn rows) words (request (i₀ .0) (q₀ .0) s))
 
 abbrev μ-loop : tie.MeasureT-loop
-μ-loop rows words s passed₀ n i₀ q₀ k₀ passed i q k = n - k
+μ-loop rows first words s passed₀ n i₀ q₀ k₀ passed i q k = n - k
 
 expander-count-requires : tie.Need-expander-count-requires Inv-loop μ-loop
 expander-count-requires c κs = search needs
@@ -29,7 +29,7 @@ expander-count-requires c κs = search needs
 loop-holds : tie.Need-loop-holds Inv-loop μ-loop
 unfolding traced
 loop-holds c =
-    let a = c .before .before .before .before .args in
+    let a = c .before .before .before .before .before .args in
     let d : Domain = domainIn (a .rows .now) in
     let n = c .expander-count in (
       omega arith,
@@ -62,7 +62,7 @@ same-length c = simp length-set (c .before .before .before .before .before .loop
 returns : tie.Need-returns Inv-loop μ-loop
 unfolding afterStep
 returns c =
-    let a = c .before .before .before .before .before .before .before .before .before .before .args in
+    let a = c .before .before .before .before .before .before .before .before .before .before .before .args in
     let l = c .before .before .before .before .before .loop in
     let n : ℕ = c .before .before .before .before .before .before .expander-count .result in
     let e = ap stepAnswer (sym (c .before .enum-told .given .1)) ∙ c .before .before .before .take-step .ensures in
@@ -82,7 +82,7 @@ same-length-2 c = simp length-set (c .before .before .before .before .before .be
 returns-2 : tie.Need-returns-2 Inv-loop μ-loop
 unfolding afterStep
 returns-2 c =
-    let a = c .before .before .before .before .before .before .before .before .before .before .before .args in
+    let a = c .before .before .before .before .before .before .before .before .before .before .before .before .args in
     let l = c .before .before .before .before .before .before .loop in
     let n : ℕ = c .before .before .before .before .before .before .before .expander-count .result in
     let e = ap stepAnswer (sym (c .before .before .t .given .1)) ∙ c .before .before .before .before .take-step .ensures in
@@ -102,7 +102,7 @@ same-length-3 c = simp length-set (c .before .before .before .before .before .lo
 returns-3 : tie.Need-returns-3 Inv-loop μ-loop
 unfolding afterStep
 returns-3 c =
-    let a = c .before .before .before .before .before .before .before .before .before .before .args in
+    let a = c .before .before .before .before .before .before .before .before .before .before .before .args in
     let l = c .before .before .before .before .before .loop in
     let n : ℕ = c .before .before .before .before .before .before .expander-count .result in
     let e = ap stepAnswer (sym (c .before .enum-told2 .given .1)) ∙ c .before .before .before .take-step .ensures in
@@ -122,7 +122,7 @@ same-length-4 c = simp length-set (c .before .before .before .before .before .lo
 returns-4 : tie.Need-returns-4 Inv-loop μ-loop
 unfolding afterStep
 returns-4 c =
-    let a = c .before .before .before .before .before .before .before .before .before .before .args in
+    let a = c .before .before .before .before .before .before .before .before .before .before .before .args in
     let l = c .before .before .before .before .before .loop in
     let n : ℕ = c .before .before .before .before .before .before .expander-count .result in
     let e = ap stepAnswer (sym (c .before .enum-told3 .given .1)) ∙ c .before .before .before .take-step .ensures in
@@ -138,7 +138,7 @@ loop-less c = omega arith
 
 loop-again : tie.Need-loop-again Inv-loop μ-loop
 loop-again c =
-    let a = c .before .before .before .before .before .before .before .before .before .before .args in
+    let a = c .before .before .before .before .before .before .before .before .before .before .before .args in
     let d : Domain = domainIn (a .rows .now) in
     let l = c .before .before .before .before .before .loop in
     let n : ℕ = c .before .before .before .before .before .before .expander-count .result in
@@ -158,7 +158,7 @@ same-length-5 c = c .before .before .loop .inv .1
 
 returns-5 : tie.Need-returns-5 Inv-loop μ-loop
 returns-5 c =
-    let a = c .before .before .before .before .before .before .before .args in
+    let a = c .before .before .before .before .before .before .before .before .args in
     let l = c .before .before .loop in
     let n : ℕ = c .before .before .before .expander-count .result in
     rw (c .ended5 .ensures)

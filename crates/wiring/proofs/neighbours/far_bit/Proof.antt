@@ -4,8 +4,7 @@ use lib.Dec.{le→leb}
 use borrow.Author.Tests.{le-leb}
 use Rattle.wiring.specs.Domain.{typeOf, phyAt}
 use Rattle.wiring.specs.Rows.{domainIn}
-use Rattle.wiring.proofs.EndDevices.{short-in}
-use Rattle.wiring.proofs.Entries.{far-told}
+use Rattle.wiring.proofs.Entries.{far-in}
 use Rattle.wiring.proofs.Cables.{far-no, far-high, far-one}
 use borrow.Author.Needs.{needs}
 use native.Mathlib.Omega.{arith}
@@ -32,7 +31,7 @@ returns-2 c =
     let a = c .before .before .before .before .before .before .before .args in
     let φ = phyAt (domainIn (a .rows .now)) (a .i .0) (a .p .0) in
     let e = c .before .before .before .phy-type .ensures ∙ ap typeOf (c .before .before .before .before .phy-below .ensures (pre .1)) in
-    let n = c .before .far-number .ensures ∙ far-told _ (a .i .0) (a .p .0) (omega (arith, pre .1, short-in (a .rows .now) (a .i .0))) (a .first .now) (pre .0) (le→leb 2 (typeOf φ) (omega arith)) in
+    let n = c .before .far-number .ensures ∙ far-in (a .rows .now) (a .first .now) (a .i .0) (a .p .0) (pre .0) (le→leb 2 (typeOf φ) (omega arith)) in
     far-high _ φ (le-leb 2 (typeOf φ) (omega arith)) _ n (omega arith)
 
 cast-result : tie.Need-cast-result
@@ -47,7 +46,7 @@ returns-3 c =
     let a = c .before .before .before .before .before .before .before .args in
     let φ = phyAt (domainIn (a .rows .now)) (a .i .0) (a .p .0) in
     let e = c .before .before .before .phy-type .ensures ∙ ap typeOf (c .before .before .before .before .phy-below .ensures (pre .1)) in
-    let n = c .before .far-number .ensures ∙ far-told _ (a .i .0) (a .p .0) (omega (arith, pre .1, short-in (a .rows .now) (a .i .0))) (a .first .now) (pre .0) (le→leb 2 (typeOf φ) (omega arith)) in
+    let n = c .before .far-number .ensures ∙ far-in (a .rows .now) (a .first .now) (a .i .0) (a .p .0) (pre .0) (le→leb 2 (typeOf φ) (omega arith)) in
     far-one _ φ (le-leb 2 (typeOf φ) (omega arith)) _ n (omega arith)
 
 pub far-bit-spec : {M : Type 1} → statement M
