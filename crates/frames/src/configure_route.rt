@@ -118,7 +118,7 @@ fn entry_in(frame: &[u8]) -> u64
     if (frame[12] >> 7) & 1 == 1 {
         return 0;
     }
-    bytes::number_at(frame, 16, 8)
+    bytes::address_at(frame, 16)
 }
 
 // Reads one request. Its length (1), bytes 0, 1 and 3 (2) and phy (15) are checked in this order.

@@ -21,11 +21,11 @@ shared-slice-read-device-type c = search needs
 device-type-requires : tie.Need-device-type-requires
 device-type-requires c κs = search needs
 
-number-at-requires : tie.Need-number-at-requires
-number-at-requires c κs = search needs
+address-at-requires : tie.Need-address-at-requires
+address-at-requires c κs = search needs
 
-number-at-requires-2 : tie.Need-number-at-requires-2
-number-at-requires-2 c κs = search needs
+address-at-requires-2 : tie.Need-address-at-requires-2
+address-at-requires-2 c κs = search needs
 
 shared-slice-read-t14 : tie.Need-shared-slice-read-t14
 shared-slice-read-t14 c = search needs
@@ -40,7 +40,7 @@ returns-2 : tie.Need-returns-2
 returns-2 c =
     let n = c .before .before .before in
     let d = n .before .before .device-type .ensures in
-    simp (eq-eqb _ _ (n .before .before .before .before .before .if1 .left), d ∙ decoded-by-cases _ .0, n .before .number-at .ensures .0, n .number-at2 .ensures .0, c .routing-attribute .ensures ∙ decoded-by-cases _ .1)
+    simp (eq-eqb _ _ (n .before .before .before .before .before .if1 .left), d ∙ decoded-by-cases _ .0, n .before .address-at .ensures, n .address-at2 .ensures, c .routing-attribute .ensures ∙ decoded-by-cases _ .1)
 
 pub fields-in-spec : {M : Type 1} → statement M
-fields-in-spec = tie.close (tie.spec shared-slice-read-result returns shared-slice-read-t4 shared-slice-read-device-type device-type-requires number-at-requires number-at-requires-2 shared-slice-read-t14 shared-slice-read-routing-attribute routing-attribute-requires returns-2)
+fields-in-spec = tie.close (tie.spec shared-slice-read-result returns shared-slice-read-t4 shared-slice-read-device-type device-type-requires address-at-requires address-at-requires-2 shared-slice-read-t14 shared-slice-read-routing-attribute routing-attribute-requires returns-2)
