@@ -530,6 +530,42 @@ impl Domain {
                 .is_some_and(|far| far.attribute == Attribute::Table)
     }
 
+    /// For each expander the lowest of those that a chain joins to it which crosses
+    /// no table-to-table link, itself included.
+    fn parts(&self) -> BTreeMap<u8, u8> {
+        let mut clear: BTreeMap<u8, BTreeSet<u8>> = self
+            .expanders
+            .keys()
+            .map(|&number| (number, BTreeSet::new()))
+            .collect();
+        for (place, _, phy) in self.phys() {
+            if let Some((far, _)) = self.far_end(phy) {
+                if !self.is_table_to_table(phy) {
+                    clear.entry(place.0).or_default().insert(far);
+                }
+            }
+        }
+        let mut parts = BTreeMap::new();
+        for &number in self.expanders.keys() {
+            let mut reached = HashSet::new();
+            reach(&clear, number, &mut reached);
+            for other in reached {
+                parts.entry(other).or_insert(number);
+            }
+        }
+        parts
+    }
+
+    /// The expander that bears each address, or at which an end device does.
+    fn homes(&self) -> HashMap<u64, u8> {
+        let devices = self.phys().filter_map(|(place, _, phy)| match phy.attached {
+            Attached::EndDevice(address) => Some((address, place.0)),
+            _ => None,
+        });
+        let own = self.expanders.iter().map(|(&number, e)| (e.address, number));
+        devices.chain(own).collect()
+    }
+
     /// The level list of a table phy of expander `x` attached to expander `n`.
     pub fn level_list(&self, x: u8, n: u8) -> Vec<u64> {
         let configured = &self.expanders[&x];
@@ -710,6 +746,9 @@ pub struct Judged {
     stretches: BTreeMap<Place, Range<usize>>,
     /// The sum of R over the non-vacant table phys.
     pub needed: usize,
+    /// The parts that table-to-table links leave of the domain, and homes of addresses.
+    parts: BTreeMap<u8, u8>,
+    homes: HashMap<u64, u8>,
 }
 
 impl Judged {
@@ -724,6 +763,8 @@ impl Judged {
             }
         }
         Judged {
+            parts: domain.parts(),
+            homes: domain.homes(),
             domain,
             lists,
             stretches,
@@ -733,6 +774,12 @@ impl Judged {
 
     pub fn expanders(&self) -> usize {
         self.domain.expanders.len()
+    }
+
+    /// Does the chain from an expander to the device that bears the address cross
+    /// a table-to-table link?
+    pub fn crosses(&self, start: u8, address: u64) -> bool {
+        self.parts[&start] != self.parts[&self.homes[&address]]
     }
 
     /// Nothing for a phy that is not a table phy attached to an expander.

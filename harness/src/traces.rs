@@ -154,7 +154,8 @@ impl Requests {
     }
 
     /// Over the tables given a request to a device of the domain arrives there,
-    /// but for an end device that asks for itself; no other request arrives.
+    /// but for an end device that asks for itself; no other request arrives. Where
+    /// the chain crosses a table-to-table link, the steps decide.
     fn check_given(
         &self,
         judged: &Judged,
@@ -168,6 +169,9 @@ impl Requests {
         let expected = if source == Some(request.address) {
             Outcome::BadDestination
         } else if self.addresses[..self.borne].contains(&request.address) {
+            if judged.crosses(request.start, request.address) {
+                return Ok(());
+            }
             Outcome::Arrived
         } else {
             Outcome::NoDestination
