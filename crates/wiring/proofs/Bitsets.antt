@@ -1,5 +1,5 @@
 -- Rounds over sets: the words that the code holds are the lists of the definitions.
-use Prim.Native.Nat.{ℕ, zero, suc, _+_, _-_, _/_, _^_, _≤_, _<_}
+use Prim.Native.Nat.{ℕ, zero, suc, _+_, _-_, _/_, _%_, _^_, _≤_, _<_}
 use mathlib.Core.Path.{_≡_, refl, sym, _∙_, ap, ap₂}
 use mathlib.Core.Bool.{Bool, true, false, cond, _||_, _&&_}
 use mathlib.Core.List.{List, [], _∷_}
@@ -17,6 +17,7 @@ use Rattle.wiring.specs.Graph.{two, isNil, stays, strip, loopfree, near,
 use Rattle.wiring.specs.Neighbours.{neighbours, setOf, neighbourWord}
 use Rattle.frames.specs.Refusals.{Result, refused, good, refusal}
 use Rattle.wiring.specs.Links.{joined, joinedIn}
+use Rattle.wiring.specs.Chains.{chainsWithin}
 use Rattle.wiring.specs.Rounds.{RoundsRun, hasBit, members, SetBelow, roundTest, nextTest, nextSet, rounds}
 use Rattle.wiring.proofs.Members.{any-same, keep-keep, keep-same, isIn-keep, isIn-of, in-upTo, numbers-below, same-test, is-true}
 use Rattle.wiring.proofs.Sets.{wordBelow, bitOf, set-word, ones-word, and-word, word-bit, neighbour-word}
@@ -121,13 +122,14 @@ keep-all [] = refl
 keep-all (x ∷ l) = ap (λ m. x ∷ m) (keep-all l)
 
 -- a turn of the loop over rounds
-pub rounds-next : (k n i : ℕ) (adj : ℕ → ℕ → Bool) (l v : List ℕ) → rounds k n adj (n - i) l ≡ v → i < n → rounds k n adj (n - (i + 1)) (nextSet k n adj l) ≡ v
+pub rounds-next : (k n count i : ℕ) (adj : ℕ → ℕ → Bool) (l v : List ℕ) → rounds k n adj (count - i) l ≡ v → i < count
+    → rounds k n adj (count - (i + 1)) (nextSet k n adj l) ≡ v
 unfolding rounds
-rounds-next k n i adj l v e h = let q : n - i ≡ suc (n - (i + 1)) = omega arith in sym (ap (λ (m : ℕ). rounds k n adj m l) q) ∙ e
+rounds-next k n count i adj l v e h = let q : count - i ≡ suc (count - (i + 1)) = omega arith in sym (ap (λ (m : ℕ). rounds k n adj m l) q) ∙ e
 
-pub rounds-end : (k n i : ℕ) (adj : ℕ → ℕ → Bool) (l v : List ℕ) → rounds k n adj (n - i) l ≡ v → n ≤ i → l ≡ v
+pub rounds-end : (k n count i : ℕ) (adj : ℕ → ℕ → Bool) (l v : List ℕ) → rounds k n adj (count - i) l ≡ v → count ≤ i → l ≡ v
 unfolding rounds
-rounds-end k n i adj l v e h = let q : n - i ≡ 0 = omega arith in sym (ap (λ (m : ℕ). rounds k n adj m l) q) ∙ e
+rounds-end k n count i adj l v e h = let q : count - i ≡ 0 = omega arith in sym (ap (λ (m : ℕ). rounds k n adj m l) q) ∙ e
 
 -- all n bits of a word of 64
 word-all : (n : ℕ) → wordBelow (λ v. true) n ≡ 2 ^ n - 1
@@ -162,16 +164,30 @@ empty-set n w s = go (members n w) s
     go [] e = eq-eqb w 0 (e ∙ set-none)
     go (x ∷ l) e = ne-eqb w 0 (λ q. set-some x l (sym e ∙ q))
 
--- cause 11 decided by a word
-pub loopfree-word : (d : Domain) (after : ℕ) → RoundsRun d 11 (setOf (upTo (length d))) after → eqb after 0 ≡ loopfree (length d) (neighbours d)
-loopfree-word d after r =
+-- what rounds of cause 11 leave of all expanders
+pub left-members : (d : Domain) (count after : ℕ) → RoundsRun d 11 count (setOf (upTo (length d))) after
+    → members (length d) after ≡ strip (length d) (neighbours d) count (upTo (length d))
+left-members d count after r =
     let n = length d in
     let a = neighbours d in
     let k : upTo n ≡ keep (λ v. true) (upTo n) = sym (keep-all (upTo n)) in
     let m : members n (setOf (upTo n)) ≡ upTo n = ap (λ l. members n (setOf l)) k ∙ members-set (λ v. true) n ∙ sym k in
-    let s : members n after ≡ strip n a n (upTo n) =
-    r .run ∙ ap (rounds 11 n a n) (m ∙ k) ∙ rounds-strip n a (λ v. true) n ∙ ap (strip n a n) (sym k) in
-    empty-set n after (r .below) ∙ ap isNil s
+    r .run ∙ ap (rounds 11 n a count) (m ∙ k) ∙ rounds-strip n a (λ v. true) count ∙ ap (strip n a count) (sym k)
+
+-- cause 11 decided by a word
+pub loopfree-word : (d : Domain) (after : ℕ) → RoundsRun d 11 (length d) (setOf (upTo (length d))) after → eqb after 0 ≡ loopfree (length d) (neighbours d)
+loopfree-word d after r = empty-set (length d) after (r .below) ∙ ap isNil (left-members d (length d) after r)
+
+-- how many members a set has
+pub members-count : (n w : ℕ) → SetBelow n w → ones w ≡ length (members n w)
+unfolding members
+members-count n w s = ap ones (word-of n w s) ∙ ones-word (hasBit w) n
+
+-- cause 23 decided by a word
+pub within-word : (d : Domain) (most after : ℕ) → RoundsRun d 11 (most / 2) (setOf (upTo (length d))) after → leb (ones after) (most % 2) ≡ chainsWithin most d
+unfolding chainsWithin
+within-word d most after r =
+    ap (λ (m : ℕ). leb m (most % 2)) (members-count (length d) after (r .below) ∙ ap length (left-members d (most / 2) after r))
 
 -- the set of expander 0
 first-only : (n : ℕ) → 0 < n → keep (λ v. eqb v 0) (upTo n) ≡ 0 ∷ []
@@ -195,7 +211,7 @@ first-below n h =
     rw e at (set-below (λ v. eqb v 0) n)
 
 -- cause 12 decided by a word
-pub joined-bit : (d : Domain) (after i : ℕ) → RoundsRun d 12 1 after → i < length d → hasBit after i ≡ joined d i
+pub joined-bit : (d : Domain) (after i : ℕ) → RoundsRun d 12 (length d) 1 after → i < length d → hasBit after i ≡ joined d i
 unfolding joined
 joined-bit d after i r h =
     let n = length d in

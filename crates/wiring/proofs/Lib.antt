@@ -13,6 +13,7 @@ pub mod Searches
 pub mod Walks
 pub mod Loops
 pub mod Reach
+pub mod LongChains
 pub mod Wires
 pub mod Accepted
 pub mod Opening

@@ -26,14 +26,14 @@ two-in (x ∷ y ∷ l) a b p q d = tt
 
 module _ (n : ℕ) (adj : ℕ → ℕ → Bool) where
   -- two different vertices of the rest, both adjacent to v
-  record Fork (rest : List ℕ) (v : ℕ) : Type 0 where
-    a : ℕ
-    b : ℕ
-    a-in : In a rest
-    b-in : In b rest
-    a-adj : T (adj v a)
-    b-adj : T (adj v b)
-    differ : a ≢ b
+  pub record Fork (rest : List ℕ) (v : ℕ) : Type 0 where
+    pub a : ℕ
+    pub b : ℕ
+    pub a-in : In a rest
+    pub b-in : In b rest
+    pub a-adj : T (adj v a)
+    pub b-adj : T (adj v b)
+    pub differ : a ≢ b
 
   two-of : (rest : List ℕ) (v : ℕ) (l : List ℕ) → ((w : ℕ) → In w l → In w rest × T (adj v w)) → Distinct l → T (two l) → Fork rest v
   two-of rest v [] s d t = absurd t
@@ -43,24 +43,24 @@ module _ (n : ℕ) (adj : ℕ → ℕ → Bool) where
       let q = s y (inr (inl refl)) in
       record { a = x; b = y; a-in = p .0; b-in = q .0; a-adj = p .1; b-adj = q .1; differ = λ e. d .0 (inl e) }
 
-  stays-fork : (rest : List ℕ) (v : ℕ) → Distinct rest → T (stays n adj rest v) → T (adj v v) ⊎ Fork rest v
+  pub stays-fork : (rest : List ℕ) (v : ℕ) → Distinct rest → T (stays n adj rest v) → T (adj v v) ⊎ Fork rest v
   stays-fork rest v d t =
       ⊎-elim inl (λ u. inr (two-of rest v (keep (adj v) rest) (kept (adj v) rest) (keep-distinct (adj v) rest d) u))
       (or-cases (adj v v) (two (keep (adj v) rest)) t)
 
-  fork-stays : (rest : List ℕ) (v : ℕ) → Fork rest v → T (stays n adj rest v)
+  pub fork-stays : (rest : List ℕ) (v : ℕ) → Fork rest v → T (stays n adj rest v)
   fork-stays rest v f =
       or-right (adj v v) (two (keep (adj v) rest))
       (two-in (keep (adj v) rest) (f .a) (f .b) (keeps (adj v) rest (f .a) (f .a-in) (f .a-adj)) (keeps (adj v) rest (f .b) (f .b-in) (f .b-adj)) (f .differ))
 
   -- a vertex of the rest that goes before x ∷ acc without turning back
-  record Next (rest : List ℕ) (x : ℕ) (acc : List ℕ) : Type 0 where
-    y : ℕ
-    y-in : In y rest
-    y-adj : T (adj x y)
-    skips : Skip y acc
+  pub record Next (rest : List ℕ) (x : ℕ) (acc : List ℕ) : Type 0 where
+    pub y : ℕ
+    pub y-in : In y rest
+    pub y-adj : T (adj x y)
+    pub skips : Skip y acc
 
-  next : (rest : List ℕ) (x : ℕ) (acc : List ℕ) → Fork rest x → Next rest x acc
+  pub next : (rest : List ℕ) (x : ℕ) (acc : List ℕ) → Fork rest x → Next rest x acc
   next rest x [] f = record { y = f .a; y-in = f .a-in; y-adj = f .a-adj; skips = tt }
   next rest x (z ∷ acc) f =
       by-cases

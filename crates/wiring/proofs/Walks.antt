@@ -81,11 +81,11 @@ module _ (n : ℕ) (adj : ℕ → ℕ → Bool) where
   noback x (y ∷ z ∷ l) d = (λ e. d .0 (inr (inl e)), noback y (z ∷ l) (d .1))
 
   -- the first of p is not the first of q
-  abbrev Apart : List ℕ → List ℕ → Type 0
+  abbrev pub Apart : List ℕ → List ℕ → Type 0
   Apart [] q = Unit {0}
   Apart (a ∷ p) q = Skip a q
 
-  turn : (x : ℕ) (p q : List ℕ) → Skip x p → Apart p (x ∷ q)
+  pub turn : (x : ℕ) (p q : List ℕ) → Skip x p → Apart p (x ∷ q)
   turn x [] q s = tt
   turn x (b ∷ p) q s = λ e. s (sym e)
 

@@ -18,4 +18,5 @@ pub mod Clashes
 pub mod Cables
 pub mod Links
 pub mod Devices
+pub mod Chains
 pub mod Tested

@@ -1,4 +1,4 @@
--- Rounds over sets of expanders held as 64-bit words: how causes 11 and 12 are decided.
+-- Rounds over sets of expanders held as 64-bit words: how causes 11, 12 and 23 are decided.
 use Prim.Native.Nat.{ℕ, zero, suc, _/_, _%_, _^_, _≤_, _<_}
 use mathlib.Core.Path.{_≡_}
 use mathlib.Core.Bool.{Bool, cond, _||_, _&&_}
@@ -33,7 +33,7 @@ pub record WordEach (n : ℕ) (f : ℕ → ℕ) (words : List ℕ) : Type 0 wher
 abbrev pub Held : Domain → List ℕ → Type 0
 Held d words = WordEach (length d) (neighbourWord d) words
 
--- does v belong to the next set, in a round of cause 11 (an expander that stays) or 12 (one that is reached)?
+-- does v belong to the next set, in a round of causes 11 and 23 (an expander that stays) or 12 (one that is reached)?
 unfoldable pub roundTest : ℕ → ℕ → (ℕ → ℕ → Bool) → List ℕ → ℕ → Bool
 roundTest k n adj l v = cond (eqb k 11) (isIn v l && stays n adj l v) (near n adj l v)
 
@@ -53,7 +53,7 @@ unfoldable pub rounds : ℕ → ℕ → (ℕ → ℕ → Bool) → ℕ → List 
 rounds k n adj zero l = l
 rounds k n adj (suc count) l = rounds k n adj count (nextSet k n adj l)
 
--- a set after as many rounds as there are expanders
-pub record RoundsRun (d : Domain) (k set after : ℕ) : Type 0 where
+-- a set after so many rounds
+pub record RoundsRun (d : Domain) (k count set after : ℕ) : Type 0 where
   pub below : SetBelow (length d) after
-  pub run : members (length d) after ≡ rounds k (length d) (neighbours d) (length d) (members (length d) set)
+  pub run : members (length d) after ≡ rounds k (length d) (neighbours d) count (members (length d) set)

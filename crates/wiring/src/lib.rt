@@ -1,6 +1,7 @@
 // Reads a domain file into rows, and judges its wiring.
 mod addresses;
 mod causes;
+mod chains;
 mod clashes;
 mod file;
 mod links;

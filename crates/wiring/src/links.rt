@@ -25,8 +25,9 @@ fn is_loopfree(rows: &[u64], words: &[u64]) -> bool
     requires { ⌜ Held (domainIn (now rows)) (now words) ⌝ }
     ensures { λ r. ⌜ r ≡ loopfree (length (domainIn (now (rows .entry)))) (neighbours (domainIn (now (rows .entry)))) ⌝ }
 {
-    let all = rounds::all_of(view::expander_count(rows));
-    rounds::run_rounds(rows, words, 11, all) == 0
+    let n = view::expander_count(rows);
+    let all = rounds::all_of(n);
+    rounds::run_rounds(rows, words, 11, n, all) == 0
 }
 
 // Cause 12: the lowest expander without a chain to expander 0. `words` has the neighbour words.
@@ -38,7 +39,7 @@ fn check_joined(rows: &[u64], words: &[u64]) -> Check
     if n == 0 {
         return Check::Passed;
     }
-    let seen = rounds::run_rounds(rows, words, 12, 1);
+    let seen = rounds::run_rounds(rows, words, 12, n, 1);
     let mut i: u8 = 0;
     while i < n {
         if !rounds::has(seen, ExpanderNumber(i)) {

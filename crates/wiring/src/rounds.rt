@@ -1,5 +1,5 @@
-// Rounds over sets of expanders, held as 64-bit words with a bit for each expander, for causes 11
-// and 12.
+// Rounds over sets of expanders, held as 64-bit words with a bit for each expander, for causes 11, 12
+// and 23.
 use crate::view;
 use frames::ExpanderNumber;
 ghost use mathlib.Core.Path.{_≡_};
@@ -68,15 +68,14 @@ fn round(rows: &[u64], words: &[u64], k: u8, set: u64) -> u64
     next
 }
 
-// The set after as many rounds of cause k as there are expanders.
-pub(crate) fn run_rounds(rows: &[u64], words: &[u64], k: u8, set: u64) -> u64
+// The set after so many rounds of cause k.
+pub(crate) fn run_rounds(rows: &[u64], words: &[u64], k: u8, count: u8, set: u64) -> u64
     requires { ⌜ Held (domainIn (now rows)) (now words) × SetBelow (length (domainIn (now rows))) set ⌝ }
-    ensures { λ r. ⌜ RoundsRun (domainIn (now (rows .entry))) k set r ⌝ }
+    ensures { λ r. ⌜ RoundsRun (domainIn (now (rows .entry))) k count set r ⌝ }
 {
-    let n = view::expander_count(rows);
     let mut next = set;
     let mut i: u8 = 0;
-    while i < n {
+    while i < count {
         next = round(rows, words, k, next);
         i += 1;
     }

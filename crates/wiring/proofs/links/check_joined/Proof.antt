@@ -16,7 +16,7 @@ use Rattle.wiring.proofs.links.check_joined.Tie as tie
 
 abbrev Inv-loop : tie.InvT-loop
 Inv-loop rows words n seen i₀ i =
-    (i ≤ n) × ((n ≤ 64) × ((n ≡ length (domainIn rows)) × (RoundsRun (domainIn rows) 12 1 seen
+    (i ≤ n) × ((n ≤ 64) × ((n ≡ length (domainIn rows)) × (RoundsRun (domainIn rows) 12 (length (domainIn rows)) 1 seen
     × (joinedIn (numbers i (n - i)) (domainIn rows) ≡ joinedIn (upTo (length (domainIn rows))) (domainIn rows)))))
 
 abbrev μ-loop : tie.MeasureT-loop
@@ -36,7 +36,7 @@ run-rounds-requires c κs = (c .before .before .before .before .pre, first-below
 loop-holds : tie.Need-loop-holds Inv-loop μ-loop
 loop-holds c =
     let e = c .before .before .expander-count .ensures .0 in
-    (omega arith, (c .before .before .expander-count .ensures .1, (e, (c .run-rounds .ensures, simp (sub-zero, e)))))
+    (omega arith, (c .before .before .expander-count .ensures .1, (e, (rw e at (c .run-rounds .ensures), simp (sub-zero, e)))))
 
 has-requires : tie.Need-has-requires Inv-loop μ-loop
 has-requires c κs = omega arith

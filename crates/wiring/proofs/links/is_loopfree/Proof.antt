@@ -25,7 +25,7 @@ returns : tie.Need-returns
 returns c =
     let d = domainIn (c .before .before .before .before .before .args .rows .now) in
     let e : c .before .all-of .result ≡ setOf (upTo (length d)) = c .before .all-of .ensures ∙ ap (λ (m : ℕ). setOf (upTo m)) (c .before .before .expander-count .ensures .0) in
-    loopfree-word d (c .run-rounds .result) (rw e at (c .run-rounds .ensures))
+    loopfree-word d (c .run-rounds .result) (rw (e, c .before .before .expander-count .ensures .0) at (c .run-rounds .ensures))
 
 pub is-loopfree-spec : {M : Type 1} → statement M
 is-loopfree-spec = tie.close (tie.spec expander-count-requires all-of-requires run-rounds-requires returns)
