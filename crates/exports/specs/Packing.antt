@@ -1,6 +1,8 @@
--- Answers of the C interface, each packed into one number.
-use Prim.Native.Nat.{ℕ, _+_, _*_, _^_}
+-- Settings and answers of the C interface, each packed into one number.
+use Prim.Native.Nat.{ℕ, _+_, _*_, _/_, _%_, _^_}
+use mathlib.Core.Bool.{cond}
 use mathlib.Core.List.{List}
+use lib.Dec.{leb}
 use Rattle.frames.specs.Refusals.{Result, refused, good}
 use Rattle.frames.specs.ReportGeneral.{GeneralSas2, short, long}
 use Rattle.frames.specs.Discovery.{Discovered, vacant, fields}
@@ -9,10 +11,17 @@ use Rattle.frames.specs.declared.General.{General}
 use Rattle.frames.specs.declared.LongGeneral.{LongGeneral}
 use Rattle.frames.specs.declared.Discover.{Discover}
 use Rattle.frames.specs.declared.Route.{Route}
+use Rattle.wiring.specs.declared.Setting.{Setting}
 use Rattle.tables.specs.Judge.{Counted}
 use Rattle.tracing.specs.Trace.{Reported}
 use Rattle.tracing.specs.declared.Outcome.{Outcome}
 use Rattle.tracing.specs.declared.Outcome.the-variants.{Arrived, NoDestination, BadDestination}
+
+-- a setting: most expanders, most phys and longest chain, a byte each; with a bit above these 24, one outside its range (22)
+abbrev pub settingOf : ℕ → Setting
+settingOf n =
+    cond (leb (2 ^ 24) n) (record { expanders = 0; phys = 0; chain = 0 })
+    (record { expanders = n / 2 ^ 16; phys = n / 2 ^ 8 % 2 ^ 8; chain = n % 2 ^ 8 })
 
 -- a refusal: bit 63, then number, expander and phy, a byte each
 abbrev pub packRefusal : Refusal → ℕ

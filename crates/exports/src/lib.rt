@@ -24,15 +24,16 @@ ghost use Rattle.frames.specs.ConfigureRoute.{routeWritten, routeRead, bufferAf
 ghost use Rattle.wiring.specs.Neighbours.{wiringCall, bitsOf, wordsAfter};
 ghost use Rattle.tables.specs.Judge.{judged, expandersIn, tableCall, countsIn, tablesAfter};
 ghost use Rattle.tracing.specs.Trace.{request, traceCall, report, bytesAfter};
-ghost use Rattle.exports.specs.Packing.{packed, number, counts, endPacked, forty, general, generalSas2, discovered, ownAddress, attachedAddress, route, routeEntry};
+ghost use Rattle.exports.specs.Packing.{settingOf, packed, number, counts, endPacked, forty, general, generalSas2, discovered, ownAddress, attachedAddress, route, routeEntry};
 
 // The wiring call: how many bits are set in all.
 #[no_mangle]
-pub extern "C" fn metzurgo_wire(file: &[u8], words: &mut [u64]) -> u64
-    ensures { λ r. ⌜ (r ≡ packed number (then (wiringCall (now (file .entry)) (length (now (words .entry)))) bitsOf))
-        × (now (words .exit) ≡ wordsAfter (wiringCall (now (file .entry)) (length (now (words .entry)))) (now (words .entry))) ⌝ }
+pub extern "C" fn metzurgo_wire(setting: u32, file: &[u8], words: &mut [u64]) -> u64
+    ensures { λ r. ⌜ (r ≡ packed number (then (wiringCall (settingOf setting) (now (file .entry)) (length (now (words .entry)))) bitsOf))
+        × (now (words .exit) ≡ wordsAfter (wiringCall (settingOf setting) (now (file .entry)) (length (now (words .entry)))) (now (words .entry))) ⌝ }
 {
-    let answer = wiring::wire(file, words);
+    let course = packing::setting(setting);
+    let answer = wiring::wire(course, file, words);
     match answer {
         Wiring::Refused(r) => packing::refusal(r),
         Wiring::Bits(n) => n,
@@ -41,10 +42,11 @@ pub extern "C" fn metzurgo_wire(file: &[u8], words: &mut [u64]) -> u64
 
 // The judging call: the number of expanders.
 #[no_mangle]
-pub extern "C" fn metzurgo_judge(file: &[u8]) -> u64
-    ensures { λ r. ⌜ r ≡ packed number (then (judged (now (file .entry))) expandersIn) ⌝ }
+pub extern "C" fn metzurgo_judge(setting: u32, file: &[u8]) -> u64
+    ensures { λ r. ⌜ r ≡ packed number (then (judged (settingOf setting) (now (file .entry))) expandersIn) ⌝ }
 {
-    let answer = tables::judge(file);
+    let course = packing::setting(setting);
+    let answer = tables::judge(course, file);
     match answer {
         Judgement::Refused(r) => packing::refusal(r),
         Judgement::Expanders(n) => n as u64,
@@ -53,11 +55,12 @@ pub extern "C" fn metzurgo_judge(file: &[u8]) -> u64
 
 // The table call: the number of tables, times 2 to the power 32, and the number of words.
 #[no_mangle]
-pub extern "C" fn metzurgo_tables(file: &[u8], words: &mut [u64]) -> u64
-    ensures { λ r. ⌜ (r ≡ packed counts (then (tableCall (now (file .entry)) (length (now (words .entry)))) countsIn))
-        × (now (words .exit) ≡ tablesAfter (tableCall (now (file .entry)) (length (now (words .entry)))) (now (words .entry))) ⌝ }
+pub extern "C" fn metzurgo_tables(setting: u32, file: &[u8], words: &mut [u64]) -> u64
+    ensures { λ r. ⌜ (r ≡ packed counts (then (tableCall (settingOf setting) (now (file .entry)) (length (now (words .entry)))) countsIn))
+        × (now (words .exit) ≡ tablesAfter (tableCall (settingOf setting) (now (file .entry)) (length (now (words .entry)))) (now (words .entry))) ⌝ }
 {
-    let answer = tables::give_tables(file, words);
+    let course = packing::setting(setting);
+    let answer = tables::give_tables(course, file, words);
     match answer {
         TablesGiven::Refused(r) => packing::refusal(r),
         TablesGiven::Counts(t, w) => (t as u64) * 4294967296 + (w as u64),
@@ -67,6 +70,7 @@ pub extern "C" fn metzurgo_tables(file: &[u8], words: &mut [u64]) -> u64
 // The trace call: outcome, last expander, phy and count.
 #[no_mangle]
 pub extern "C" fn metzurgo_trace(
+    setting: u32,
     file: &[u8],
     words: &[u64],
     start: u8,
@@ -74,10 +78,12 @@ pub extern "C" fn metzurgo_trace(
     address: u64,
     passed: &mut [u8],
 ) -> u64
-    ensures { λ r. ⌜ (r ≡ packed endPacked (then (traceCall (now (file .entry)) (now (words .entry)) (length (now (passed .entry))) (request start arrival address)) report))
-        × (now (passed .exit) ≡ bytesAfter (traceCall (now (file .entry)) (now (words .entry)) (length (now (passed .entry))) (request start arrival address)) (now (passed .entry))) ⌝ }
+    ensures { λ r. ⌜ (r ≡ packed endPacked (then (traceCall (settingOf setting) (now (file .entry)) (now (words .entry)) (length (now (passed .entry))) (request start arrival address)) report))
+        × (now (passed .exit) ≡ bytesAfter (traceCall (settingOf setting) (now (file .entry)) (now (words .entry)) (length (now (passed .entry))) (request start arrival address)) (now (passed .entry))) ⌝ }
 {
+    let course = packing::setting(setting);
     let answer = tracing::trace(
+        course,
         file,
         words,
         ExpanderNumber(start),

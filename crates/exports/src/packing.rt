@@ -1,4 +1,4 @@
-// Answers packed into one number.
+// Settings and answers packed into one number.
 use frames::Discover;
 use frames::General;
 use frames::LongGeneral;
@@ -6,9 +6,29 @@ use frames::Refusal;
 use frames::Route;
 use tracing::End;
 use tracing::Outcome;
+use wiring::Setting;
 ghost use mathlib.Core.Path.{_≡_};
 ghost use Prim.Native.Nat.{_≤_, _<_, _^_};
-ghost use Rattle.exports.specs.Packing.{packRefusal, packEnd, packOutcome, packFields, packLong, general, route};
+ghost use Rattle.exports.specs.Packing.{settingOf, packRefusal, packEnd, packOutcome, packFields, packLong, general, route};
+
+// A setting: most expanders, most phys and longest chain, a byte each. A bit above these 24 makes one
+// outside its range.
+pub(crate) fn setting(n: u32) -> Setting
+    ensures { λ r. ⌜ r ≡ settingOf n ⌝ }
+{
+    if n >= 16777216 {
+        return Setting {
+            expanders: 0,
+            phys: 0,
+            chain: 0,
+        };
+    }
+    Setting {
+        expanders: (n / 65536) as u8,
+        phys: (n / 256 % 256) as u8,
+        chain: (n % 256) as u8,
+    }
+}
 
 // A refusal: 2 to the power 63, and below it number, expander and phy, a byte each.
 pub(crate) fn refusal(r: Refusal) -> u64

@@ -11,7 +11,7 @@ use Rattle.wiring.specs.Lists.{keep}
 use Rattle.wiring.specs.Domain.{Domain, expanderAt, phyAt, routes}
 use Rattle.wiring.specs.Causes.{Place, places}
 use Rattle.wiring.specs.Rows.{domainIn, RowsRead}
-use Rattle.wiring.specs.File.{limits}
+use Rattle.wiring.specs.declared.Setting.{Setting}
 use Rattle.wiring.specs.Addresses.{IndexRoom}
 use Rattle.wiring.proofs.Results.{good-one, then-good}
 use Rattle.wiring.proofs.Read.{read-good}
@@ -92,30 +92,30 @@ module _ (d : Domain) where
   unfolding tables entryLines tablePlaces
   tables-lines rest = ap (λ (es : List Entry). wordLines es (tables d ++ rest)) (sym (expander-on d 0)) ∙ place-lines (places d) rest
 
--- what `routes` lists of an accepted file: its lines, the lines and totals as one text, and the chunks and totals one after the
+-- what `routes` lists of a file accepted under a setting (its own is the widest): its lines, the lines and totals as one text, and the chunks and totals one after the
 -- other, as many chunks as there are entries or more (the last ones have no line)
-pub record Listed (file : List ℕ) (t w : ℕ) (rows words : List ℕ) : Type 0 where
+pub record Listed (setting : Setting) (file : List ℕ) (t w : ℕ) (rows words : List ℕ) : Type 0 where
   pub domain : Domain
-  pub accepted : judged file ≡ good domain
+  pub accepted : judged setting file ≡ good domain
   pub lines : linesFrom (domainIn rows) words (cursor 0 0 0 0) ≡ entryLines domain
   pub text : textOf (linesFrom (domainIn rows) words (cursor 0 0 0 0)) ++ totalsOf t w ≡ listingOf domain
   pub chunks : (n : ℕ) → needed domain ≤ n → chunksFrom (domainIn rows) words (cursor 0 0 0 0) n ++ totalsOf t w ≡ listingOf domain
 
 -- from what `read_domain` promises, and `give_rows` over the rows that it wrote
-pub listed : (file before after first low lent words : List ℕ) (n t w : ℕ) → length before ≡ 16512 → length first ≡ 8256 → length low ≡ 8192
-    → RowsRead file (Expanders n) before after
-    → OwnDone (then (judgedIn (length first) (length low) (domainIn (take (258 * n) after))) (tablesFor (length lent))) (Counts t w) lent words
-    → Listed file t w (take (258 * n) after) words
+pub listed : (setting : Setting) (file before after first low lent words : List ℕ) (n t w : ℕ) → length before ≡ 16512 → length first ≡ 8256 → length low ≡ 8192
+    → RowsRead setting file (Expanders n) before after
+    → OwnDone (then (judgedIn (setting .chain) (length first) (length low) (domainIn (take (258 * n) after))) (tablesFor (length lent))) (Counts t w) lent words
+    → Listed setting file t w (take (258 * n) after) words
 unfolding listingOf
-listed file before after first low lent words n t w eb ef el r done =
-    let o = opened file before after (λ x q. let few = read-good limits file x q .few in omega arith) (Expanders n) r in
+listed setting file before after first low lent words n t w eb ef el r done =
+    let o = opened setting file before after (λ x q. let g = read-good setting file x q in omega (arith, g .few, g .range .expanders .1)) (Expanders n) r in
     let here : Domain = domainIn (take (258 * n) after) in
     let room : IndexRoom here first low = let few = o .1 in record { slots = omega (arith, few .0, few .1); phys = omega (arith, few .0, few .1) } in
-    let g = call-done file lent words here (judgedIn (length first) (length low) here) (Counts t w) (o .0) (judged-own file first low here (o .0) room) done in
-    let a = then-good (tableCall file (length lent)) countsIn (record { tableCount = t; wordCount = w }) (sym (g .answers)) in
+    let g = call-done setting file lent words here (judgedIn (setting .chain) (length first) (length low) here) (Counts t w) (o .0) (judged-own setting file first low here (o .0) room) done in
+    let a = then-good (tableCall setting file (length lent)) countsIn (record { tableCount = t; wordCount = w }) (sym (g .answers)) in
     let d : Domain = a .0 in
-    let c = tableCall-iff file d (length lent) .0 (a .1) in
-    let e : here ≡ d = good-one _ _ (sym (o .0) ∙ judged-file file d .0 (c .0) .0) in
+    let c = tableCall-iff setting file d (length lent) .0 (a .1) in
+    let e : here ≡ d = good-one _ _ (sym (o .0) ∙ judged-file setting file d .0 (c .0) .0) in
     let f = good-one _ _ (a .2) in
     let q : words ≡ tables d ++ drop (needed d) lent = g .words ∙ ap (λ (x : Result Domain). tablesAfter x lent) (a .1) in
     let l : linesFrom (domainIn (take (258 * n) after)) words (cursor 0 0 0 0) ≡ entryLines d =

@@ -78,19 +78,20 @@ fn print_refusal(r: Refusal) -> bool {
     io::write_all(1, &line[..end])
 }
 
-// Writes the listing of a domain in rows, or why there is none, and answers whether all was written.
-fn print_rows(rows: &[u64]) -> bool {
+// Writes the listing of a domain in rows, or why there is none, and answers whether all was written. A chain
+// may have `chain` expanders.
+fn print_rows(rows: &[u64], chain: u8) -> bool {
     let mut first = [0u16; 8256];
     let mut low = [0u8; 8192];
     let mut words = [0u64; 8192];
-    let given = tables::give_rows(rows, &mut first[..], &mut low[..], &mut words[..]);
+    let given = tables::give_rows(rows, &mut first[..], &mut low[..], &mut words[..], chain);
     match given {
         TablesGiven::Refused(r) => print_refusal(r),
         TablesGiven::Counts(t, w) => print_tables(rows, &words[..], t as u64, w as u64),
     }
 }
 
-// The same of a file, which is read once.
+// The same of a file, which is read once, under the widest setting.
 fn print_listing(file: &[u8]) -> bool {
     if file.len() > 65536 {
         let mut line = [0u8; 80];
@@ -98,12 +99,13 @@ fn print_listing(file: &[u8]) -> bool {
         return io::write_all(1, &line[..end]);
     }
     let mut rows = [0u64; 16512];
-    let read = wiring::read_domain(file, &mut rows[..]);
+    let course = wiring::widest();
+    let read = wiring::read_domain(course, file, &mut rows[..]);
     match read {
         DomainRead::Refused(r) => print_refusal(r),
         DomainRead::Expanders(n) => {
             let e = 258 * (n as usize);
-            print_rows(&rows[..e])
+            print_rows(&rows[..e], course.chain)
         }
     }
 }

@@ -1,7 +1,7 @@
 -- When the judging call and the table call answer, and with which numbers they refuse.
 use Prim.Native.Nat.{ℕ, _≤_}
 use mathlib.Core.Path.{_≡_, refl, sym, ap, subst, _∙_}
-use mathlib.Core.Logic.{inl, inr, _↔_}
+use mathlib.Core.Logic.{inl, inr, _↔_, ⊎-elim}
 use mathlib.Core.Bool.{Bool, true, false, cond}
 use mathlib.Core.List.{List, [], _∷_, _++_}
 use native.Mathlib.Omega.{arith}
@@ -10,14 +10,16 @@ use lib.Dec.{leb}
 use Rattle.wiring.specs.Frames.{Result, refused, good, then, refusal, Exactly}
 use Rattle.wiring.specs.Lists.{upTo}
 use Rattle.wiring.specs.Domain.{Domain}
-use Rattle.wiring.specs.File.{limits, domainRead}
+use Rattle.wiring.specs.declared.Setting.{Setting}
+use Rattle.wiring.specs.File.{domainRead}
 use Rattle.wiring.specs.Causes.{wiredDomain}
 use Rattle.wiring.specs.Graph.{loopfree}
 use Rattle.wiring.specs.Neighbours.{neighbours}
+use Rattle.wiring.specs.Chains.{chainsWithin, unlong}
 use Rattle.wiring.specs.Links.{unlooped, joined, joinedIn, linkedDomain}
 use Rattle.wiring.proofs.Results.{never, then-good, good-then}
 use Rattle.wiring.proofs.Accepted.{passed-iff}
-use Rattle.wiring.proofs.Read.{read-numbered}
+use Rattle.wiring.proofs.Read.{read-good, read-numbered}
 pub use Rattle.wiring.proofs.Exactly.{Numbered, numbered-unless, numbered-then, exactly}
 use Rattle.wiring.proofs.Exactly.{first-numbered, wired-numbered}
 use Rattle.tables.specs.Tables.{tablePlaces, tables, needed}
@@ -28,7 +30,7 @@ use Rattle.tables.specs.declared.TablesGiven.{TablesGiven}
 use Rattle.tables.specs.declared.TablesGiven.the-variants.{Refused, Counts}
 use Rattle.tables.proofs.Given.{judged-routable, routable-iff, tables-same, judged-file, tableCall-iff}
 
--- causes 11, 12 and 14 refuse with their numbers
+-- causes 11, 12, 23 and 14 refuse with their numbers
 joined-numbered : (P : ℕ → Type 0) (l : List ℕ) (d : Domain) → P 12 → Numbered P (joinedIn l d)
 unfolding joinedIn
 joined-numbered P [] d h = tt
@@ -38,41 +40,44 @@ joined-numbered P (i ∷ l) d h = go (joined d i) (joined-numbered P l d h)
     go true r = r
     go false r = h
 
-linked-numbered : (P : ℕ → Type 0) → ((n : ℕ) → 11 ≤ n → n ≤ 12 → P n) → (d : Domain) → Numbered P (linkedDomain d)
-unfolding linkedDomain unlooped
-linked-numbered P h d =
+linked-numbered : (P : ℕ → Type 0) → P 11 → P 12 → P 23 → (chain : ℕ) (d : Domain) → Numbered P (linkedDomain chain d)
+unfolding linkedDomain unlooped unlong
+linked-numbered P a b c chain d =
     numbered-then P (unlooped d) _
-    (numbered-unless P (loopfree (length d) (neighbours d)) (refusal 11 0 0) (good d) (h 11 (omega arith) (omega arith)) tt)
-    (λ a. joined-numbered P (upTo (length d)) d (h 12 (omega arith) (omega arith)))
+    (numbered-unless P (loopfree (length d) (neighbours d)) (refusal 11 0 0) (good d) a tt)
+    (λ _. numbered-then P (joinedIn (upTo (length d)) d) _ (joined-numbered P (upTo (length d)) d b)
+    (λ _. numbered-unless P (chainsWithin chain d) (refusal 23 0 0) (good d) c tt))
 
-pub judged-numbered : (P : ℕ → Type 0) → ((n : ℕ) → judgingNumber n → P n) → (file : List ℕ) → Numbered P (judged file)
+pub judged-numbered : (P : ℕ → Type 0) → ((n : ℕ) → judgingNumber n → P n) → (setting : Setting) (file : List ℕ) → Numbered P (judged setting file)
 unfolding judgedDomain
-judged-numbered P h file =
-    numbered-then P (domainRead limits file) judgedDomain (read-numbered limits file P (λ n a b. h n (inl (a, omega arith))))
+judged-numbered P h setting file =
+    numbered-then P (domainRead setting file) (judgedDomain (setting .chain))
+    (read-numbered setting file P (λ n. ⊎-elim (λ k. h n (inl (k .0, omega arith))) (λ k. h n (inr (inr (inl k))))))
     (λ d. numbered-then P (wiredDomain d) _ (wired-numbered P (λ n a b. h n (inl (omega arith, omega arith))) d)
-    (λ _. numbered-then P (linkedDomain d) _ (linked-numbered P (λ n a b. h n (inl (omega arith, omega arith))) d)
-    (λ _. first-numbered P 14 (overlong d) _ d (h 14 (inr refl)))))
+    (λ _. numbered-then P (linkedDomain (setting .chain) d) _
+    (linked-numbered P (h 11 (inl (omega arith, omega arith))) (h 12 (inl (omega arith, omega arith))) (h 23 (inr (inr (inr refl)))) (setting .chain) d)
+    (λ _. first-numbered P 14 (overlong d) _ d (h 14 (inr (inl refl))))))
 
--- a file is accepted exactly when none of causes 1 to 12 and 14 holds
-pub judged-causes : (file : List ℕ) (d : Domain) → judged file ≡ good d → (c : NoJudgingCause file) × (c .domain ≡ d)
-judged-causes file d j =
-    let e = judged-file file d .0 j in
-    let r = judged-routable d d (e .1) in
-    (record { domain = d; read = e .0; passed = passed-iff d .0 (r .1); routable = r .2 }, refl)
+-- a file is accepted exactly when none of its causes holds
+pub judged-causes : (setting : Setting) (file : List ℕ) (d : Domain) → judged setting file ≡ good d → (c : NoJudgingCause setting file) × (c .domain ≡ d)
+judged-causes setting file d j =
+    let e = judged-file setting file d .0 j in
+    let r = judged-routable (setting .chain) d d (e .1) in
+    (record { domain = d; range = read-good setting file d (e .0) .range; read = e .0; passed = passed-iff d .0 (r .1); routable = r .2 }, refl)
 
-pub causes-judged : (file : List ℕ) (c : NoJudgingCause file) → judged file ≡ good (c .domain)
-causes-judged file c =
+pub causes-judged : (setting : Setting) (file : List ℕ) (c : NoJudgingCause setting file) → judged setting file ≡ good (c .domain)
+causes-judged setting file c =
     let d = c .domain in
-    judged-file file d .1 (c .read, routable-iff d (passed-iff d .1 (c .passed)) .1 (c .routable))
+    judged-file setting file d .1 (c .read, routable-iff (setting .chain) d (passed-iff d .1 (c .passed)) .1 (c .routable))
 
 -- the judging call answers exactly when none of its causes holds, and refuses with no other number
-pub judging-exactly : (file : List ℕ) (answer : Judgement) → judgeAnswer answer ≡ then (judged file) expandersIn
-    → Exactly (judgeAnswer answer) (NoJudgingCause file) judgingNumber
-judging-exactly file answer q =
-    exactly judgingNumber (judgeAnswer answer) (then (judged file) expandersIn) (NoJudgingCause file) q
-    (numbered-then judgingNumber (judged file) expandersIn (judged-numbered judgingNumber (λ n h. h) file) (λ d. tt))
-    (λ n e. let a = then-good (judged file) expandersIn n e in judged-causes file (a .0) (a .1) .0)
-    (λ c. (length (c .domain), good-then (judged file) expandersIn (c .domain) (length (c .domain)) (causes-judged file c) refl))
+pub judging-exactly : (setting : Setting) (file : List ℕ) (answer : Judgement) → judgeAnswer answer ≡ then (judged setting file) expandersIn
+    → Exactly (judgeAnswer answer) (NoJudgingCause setting file) judgingNumber
+judging-exactly setting file answer q =
+    exactly judgingNumber (judgeAnswer answer) (then (judged setting file) expandersIn) (NoJudgingCause setting file) q
+    (numbered-then judgingNumber (judged setting file) expandersIn (judged-numbered judgingNumber (λ n h. h) setting file) (λ d. tt))
+    (λ n e. let a = then-good (judged setting file) expandersIn n e in judged-causes setting file (a .0) (a .1) .0)
+    (λ c. (length (c .domain), good-then (judged setting file) expandersIn (c .domain) (length (c .domain)) (causes-judged setting file c) refl))
 
 -- the table call answers counts exactly when its outcome is no refusal
 pub counts-iff : (outcome : Result Domain) (answer : TablesGiven) (before after : List ℕ) → TablesDone outcome answer before after
@@ -87,44 +92,44 @@ counts-iff outcome (Counts t w) before after o = (
 )
 
 -- a table call on domain d that answered counts: there was room, and it left the tables of d and the words lent after them
-pub record TablesOf (d : Domain) (before after : List ℕ) : Type 0 where
-  pub routable : Routable d
+pub record TablesOf (chain : ℕ) (d : Domain) (before after : List ℕ) : Type 0 where
+  pub routable : Routable chain d
   pub enough : needed d ≤ length before
   pub left : after ≡ tables d ++ drop (needed d) before
 
-pub tables-of : (d : Domain) (t w : ℕ) (before after : List ℕ) → TablesDone (judgedTables d (length before)) (Counts t w) before after
-    → TablesOf d before after
-tables-of d t w before after o =
-    let c = counts-iff (judgedTables d (length before)) (Counts t w) before after o .0 (t, w, refl) in
-    let s = tables-same d (c .0) (length before) (c .1) in
+pub tables-of : (chain : ℕ) (d : Domain) (t w : ℕ) (before after : List ℕ) → TablesDone (judgedTables chain d (length before)) (Counts t w) before after
+    → TablesOf chain d before after
+tables-of chain d t w before after o =
+    let c = counts-iff (judgedTables chain d (length before)) (Counts t w) before after o .0 (t, w, refl) in
+    let s = tables-same chain d (c .0) (length before) (c .1) in
     record { routable = s .1; enough = s .2; left = o .words ∙ ap (λ x. tablesAfter x before) (c .1 ∙ ap good (sym (s .0))) }
 
 -- the table call answers exactly when none of its causes holds, and refuses with no other number
-pub tables-exactly : (file before after : List ℕ) (answer : TablesGiven) → TablesDone (tableCall file (length before)) answer before after
-    → Exactly (tablesAnswer answer) (NoTableCause file (length before)) tableNumber
+pub tables-exactly : (setting : Setting) (file before after : List ℕ) (answer : TablesGiven) → TablesDone (tableCall setting file (length before)) answer before after
+    → Exactly (tablesAnswer answer) (NoTableCause setting file (length before)) tableNumber
 unfolding tableCall
-tables-exactly file before after answer t =
-    exactly tableNumber (tablesAnswer answer) (then (tableCall file room) countsIn) (NoTableCause file room) (t .answers) numbered from to
+tables-exactly setting file before after answer t =
+    exactly tableNumber (tablesAnswer answer) (then (tableCall setting file room) countsIn) (NoTableCause setting file room) (t .answers) numbered from to
   where
     room : ℕ
     room = length before
 
-    numbered : Numbered tableNumber (then (tableCall file room) countsIn)
+    numbered : Numbered tableNumber (then (tableCall setting file room) countsIn)
     numbered =
-        numbered-then tableNumber (tableCall file room) countsIn
-        (numbered-then tableNumber (judged file) (tablesFor room) (judged-numbered tableNumber (λ n h. inl h) file)
+        numbered-then tableNumber (tableCall setting file room) countsIn
+        (numbered-then tableNumber (judged setting file) (tablesFor room) (judged-numbered tableNumber (λ n h. inl h) setting file)
         (λ d. numbered-unless tableNumber (leb (needed d) room) (refusal 16 0 0) (good d) (inr refl) tt))
         (λ d. tt)
 
-    from : (n : Counted) → then (tableCall file room) countsIn ≡ good n → NoTableCause file room
+    from : (n : Counted) → then (tableCall setting file room) countsIn ≡ good n → NoTableCause setting file room
     from n e =
-        let a = then-good (tableCall file room) countsIn n e in
-        let b = tableCall-iff file (a .0) room .0 (a .1) in
-        let c = judged-causes file (a .0) (b .0) in
+        let a = then-good (tableCall setting file room) countsIn n e in
+        let b = tableCall-iff setting file (a .0) room .0 (a .1) in
+        let c = judged-causes setting file (a .0) (b .0) in
         record { judging = c .0; enough = subst (λ d. needed d ≤ room) (sym (c .1)) (b .1) }
 
-    to : NoTableCause file room → (n : Counted) × (then (tableCall file room) countsIn ≡ good n)
+    to : NoTableCause setting file room → (n : Counted) × (then (tableCall setting file room) countsIn ≡ good n)
     to c =
         let d = c .judging .domain in
         let n : Counted = record { tableCount = length (tablePlaces d); wordCount = needed d } in
-        (n, good-then (tableCall file room) countsIn d n (tableCall-iff file d room .1 (causes-judged file (c .judging), c .enough)) refl)
+        (n, good-then (tableCall setting file room) countsIn d n (tableCall-iff setting file d room .1 (causes-judged setting file (c .judging), c .enough)) refl)

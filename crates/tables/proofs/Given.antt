@@ -8,10 +8,10 @@ use native.Mathlib.Decide.{decLt}
 use lib.ListN.{length}
 use lib.Dec.{T, leb, lt→ltb, ltb→lt, leb→le, le→leb}
 use Rattle.wiring.specs.Frames.{Result, good, then, refusal}
-use Rattle.wiring.specs.declared.Limits.{Limits}
+use Rattle.wiring.specs.declared.Setting.{Setting}
 use Rattle.wiring.specs.Domain.{Domain, expanderAt}
 use Rattle.wiring.specs.Read.{Read}
-use Rattle.wiring.specs.File.{limits, domainRead}
+use Rattle.wiring.specs.File.{domainRead}
 use Rattle.wiring.specs.Causes.{wiredDomain}
 use Rattle.wiring.specs.Links.{linkedDomain}
 use Rattle.wiring.proofs.Members.{tests}
@@ -27,40 +27,42 @@ overlong-range : (d : Domain) (i p : ℕ) → T (overlong d i p) → p < length 
 unfolding overlong
 overlong-range d i p t = routes-range d 2 i p (search tests) (omega arith)
 
--- causes 7 to 14 leave a domain as it is, wired and routable
-pub judged-routable : (d e : Domain) → judgedDomain d ≡ good e → (d ≡ e) × (wiredDomain d ≡ good d) × Routable d
+-- causes 7 to 12, 23 and 14 leave a domain as it is, wired and routable
+pub judged-routable : (chain : ℕ) (d e : Domain) → judgedDomain chain d ≡ good e → (d ≡ e) × (wiredDomain d ≡ good d) × Routable chain d
 unfolding judgedDomain overlong
-judged-routable d e f =
+judged-routable chain d e f =
     let a = then-good (wiredDomain d) _ e f in
-    let b = then-good (linkedDomain d) _ e (a .2) in
+    let b = then-good (linkedDomain chain d) _ e (a .2) in
+    let l = linked-iff chain d .0 (b .1 ∙ ap good (sym (linked-same chain d (b .0) (b .1)))) in
     let c = firstOf-good 14 (overlong d) d e (overlong-range d) (b .2) in (
       c .0,
       a .1 ∙ ap good (sym (wired-same d (a .0) (a .1))),
       record {
-        linked = linked-iff d .0 (b .1 ∙ ap good (sym (linked-same d (b .0) (b .1))));
+        linked = l .0;
+        short = l .1;
         fits = λ i p t. by-cases (decLt (expanderAt d i .indexes) (length (levelList d i p)))
             (λ h. absurd (c .1 i p (search (tests, lt→ltb)))) (λ h. omega arith);
       },
     )
 
-routable-judged : (d : Domain) → wiredDomain d ≡ good d → Routable d → judgedDomain d ≡ good d
+routable-judged : (chain : ℕ) (d : Domain) → wiredDomain d ≡ good d → Routable chain d → judgedDomain chain d ≡ good d
 unfolding judgedDomain overlong
-routable-judged d e r =
+routable-judged chain d e r =
     good-then (wiredDomain d) _ d d e
-    (good-then (linkedDomain d) _ d d (linked-iff d .1 (r .linked))
+    (good-then (linkedDomain chain d) _ d d (linked-iff chain d .1 (r .linked, r .short))
     (good-firstOf 14 (overlong d) d (λ i p t.
     let u = r .fits i p (search tests) in
     let v : expanderAt d i .indexes < length (levelList d i p) = search (tests, ltb→lt) in omega arith)))
 
 -- over domains: past causes 7 to 10 a domain is accepted exactly when it is routable
-pub routable-iff : (d : Domain) → wiredDomain d ≡ good d → (judgedDomain d ≡ good d) ↔ Routable d
-routable-iff d e = (λ j. judged-routable d d j .2, routable-judged d e)
+pub routable-iff : (chain : ℕ) (d : Domain) → wiredDomain d ≡ good d → (judgedDomain chain d ≡ good d) ↔ Routable chain d
+routable-iff chain d e = (λ j. judged-routable chain d d j .2, routable-judged chain d e)
 
 -- a domain that is read is accepted exactly when it is wired and routable
-pub accepted-iff : (most : Limits) (d : Domain) → Read most d → most .phys ≤ 255 → (judgedDomain d ≡ good d) ↔ (Wired d × Routable d)
-accepted-iff most d g m = (
-  λ j. let r = judged-routable d d j in (wired-iff most d g m .0 (r .1), r .2),
-  λ w. routable-judged d (wired-iff most d g m .1 (w .0)) (w .1),
+pub accepted-iff : (most : Setting) (d : Domain) → Read most d → (chain : ℕ) → (judgedDomain chain d ≡ good d) ↔ (Wired d × Routable chain d)
+accepted-iff most d g chain = (
+  λ j. let r = judged-routable chain d d j in (wired-iff most d g .0 (r .1), r .2),
+  λ w. routable-judged chain d (wired-iff most d g .1 (w .0)) (w .1),
 )
 
 -- tables are given exactly when what was judged is accepted and there is room
@@ -74,26 +76,26 @@ tables-iff x room d = (
     s = then-same x (tablesFor room) d (λ a e. good-one a d (unless-good (leb (needed a) room) (refusal 16 0 0) (good a) d e .1))
 
 -- on a domain the table call gives that domain's tables, or none
-pub tables-same : (d e : Domain) (room : ℕ) → judgedTables d room ≡ good e → (d ≡ e) × Routable d × (needed d ≤ room)
-tables-same d e room f =
-    let a = tables-iff (judgedDomain d) room e .0 f in
-    let r = judged-routable d e (a .0) in
+pub tables-same : (chain : ℕ) (d e : Domain) (room : ℕ) → judgedTables chain d room ≡ good e → (d ≡ e) × Routable chain d × (needed d ≤ room)
+tables-same chain d e room f =
+    let a = tables-iff (judgedDomain chain d) room e .0 f in
+    let r = judged-routable chain d e (a .0) in
     (r .0, r .2, subst (λ x. needed x ≤ room) (sym (r .0)) (a .1))
 
 -- the same of files
-module _ (file : List ℕ) (d : Domain) where
+module _ (setting : Setting) (file : List ℕ) (d : Domain) where
   -- an accepted file reads as a domain that is accepted
-  pub judged-file : (judged file ≡ good d) ↔ ((domainRead limits file ≡ good d) × (judgedDomain d ≡ good d))
-  judged-file = then-same (domainRead limits file) judgedDomain d (λ a j. judged-routable a d j .0)
+  pub judged-file : (judged setting file ≡ good d) ↔ ((domainRead setting file ≡ good d) × (judgedDomain (setting .chain) d ≡ good d))
+  judged-file = then-same (domainRead setting file) (judgedDomain (setting .chain)) d (λ a j. judged-routable (setting .chain) a d j .0)
 
-  pub judged-wires : judged file ≡ good d → Wired d × Routable d
-  judged-wires j = let r = judged-file .0 j in accepted-iff limits d (read-good limits file d (r .0)) (omega arith) .0 (r .1)
+  pub judged-wires : judged setting file ≡ good d → Wired d × Routable (setting .chain) d
+  judged-wires j = let r = judged-file .0 j in accepted-iff setting d (read-good setting file d (r .0)) (setting .chain) .0 (r .1)
 
-  pub tableCall-iff : (room : ℕ) → (tableCall file room ≡ good d) ↔ ((judged file ≡ good d) × (needed d ≤ room))
+  pub tableCall-iff : (room : ℕ) → (tableCall setting file room ≡ good d) ↔ ((judged setting file ≡ good d) × (needed d ≤ room))
   unfolding tableCall
-  tableCall-iff room = tables-iff (judged file) room d
+  tableCall-iff room = tables-iff (judged setting file) room d
 
   -- the table call on a file is that on the domain that it reads as
-  pub table-call : domainRead limits file ≡ good d → (room : ℕ) → tableCall file room ≡ judgedTables d room
+  pub table-call : domainRead setting file ≡ good d → (room : ℕ) → tableCall setting file room ≡ judgedTables (setting .chain) d room
   unfolding tableCall
-  table-call e room = ap (λ x. then (then x judgedDomain) (tablesFor room)) e
+  table-call e room = ap (λ x. then (then x (judgedDomain (setting .chain))) (tablesFor room)) e

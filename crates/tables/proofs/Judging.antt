@@ -10,7 +10,8 @@ use lib.Dec.{T, lt→ltb}
 use borrow.Author.Tests.{le-leb, lt-leb}
 use Rattle.wiring.specs.Frames.{Refusal, Result, refused, good, then, refusal}
 use Rattle.wiring.specs.Domain.{Domain, expanderAt}
-use Rattle.wiring.specs.File.{limits, domainRead}
+use Rattle.wiring.specs.declared.Setting.{Setting}
+use Rattle.wiring.specs.File.{domainRead}
 use Rattle.wiring.specs.Causes.{firstOf, wiredDomain}
 use Rattle.wiring.specs.Links.{linkedDomain, checkedDomain}
 use Rattle.wiring.specs.Checks.{checkedIn}
@@ -27,14 +28,14 @@ then-then : {A B C : Type 0} (x : Result A) (y : Result B) (z : Result C) → th
 then-then (refused r) y z = refl
 then-then (good a) y z = refl
 
--- causes 7 to 14 of a domain
-pub judge-checked : (d : Domain) (x : Result Domain) → checkedDomain d ≡ x → judgedDomain d ≡ then x (λ _. firstOf 14 (overlong d) d)
+-- causes 7 to 12, 23 and 14 of a domain
+pub judge-checked : (chain : ℕ) (d : Domain) (x : Result Domain) → checkedDomain chain d ≡ x → judgedDomain chain d ≡ then x (λ _. firstOf 14 (overlong d) d)
 unfolding judgedDomain checkedDomain
-judge-checked d x e = then-then (wiredDomain d) (linkedDomain d) (firstOf 14 (overlong d) d) ∙ ap (λ y. then y (λ _. firstOf 14 (overlong d) d)) e
+judge-checked chain d x e = then-then (wiredDomain d) (linkedDomain chain d) (firstOf 14 (overlong d) d) ∙ ap (λ y. then y (λ _. firstOf 14 (overlong d) d)) e
 
 -- the same by own lists, with room for so many entries
-module _ (first low : ℕ) (d : Domain) where
-  pub own-checked : (x : Result Domain) → checkedIn first low d ≡ x → judgedIn first low d ≡ then x (λ _. firstOf 14 (overOwn d) d)
+module _ (chain first low : ℕ) (d : Domain) where
+  pub own-checked : (x : Result Domain) → checkedIn chain first low d ≡ x → judgedIn chain first low d ≡ then x (λ _. firstOf 14 (overOwn d) d)
   unfolding judgedIn
   own-checked x e = ap (λ (y : Result Domain). then y (λ _. firstOf 14 (overOwn d) d)) e
 
@@ -43,19 +44,20 @@ module _ (first low : ℕ) (d : Domain) where
   over-range i p t = routes-range d 2 i p (search tests) (omega arith)
 
   -- past them, tables can be filled from own lists
-  pub fillable : judgedIn first low d ≡ good d → Fillable d
+  pub fillable : judgedIn chain first low d ≡ good d → Fillable d
   unfolding judgedIn overOwn
   fillable j =
-      let a = then-good (checkedIn first low d) _ d j in
+      let a = then-good (checkedIn chain first low d) _ d j in
       let c = firstOf-good 14 (overOwn d) d d over-range (a .2) in
       λ i p t. by-cases (decLt (expanderAt d i .indexes) (length (orderList d i p))) (λ h. absurd (c .1 i p (search (tests, lt→ltb)))) (λ h. omega arith)
 
 -- the judging call
-pub judge-refused : (file : List ℕ) (r : Refusal) → domainRead limits file ≡ refused r → refused r ≡ then (judged file) expandersIn
-judge-refused file r e = rw e
+pub judge-refused : (setting : Setting) (file : List ℕ) (r : Refusal) → domainRead setting file ≡ refused r → refused r ≡ then (judged setting file) expandersIn
+judge-refused setting file r e = rw e
 
-pub judge-by : (file : List ℕ) (d : Domain) (x : Result Domain) → domainRead limits file ≡ good d → judgedDomain d ≡ x → then x expandersIn ≡ then (judged file) expandersIn
-judge-by file d x e q = rw (e, q)
+pub judge-by : (setting : Setting) (file : List ℕ) (d : Domain) (x : Result Domain) → domainRead setting file ≡ good d → judgedDomain (setting .chain) d ≡ x
+    → then x expandersIn ≡ then (judged setting file) expandersIn
+judge-by setting file d x e q = rw (e, q)
 
 -- tables by own lists past causes 1 to 6
 pub own-refused : (room : ℕ) (before : List ℕ) (r : Refusal) (x : Result Domain) → x ≡ refused r → OwnDone (then x (tablesFor room)) (Refused r) before before
@@ -71,6 +73,6 @@ module _ (d : Domain) (room : ℕ) (before : List ℕ) (x : Result Domain) (e : 
       rw (e, le-leb (needed d) room h) (record { answers = rw (p, q) refl; words = s })
 
 -- the table call on a file
-pub call-refused : (file before : List ℕ) (r : Refusal) → domainRead limits file ≡ refused r → TablesDone (tableCall file (length before)) (Refused r) before before
+pub call-refused : (setting : Setting) (file before : List ℕ) (r : Refusal) → domainRead setting file ≡ refused r → TablesDone (tableCall setting file (length before)) (Refused r) before before
 unfolding tableCall
-call-refused file before r e = rw e (record { answers = refl; words = refl })
+call-refused setting file before r e = rw e (record { answers = refl; words = refl })

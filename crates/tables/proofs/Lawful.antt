@@ -8,10 +8,10 @@ use native.Mathlib.Omega.{arith}
 use lib.ListN.{length, drop}
 use lib.Dec.{ltb}
 use Rattle.wiring.specs.Frames.{Result, refused, good, then, refusal}
-use Rattle.wiring.specs.declared.Limits.{Limits}
+use Rattle.wiring.specs.declared.Setting.{Setting}
 use Rattle.wiring.specs.Domain.{Domain, expanderAt, phyAt, routes}
 use Rattle.wiring.specs.Read.{Read}
-use Rattle.wiring.specs.File.{limits, domainRead}
+use Rattle.wiring.specs.File.{domainRead}
 use Rattle.wiring.specs.Causes.{Place, places, firstIn, firstOf, wiredDomain}
 use Rattle.wiring.specs.Links.{linkedDomain, checkedDomain}
 use Rattle.wiring.specs.Tested.{Linked}
@@ -35,12 +35,12 @@ use Rattle.tables.proofs.Judging.{judge-checked, own-checked}
 abbrev Same : Domain → Type 0
 Same d = (x p : ℕ) → levelList d x p ≡ orderList d x p
 
--- a domain past causes 7 to 12: the same domain, past 7 to 10 and past 11 and 12
-checked-passes : (d e : Domain) → checkedDomain d ≡ good e → (d ≡ e) × (wiredDomain d ≡ good d) × (linkedDomain d ≡ good d)
+-- a domain past causes 7 to 12 and 23: the same domain, past 7 to 10, and past 11, 12 and 23
+checked-passes : (chain : ℕ) (d e : Domain) → checkedDomain chain d ≡ good e → (d ≡ e) × (wiredDomain d ≡ good d) × (linkedDomain chain d ≡ good d)
 unfolding checkedDomain
-checked-passes d e f =
-    let a = then-good (wiredDomain d) (λ _. linkedDomain d) e f in
-    let q = linked-same d e (a .2) in
+checked-passes chain d e f =
+    let a = then-good (wiredDomain d) (λ _. linkedDomain chain d) e f in
+    let q = linked-same chain d e (a .2) in
     (q, a .1 ∙ ap good (sym (wired-same d (a .0) (a .1))), a .2 ∙ ap good (sym q))
 
 -- the law, by the order of each phy
@@ -48,15 +48,15 @@ law-order : (d : Domain) → Wired d → Linked d → Same d
 unfolding ownList orderList
 law-order d w r x p = law d w r x p ∙ ap (flatMap (own d)) (sym (order-levels d w r x p))
 
--- it holds of a domain that is read and passes causes 7 to 12, and so of one that was read from a file
-pub read-lawful : (most : Limits) (d : Domain) → Read most d → most .phys ≤ 255 → checkedDomain d ≡ good d → Same d
-read-lawful most d g m f = let p = checked-passes d d f in law-order d (wired-iff most d g m .0 (p .1)) (linked-iff d .0 (p .2))
+-- it holds of a domain that is read and passes causes 7 to 12 and 23, and so of one that was read from a file
+pub read-lawful : (most : Setting) (d : Domain) → Read most d → (chain : ℕ) → checkedDomain chain d ≡ good d → Same d
+read-lawful most d g chain f = let p = checked-passes chain d d f in law-order d (wired-iff most d g .0 (p .1)) (linked-iff chain d .0 (p .2) .0)
 
-lawful : (file : List ℕ) (d : Domain) → domainRead limits file ≡ good d → checkedDomain d ≡ good d → Same d
-lawful file d e = read-lawful limits d (read-good limits file d e) (omega arith)
+lawful : (setting : Setting) (file : List ℕ) (d : Domain) → domainRead setting file ≡ good d → checkedDomain (setting .chain) d ≡ good d → Same d
+lawful setting file d e = read-lawful setting d (read-good setting file d e) (setting .chain)
 
-judged-same : (file : List ℕ) (d : Domain) → judged file ≡ good d → Same d
-judged-same file d j = let w = judged-wires file d j in law-order d (w .0) (w .1 .linked)
+judged-same : (setting : Setting) (file : List ℕ) (d : Domain) → judged setting file ≡ good d → Same d
+judged-same setting file d j = let w = judged-wires setting file d j in law-order d (w .0) (w .1 .linked)
 
 -- two tests that agree have the same lowest place
 first-same : (k : ℕ) (f g : ℕ → ℕ → Bool) (qs : List Place) (d : Domain) → ((i p : ℕ) → f i p ≡ g i p) → firstIn k f qs d ≡ firstIn k g qs d
@@ -70,19 +70,19 @@ over-same : (d : Domain) → Same d → (i p : ℕ) → overOwn d i p ≡ overlo
 unfolding overOwn overlong
 over-same d s i p = ap (λ (l : List ℕ). routes 2 (phyAt d i p) && ltb (expanderAt d i .indexes) (length l)) (sym (s i p))
 
--- causes 7 to 14 by own lists are causes 7 to 14, with room for the entries
-pub judged-own : (file first low : List ℕ) (d : Domain) → domainRead limits file ≡ good d → IndexRoom d first low
-    → judgedIn (length first) (length low) d ≡ judgedDomain d
-judged-own file first low d e r = go (checkedDomain d) refl
+-- causes 7 to 12, 23 and 14 by own lists are those causes, with room for the entries
+pub judged-own : (setting : Setting) (file first low : List ℕ) (d : Domain) → domainRead setting file ≡ good d → IndexRoom d first low
+    → judgedIn (setting .chain) (length first) (length low) d ≡ judgedDomain (setting .chain) d
+judged-own setting file first low d e r = go (checkedDomain (setting .chain) d) refl
   where
-    own : (x : Result Domain) → checkedDomain d ≡ x → judgedIn (length first) (length low) d ≡ then x (λ _. firstOf 14 (overOwn d) d)
-    own x q = own-checked (length first) (length low) d x (checked-room d (length first) (length low) (r .slots) (r .phys) ∙ q)
+    own : (x : Result Domain) → checkedDomain (setting .chain) d ≡ x → judgedIn (setting .chain) (length first) (length low) d ≡ then x (λ _. firstOf 14 (overOwn d) d)
+    own x q = own-checked (setting .chain) (length first) (length low) d x (checked-room (setting .chain) d (length first) (length low) (r .slots) (r .phys) ∙ q)
 
-    go : (x : Result Domain) → checkedDomain d ≡ x → judgedIn (length first) (length low) d ≡ judgedDomain d
-    go (refused s) q = own (refused s) q ∙ sym (judge-checked d (refused s) q)
+    go : (x : Result Domain) → checkedDomain (setting .chain) d ≡ x → judgedIn (setting .chain) (length first) (length low) d ≡ judgedDomain (setting .chain) d
+    go (refused s) q = own (refused s) q ∙ sym (judge-checked (setting .chain) d (refused s) q)
     go (good a) q =
-        let same = lawful file d e (q ∙ ap good (sym (checked-passes d a q .0))) in
-        own (good a) q ∙ first-same 14 (overOwn d) (overlong d) (places d) d (over-same d same) ∙ sym (judge-checked d (good a) q)
+        let same = lawful setting file d e (q ∙ ap good (sym (checked-passes (setting .chain) d a q .0))) in
+        own (good a) q ∙ first-same 14 (overOwn d) (overlong d) (places d) d (over-same d same) ∙ sym (judge-checked (setting .chain) d (good a) q)
 
 -- tables by own lists are the tables
 tables-same : (d : Domain) → Same d → ownTables d ≡ tables d
@@ -95,14 +95,14 @@ tables-same d s = go (tablePlaces d)
     go (q ∷ qs) = rw (s (q .expander) (q .phy), go qs)
 
 -- the table call on a file, by own lists
-pub call-done : (file before after : List ℕ) (d : Domain) (x : Result Domain) (answer : TablesGiven) → domainRead limits file ≡ good d → x ≡ judgedDomain d
-    → OwnDone (then x (tablesFor (length before))) answer before after → TablesDone (tableCall file (length before)) answer before after
+pub call-done : (setting : Setting) (file before after : List ℕ) (d : Domain) (x : Result Domain) (answer : TablesGiven) → domainRead setting file ≡ good d → x ≡ judgedDomain (setting .chain) d
+    → OwnDone (then x (tablesFor (length before))) answer before after → TablesDone (tableCall setting file (length before)) answer before after
 unfolding tableCall
-call-done file before after d x answer e q o =
-    let c : then x (tablesFor (length before)) ≡ tableCall file (length before) = rw (e, q) in
+call-done setting file before after d x answer e q o =
+    let c : then x (tablesFor (length before)) ≡ tableCall setting file (length before) = rw (e, q) in
     let w = subst (λ y. OwnDone y answer before after) c o in
-    record { answers = w .answers; words = w .words ∙ go (tableCall file (length before)) refl }
+    record { answers = w .answers; words = w .words ∙ go (tableCall setting file (length before)) refl }
   where
-    go : (y : Result Domain) → tableCall file (length before) ≡ y → ownAfter y before ≡ tablesAfter y before
+    go : (y : Result Domain) → tableCall setting file (length before) ≡ y → ownAfter y before ≡ tablesAfter y before
     go (refused r) h = refl
-    go (good a) h = ap (λ (l : List ℕ). l ++ drop (needed a) before) (tables-same a (judged-same file a (tableCall-iff file a (length before) .0 h .0)))
+    go (good a) h = ap (λ (l : List ℕ). l ++ drop (needed a) before) (tables-same a (judged-same setting file a (tableCall-iff setting file a (length before) .0 h .0)))

@@ -21,4 +21,5 @@ pub mod Over
 pub mod Judging
 pub mod Lawful
 pub mod LongFrames
+pub mod Wider
 pub mod Worked

@@ -7,4 +7,6 @@ unfoldable pub use Rattle.wiring.specs.ShortFile.{shortPhys, shortExpanders, sh
 unfoldable pub use Rattle.wiring.specs.Causes.{unanswered, endAt, claimed, clash, clashing, fixed, phyPlaces, placesFrom, firstIn, wiredDomain}
 unfoldable pub use Rattle.wiring.specs.Graph.{strip, reach}
 unfoldable pub use Rattle.wiring.specs.Neighbours.{cabled, neighbours}
+unfoldable pub use Rattle.wiring.specs.Settings.{inRange}
+unfoldable pub use Rattle.wiring.specs.Chains.{chainsWithin, unlong}
 unfoldable pub use Rattle.wiring.specs.Links.{unlooped, joined, joinedIn, linkedDomain}

@@ -11,7 +11,8 @@ use lib.Dec.{T, eqb}
 use Rattle.wiring.specs.Frames.{good}
 use Rattle.wiring.specs.Lists.{In}
 use Rattle.wiring.specs.Domain.{Domain, expanderAt, phyAt, routes}
-use Rattle.wiring.specs.File.{limits, domainRead}
+use Rattle.wiring.specs.declared.Setting.{Setting}
+use Rattle.wiring.specs.File.{domainRead}
 use Rattle.wiring.specs.Causes.{Place, place, places}
 use Rattle.wiring.proofs.Members.{tests, is-true}
 use Rattle.wiring.proofs.Wires.{routes-range, in-places}
@@ -112,13 +113,13 @@ index-tables d before fits h =
     }
 
 -- a table call that answers counts leaves each table in its own stretch, index for index: on a domain, and on a file
-pub index-for-index : (d : Domain) (before after : List ℕ) (c w : ℕ) → TablesDone (judgedTables d (length before)) (Counts c w) before after
+pub index-for-index : (chain : ℕ) (d : Domain) (before after : List ℕ) (c w : ℕ) → TablesDone (judgedTables chain d (length before)) (Counts c w) before after
     → IndexForIndex d before after
-index-for-index d before after c w t =
-    let o = tables-of d c w before after t in
+index-for-index chain d before after c w t =
+    let o = tables-of chain d c w before after t in
     subst (IndexForIndex d before) (sym (o .left)) (index-tables d before (o .routable .fits) (o .enough))
 
-pub index-for-index-file : (file : List ℕ) (d : Domain) (before after : List ℕ) (c w : ℕ) → domainRead limits file ≡ good d
-    → TablesDone (tableCall file (length before)) (Counts c w) before after → IndexForIndex d before after
-index-for-index-file file d before after c w e t =
-    index-for-index d before after c w (subst (λ x. TablesDone x (Counts c w) before after) (table-call file d e (length before)) t)
+pub index-for-index-file : (setting : Setting) (file : List ℕ) (d : Domain) (before after : List ℕ) (c w : ℕ) → domainRead setting file ≡ good d
+    → TablesDone (tableCall setting file (length before)) (Counts c w) before after → IndexForIndex d before after
+index-for-index-file setting file d before after c w e t =
+    index-for-index (setting .chain) d before after c w (subst (λ x. TablesDone x (Counts c w) before after) (table-call setting file d e (length before)) t)

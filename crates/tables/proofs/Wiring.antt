@@ -1,7 +1,8 @@
 -- What the layer above uses of wiring's lemmas.
 pub use Rattle.wiring.proofs.Members.{tests, or-cases, or-left, or-right, is-true, was-true, eq→eqb, neqb, in-cast, all-cons, in-upTo, last-in, at-most}
 pub use Rattle.wiring.proofs.Walks.{Skip, NoBack, repeats-nothing, same-rest, same-chain, rest-of}
-pub use Rattle.wiring.proofs.Reach.{Joined, prepend}
+pub use Rattle.wiring.proofs.Reach.{Joined}
+pub use Rattle.wiring.proofs.LongChains.{all-joined}
 pub use Rattle.wiring.proofs.Wires.{Way, Wired, one-step, end-attached, expander-attached, attached-cases, in-range}
 pub use Rattle.wiring.proofs.Wires.{differ, far-below, far-is, to-adj, adj-symmetric}
 pub use Rattle.wiring.proofs.Results.{good-one, unless-good, good-unless, then-good, good-then}
@@ -10,3 +11,4 @@ pub use Rattle.wiring.proofs.Accepted.{wired-iff, wired-file}
 pub use Rattle.wiring.proofs.Entries.{far-in}
 pub use Rattle.wiring.proofs.Opening.{file-room, opened-as, opened-fits}
 pub use Rattle.wiring.proofs.ShortFile.{short-file}
+pub use Rattle.wiring.proofs.Wider.{wiring-more}

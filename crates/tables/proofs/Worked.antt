@@ -4,12 +4,13 @@ use mathlib.Core.Path.{_≡_, refl}
 use mathlib.Core.List.{[], _∷_, flatMap}
 use Rattle.wiring.specs.declared.Phy.{Phy}
 use Rattle.wiring.specs.declared.Phy.the-variants.{Vacant, Present}
-use Rattle.wiring.specs.Frames.{good}
+use Rattle.wiring.specs.Frames.{refused, good, refusal}
 use Rattle.wiring.specs.Lists.{numbers, any, keep, isIn}
 use Rattle.wiring.specs.Domain.{Domain, numberOf}
 use Rattle.wiring.specs.Causes.{unanswered, endAt, claimed, clash, clashing, fixed, phyPlaces, placesFrom, firstIn, wiredDomain}
 use Rattle.wiring.specs.Graph.{strip, reach}
 use Rattle.wiring.specs.Neighbours.{cabled, neighbours}
+use Rattle.wiring.specs.Chains.{chainsWithin, unlong}
 use Rattle.wiring.specs.Links.{unlooped, joined, joinedIn, linkedDomain}
 use Rattle.tables.specs.Levels.{once, belowPhys, below, nextLevel, levelsFrom, levels}
 use Rattle.tables.specs.Tables.{heldBy, gives, give, giveAll, levelList, table}
@@ -28,14 +29,14 @@ figure50 =
     ∷ record { address = 4; indexes = 0; configurable = 0; phys = phy 2 1 2 2 ∷ phy 1 0 21 0 ∷ phy 1 0 22 0 ∷ [] }
     ∷ []
 
--- it is accepted; table 3: E0 phy 1; table 4: F phy 0
-pub figure-50 : (judgedDomain figure50 ≡ good figure50)
+-- it is accepted where a chain may have three expanders, and has one of more than two; table 3: E0 phy 1; table 4: F phy 0
+pub figure-50 : ((judgedDomain 3 figure50 ≡ good figure50) × (judgedDomain 2 figure50 ≡ refused (refusal 23 0 0)))
     × ((table figure50 1 1 ≡ 11 ∷ 12 ∷ 0 ∷ 0 ∷ [])
     × (table figure50 0 0 ≡ 3 ∷ 4 ∷ 11 ∷ 12 ∷ 21 ∷ 22 ∷ 0 ∷ 0 ∷ []))
 unfolding figure50 numbers any keep isIn numberOf unanswered endAt claimed clash clashing fixed phyPlaces placesFrom firstIn wiredDomain
-    strip reach cabled neighbours unlooped joined joinedIn linkedDomain once belowPhys below nextLevel levelsFrom levels heldBy
+    strip reach cabled neighbours unlooped joined joinedIn chainsWithin unlong linkedDomain once belowPhys below nextLevel levelsFrom levels heldBy
     gives give giveAll levelList table overlong judgedDomain flatMap
-figure-50 = (refl, (refl, refl))
+figure-50 = ((refl, refl), (refl, refl))
 
 -- from figure 50: an empty direct phy gives a disabled entry, a vacant phy none, and each direct phy of a wide drive one
 pub figure50′ : Domain

@@ -7,7 +7,8 @@ use lib.ListN.{length, getD, drop}
 use lib.Dec.{T, ltb, leb}
 use Rattle.wiring.specs.Frames.{Result, refused, good, unless, then, refusal}
 use Rattle.wiring.specs.Domain.{Domain, expanderAt, phyAt, routes}
-use Rattle.wiring.specs.File.{limits, domainRead}
+use Rattle.wiring.specs.declared.Setting.{Setting}
+use Rattle.wiring.specs.File.{domainRead}
 use Rattle.wiring.specs.Causes.{firstOf, wiredDomain}
 use Rattle.wiring.specs.Links.{linkedDomain}
 use Rattle.tables.specs.Tables.{levelList, tablePlaces, tables, needed, offset}
@@ -20,16 +21,16 @@ use Rattle.tables.specs.declared.TablesGiven.the-variants.{Refused as No
 unfoldable pub overlong : Domain → ℕ → ℕ → Bool
 overlong d i p = routes 2 (phyAt d i p) && ltb (expanderAt d i .indexes) (length (levelList d i p))
 
--- causes 7 to 14 in order
-unfoldable pub judgedDomain : Domain → Result Domain
-judgedDomain d =
+-- causes 7 to 12, 23 and 14 in order, where a chain may have so many expanders
+unfoldable pub judgedDomain : ℕ → Domain → Result Domain
+judgedDomain chain d =
     then (wiredDomain d) (λ _.
-    then (linkedDomain d) (λ _.
+    then (linkedDomain chain d) (λ _.
     firstOf 14 (overlong d) d))
 
--- a domain file past causes 1 to 14: an accepted file
-abbrev pub judged : List ℕ → Result Domain
-judged file = then (domainRead limits file) judgedDomain
+-- a domain file past all of 22, 1 to 12, 23 and 14: a file accepted under this setting
+abbrev pub judged : Setting → List ℕ → Result Domain
+judged setting file = then (domainRead setting file) (judgedDomain (setting .chain))
 
 -- what the judging call answers in document 01's terms: the number of expanders
 abbrev pub judgeAnswer : Judgement → Result ℕ
@@ -43,13 +44,13 @@ expandersIn d = good (length d)
 abbrev pub tablesFor : ℕ → Domain → Result Domain
 tablesFor room d = unless (leb (needed d) room) (refusal 16 0 0) (good d)
 
--- causes 7 to 14, and 16: the table call on a domain that was read, with room for so many words
-abbrev pub judgedTables : Domain → ℕ → Result Domain
-judgedTables d room = then (judgedDomain d) (tablesFor room)
+-- causes 7 to 12, 23 and 14, and 16: the table call on a domain that was read, with room for so many words
+abbrev pub judgedTables : ℕ → Domain → ℕ → Result Domain
+judgedTables chain d room = then (judgedDomain chain d) (tablesFor room)
 
--- the table call on a file, with room for so many words
-unfoldable pub tableCall : List ℕ → ℕ → Result Domain
-tableCall file room = then (judged file) (tablesFor room)
+-- the table call on a file under a setting, with room for so many words
+unfoldable pub tableCall : Setting → List ℕ → ℕ → Result Domain
+tableCall setting file room = then (judged setting file) (tablesFor room)
 
 -- the number of tables and of words
 pub record Counted : Type 0 where

@@ -108,9 +108,9 @@ pub record PhyIndexed (d : Domain) (first : List ℕ) (i p : ℕ) (φ : Phy) : T
 abbrev pub ownsBy : List ℕ → ℕ → ℕ → Phy → Bool
 ownsBy low i p φ = routes 0 φ || (routes 2 φ && (attached φ && eqb (lowestPhy low i p) p))
 
--- causes 7 to 14 in order, 14 by own lists, where there is room for entries of so many slots and phys: 16 otherwise
-unfoldable pub judgedIn : ℕ → ℕ → Domain → Result Domain
-judgedIn first low d = then (checkedIn first low d) (λ _. firstOf 14 (overOwn d) d)
+-- causes 7 to 12, 23 and 14 in order, 14 by own lists, where there is room for entries of so many slots and phys: 16 otherwise
+unfoldable pub judgedIn : ℕ → ℕ → ℕ → Domain → Result Domain
+judgedIn chain first low d = then (checkedIn chain first low d) (λ _. firstOf 14 (overOwn d) d)
 
 -- the words after the call, by own lists; all as they were where refused
 abbrev pub ownAfter : Result Domain → List ℕ → List ℕ

@@ -6,37 +6,44 @@ use mathlib.Core.List.{List}
 use lib.ListN.{length}
 use lib.Dec.{T}
 use Rattle.wiring.specs.Frames.{good}
+use Rattle.wiring.specs.declared.Setting.{Setting}
 use Rattle.wiring.specs.Domain.{Domain, expanderAt, phyAt, routes}
-use Rattle.wiring.specs.File.{limits, domainRead}
+use Rattle.wiring.specs.Settings.{InRange}
+use Rattle.wiring.specs.File.{domainRead}
+use Rattle.wiring.specs.Chains.{ShortChains}
 use Rattle.wiring.specs.Tested.{Passed, Linked}
 use Rattle.tables.specs.Tables.{levelList, needed}
 
--- none of causes 11, 12 and 14 holds: tables can be given
-pub record Routable (d : Domain) : Type 0 where
+-- none of causes 11, 12, 23 and 14 holds, where a chain may have so many expanders: tables can be given
+pub record Routable (chain : ℕ) (d : Domain) : Type 0 where
   -- 11 and 12: there is no loop, every expander is chained to the first
   pub linked : Linked d
+  -- 23: no chain has more expanders than the setting allows
+  pub short : ShortChains chain d
   -- 14: no level list exceeds R
   pub fits : (i p : ℕ) → T (routes 2 (phyAt d i p)) → length (levelList d i p) ≤ expanderAt d i .indexes
 
--- none of causes 1 to 12 and 14 holds: an accepted file
-pub record NoJudgingCause (file : List ℕ) : Type 0 where
+-- none of causes 22, 1 to 12, 23 and 14 holds: an accepted file
+pub record NoJudgingCause (setting : Setting) (file : List ℕ) : Type 0 where
   pub domain : Domain
+  -- 22: a setting outside its range
+  pub range : InRange setting
   -- 1 to 6, unit by unit
-  pub read : domainRead limits file ≡ good domain
+  pub read : domainRead setting file ≡ good domain
   -- 7 to 10
   pub passed : Passed domain
-  -- 11, 12 and 14
-  pub routable : Routable domain
+  -- 11, 12, 23 and 14
+  pub routable : Routable (setting .chain) domain
 
 -- none of the causes that the table call tests, with so many words lent: those, and 16
-pub record NoTableCause (file : List ℕ) (room : ℕ) : Type 0 where
-  pub judging : NoJudgingCause file
+pub record NoTableCause (setting : Setting) (file : List ℕ) (room : ℕ) : Type 0 where
+  pub judging : NoJudgingCause setting file
   -- 16: lent buffer shorter than needed
   pub enough : needed (judging .domain) ≤ room
 
--- 1 to 12, and 14, as 13 is withdrawn; and 16
+-- 1 to 12, and 14, as 13 is withdrawn; 22 and 23; and 16
 abbrev pub judgingNumber : ℕ → Type 0
-judgingNumber n = ((1 ≤ n) × (n ≤ 12)) ⊎ (n ≡ 14)
+judgingNumber n = ((1 ≤ n) × (n ≤ 12)) ⊎ ((n ≡ 14) ⊎ ((n ≡ 22) ⊎ (n ≡ 23)))
 
 abbrev pub tableNumber : ℕ → Type 0
 tableNumber n = judgingNumber n ⊎ (n ≡ 16)

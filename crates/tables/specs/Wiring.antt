@@ -8,8 +8,9 @@ unfoldable pub use Rattle.wiring.specs.Lists.{numbers, any, isIn}
 pub use Rattle.wiring.specs.Domain.{Expander, Domain, noExpander, expanderAt, phyAt, typeOf, addressOf, farOf, attributeOf, routes}
 pub use Rattle.wiring.specs.Domain.{attached, toEnd, toExpander, bears}
 unfoldable pub use Rattle.wiring.specs.Domain.{numberOf}
-pub use Rattle.wiring.specs.declared.Limits.{Limits}
-pub use Rattle.wiring.specs.File.{limits, domainRead}
+pub use Rattle.wiring.specs.declared.Setting.{Setting}
+pub use Rattle.wiring.specs.Settings.{InRange, widest, NoSmaller}
+pub use Rattle.wiring.specs.File.{domainRead}
 pub use Rattle.wiring.specs.Read.{Read}
 pub use Rattle.wiring.specs.ShortFile.{shortFile}
 pub use Rattle.wiring.specs.Rows.{domainIn}
@@ -18,5 +19,5 @@ unfoldable pub use Rattle.wiring.specs.Causes.{phyPlaces, placesFrom}
 pub use Rattle.wiring.specs.Checks.{checkAnswer, FileRoom}
 pub use Rattle.wiring.specs.Addresses.{IndexedFirst}
 pub use Rattle.wiring.specs.Graph.{Steps, self}
-pub use Rattle.wiring.specs.Neighbours.{neighbours}
+pub use Rattle.wiring.specs.Neighbours.{neighbours, wiringCall}
 pub use Rattle.wiring.specs.Devices.{LoopIn, ChainIn, TableToTable, Clear, ClearChain, NoTableToTable, Home, Borne}

@@ -8,6 +8,7 @@ use wiring::DomainRead;
 use wiring::ExpanderNumber;
 use wiring::PhyId;
 use wiring::Refusal;
+use wiring::Setting;
 ghost use mathlib.Core.Path.{_≡_};
 ghost use lib.ListN.{length};
 ghost use Rattle.wiring.specs.Frames.{then};
@@ -17,13 +18,14 @@ ghost use Rattle.wiring.specs.Addresses.{Indexed};
 ghost use Rattle.tables.specs.Judge.{judged, judgeAnswer, expandersIn, tablesFor, tableCall, TablesDone};
 ghost use Rattle.tables.specs.Prepared.{judgedIn, OwnDone};
 
-// Causes 7 to 14 in order, 14 by own lists: on a domain that was read from a file, `judgedDomain`. `first` and `low`
-// have room for who has which address, and hold it where it passed; 16 where there is too little room.
-pub fn judge_rows(rows: &[u64], first: &mut [u16], low: &mut [u8]) -> Check
-    ensures { λ r. ⌜ checkAnswer (domainIn (now (rows .entry))) r ≡ judgedIn (length (now (first .entry))) (length (now (low .entry))) (domainIn (now (rows .entry))) ⌝ }
+// Causes 7 to 12, 23 and 14 in order, 14 by own lists: on a domain that was read from a file, `judgedDomain`. A chain
+// may have `chain` expanders. `first` and `low` have room for who has which address, and hold it where it passed; 16
+// where there is too little room.
+pub fn judge_rows(rows: &[u64], first: &mut [u16], low: &mut [u8], chain: u8) -> Check
+    ensures { λ r. ⌜ checkAnswer (domainIn (now (rows .entry))) r ≡ judgedIn chain (length (now (first .entry))) (length (now (low .entry))) (domainIn (now (rows .entry))) ⌝ }
     ensures { λ r. ⌜ (r ≡ Check.Passed → Indexed (domainIn (now (rows .entry))) (now (first .exit)) (now (low .exit))) ⌝ }
 {
-    let checked = wiring::check_domain(rows, first, low);
+    let checked = wiring::check_domain(rows, first, low, chain);
     match checked {
         Check::Refused(r) => Check::Refused(r),
         Check::Passed => overlong::first_overlong(rows, first, low),
@@ -31,16 +33,22 @@ pub fn judge_rows(rows: &[u64], first: &mut [u16], low: &mut [u8]) -> Check
 }
 
 // The judging call, with room for the rows of the file's domain and for who has which address.
-fn judge_in(file: &[u8], rows: &mut [u64], first: &mut [u16], low: &mut [u8]) -> Judgement
-    requires { ⌜ FileRoom (now file) (now rows) (now first) (now low) ⌝ }
-    ensures { λ r. ⌜ judgeAnswer r ≡ then (judged (now (file .entry))) expandersIn ⌝ }
+fn judge_in(
+    setting: Setting,
+    file: &[u8],
+    rows: &mut [u64],
+    first: &mut [u16],
+    low: &mut [u8],
+) -> Judgement
+    requires { ⌜ FileRoom setting (now file) (now rows) (now first) (now low) ⌝ }
+    ensures { λ r. ⌜ judgeAnswer r ≡ then (judged setting (now (file .entry))) expandersIn ⌝ }
 {
-    let read = wiring::read_domain(file, rows);
+    let read = wiring::read_domain(setting, file, rows);
     match read {
         DomainRead::Refused(r) => Judgement::Refused(r),
         DomainRead::Expanders(n) => {
             let e = 258 * (n as usize);
-            let verdict = judge_rows(&rows[..e], first, low);
+            let verdict = judge_rows(&rows[..e], first, low, setting.chain);
             match verdict {
                 Check::Refused(r) => Judgement::Refused(r),
                 Check::Passed => Judgement::Expanders(n),
@@ -49,36 +57,42 @@ fn judge_in(file: &[u8], rows: &mut [u64], first: &mut [u16], low: &mut [u8]) ->
     }
 }
 
-// The judging call: causes 1 to 14, or the number of expanders. Few expanders need little room.
-pub fn judge(file: &[u8]) -> Judgement
-    ensures { λ r. ⌜ judgeAnswer r ≡ then (judged (now (file .entry))) expandersIn ⌝ }
+// The judging call: causes 22, 1 to 12, 23 and 14, or the number of expanders. Few expanders need little room.
+pub fn judge(setting: Setting, file: &[u8]) -> Judgement
+    ensures { λ r. ⌜ judgeAnswer r ≡ then (judged setting (now (file .entry))) expandersIn ⌝ }
 {
     let n = wiring::stated_count(file);
     if n <= 2 {
         let mut rows = [0u64; 516];
         let mut first = [0u16; 320];
         let mut low = [0u8; 256];
-        return judge_in(file, &mut rows[..], &mut first[..], &mut low[..]);
+        return judge_in(setting, file, &mut rows[..], &mut first[..], &mut low[..]);
     }
     if n <= 8 {
         let mut rows = [0u64; 2064];
         let mut first = [0u16; 1088];
         let mut low = [0u8; 1024];
-        return judge_in(file, &mut rows[..], &mut first[..], &mut low[..]);
+        return judge_in(setting, file, &mut rows[..], &mut first[..], &mut low[..]);
     }
     let mut rows = [0u64; 16512];
     let mut first = [0u16; 8256];
     let mut low = [0u8; 8192];
-    judge_in(file, &mut rows[..], &mut first[..], &mut low[..])
+    judge_in(setting, file, &mut rows[..], &mut first[..], &mut low[..])
 }
 
-// Causes 7 to 14 as `judge_rows` has them, then 16, then all tables by own lists: on a domain that was read from a
+// Causes 7 to 12, 23 and 14 as `judge_rows` has them, then 16, then all tables by own lists: on a domain that was read from a
 // file, the tables of the table call. The words after stay, and all of them where it is refused.
-pub fn give_rows(rows: &[u64], first: &mut [u16], low: &mut [u8], words: &mut [u64]) -> TablesGiven
-    ensures { λ r. ⌜ OwnDone (then (judgedIn (length (now (first .entry))) (length (now (low .entry))) (domainIn (now (rows .entry)))) (tablesFor (length (now (words .entry)))))
+pub fn give_rows(
+    rows: &[u64],
+    first: &mut [u16],
+    low: &mut [u8],
+    words: &mut [u64],
+    chain: u8,
+) -> TablesGiven
+    ensures { λ r. ⌜ OwnDone (then (judgedIn chain (length (now (first .entry))) (length (now (low .entry))) (domainIn (now (rows .entry)))) (tablesFor (length (now (words .entry)))))
         r (now (words .entry)) (now (words .exit)) ⌝ }
 {
-    let verdict = judge_rows(rows, first, low);
+    let verdict = judge_rows(rows, first, low, chain);
     match verdict {
         Check::Refused(r) => TablesGiven::Refused(r),
         Check::Passed => {
@@ -99,46 +113,68 @@ pub fn give_rows(rows: &[u64], first: &mut [u16], low: &mut [u8], words: &mut [u
 
 // The table call, with room for the rows of the file's domain and for who has which address.
 fn give_in(
+    setting: Setting,
     file: &[u8],
     rows: &mut [u64],
     first: &mut [u16],
     low: &mut [u8],
     words: &mut [u64],
 ) -> TablesGiven
-    requires { ⌜ FileRoom (now file) (now rows) (now first) (now low) ⌝ }
-    ensures { λ r. ⌜ TablesDone (tableCall (now (file .entry)) (length (now (words .entry)))) r (now (words .entry)) (now (words .exit)) ⌝ }
+    requires { ⌜ FileRoom setting (now file) (now rows) (now first) (now low) ⌝ }
+    ensures { λ r. ⌜ TablesDone (tableCall setting (now (file .entry)) (length (now (words .entry)))) r (now (words .entry)) (now (words .exit)) ⌝ }
 {
-    let read = wiring::read_domain(file, rows);
+    let read = wiring::read_domain(setting, file, rows);
     match read {
         DomainRead::Refused(r) => TablesGiven::Refused(r),
         DomainRead::Expanders(n) => {
             let e = 258 * (n as usize);
-            give_rows(&rows[..e], first, low, words)
+            give_rows(&rows[..e], first, low, words, setting.chain)
         }
     }
 }
 
-// The table call: causes 1 to 14, then 16. It writes all tables, by expander and then phy, and
+// The table call: causes 22, 1 to 12, 23 and 14, then 16. It writes all tables, by expander and then phy, and
 // answers how many tables and words there are. The words after stay, and all of them where it is
 // refused. Few expanders need little room.
-pub fn give_tables(file: &[u8], words: &mut [u64]) -> TablesGiven
-    ensures { λ r. ⌜ TablesDone (tableCall (now (file .entry)) (length (now (words .entry)))) r (now (words .entry)) (now (words .exit)) ⌝ }
+pub fn give_tables(setting: Setting, file: &[u8], words: &mut [u64]) -> TablesGiven
+    ensures { λ r. ⌜ TablesDone (tableCall setting (now (file .entry)) (length (now (words .entry)))) r (now (words .entry)) (now (words .exit)) ⌝ }
 {
     let n = wiring::stated_count(file);
     if n <= 2 {
         let mut rows = [0u64; 516];
         let mut first = [0u16; 320];
         let mut low = [0u8; 256];
-        return give_in(file, &mut rows[..], &mut first[..], &mut low[..], words);
+        return give_in(
+            setting,
+            file,
+            &mut rows[..],
+            &mut first[..],
+            &mut low[..],
+            words,
+        );
     }
     if n <= 8 {
         let mut rows = [0u64; 2064];
         let mut first = [0u16; 1088];
         let mut low = [0u8; 1024];
-        return give_in(file, &mut rows[..], &mut first[..], &mut low[..], words);
+        return give_in(
+            setting,
+            file,
+            &mut rows[..],
+            &mut first[..],
+            &mut low[..],
+            words,
+        );
     }
     let mut rows = [0u64; 16512];
     let mut first = [0u16; 8256];
     let mut low = [0u8; 8192];
-    give_in(file, &mut rows[..], &mut first[..], &mut low[..], words)
+    give_in(
+        setting,
+        file,
+        &mut rows[..],
+        &mut first[..],
+        &mut low[..],
+        words,
+    )
 }

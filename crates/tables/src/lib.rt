@@ -23,6 +23,7 @@ pub use wiring::ExpanderNumber;
 pub use wiring::Phy;
 pub use wiring::PhyId;
 pub use wiring::Refusal;
+pub use wiring::Setting;
 pub use wiring::expander_address;
 pub use wiring::expander_count;
 pub use wiring::far_number;
@@ -35,6 +36,7 @@ pub use wiring::phy_far;
 pub use wiring::phy_type;
 pub use wiring::read_domain;
 pub use wiring::stated_count;
+pub use wiring::widest;
 
 // What the judging call answers: the number of expanders.
 pub enum Judgement {

@@ -8,7 +8,7 @@ use lib.ListN.{length}
 use lib.Dec.{T, eqb}
 use Rattle.tables.specs.Wiring.{In, Domain, expanderAt, phyAt, addressOf, farOf, routes, attached, toEnd, toExpander, numberOf, self, neighbours, ChainIn, Clear, ClearChain, Home, Borne}
 use Rattle.tables.specs.Tables.{heldBy, levelList, table, tables, stretch}
-use Rattle.tables.proofs.Wiring.{is-true, eq→eqb, neqb, in-cast, last-in, at-most, same-rest, same-chain, rest-of, Joined, prepend, Way, Wired, one-step, end-attached, expander-attached, attached-cases, in-range, differ, far-below, far-is, to-adj, adj-symmetric}
+use Rattle.tables.proofs.Wiring.{is-true, eq→eqb, neqb, in-cast, last-in, at-most, same-rest, same-chain, rest-of, Joined, all-joined, Way, Wired, one-step, end-attached, expander-attached, attached-cases, in-range, differ, far-below, far-is, to-adj, adj-symmetric}
 use Rattle.tables.proofs.Beyond.{Table, Sub, adj-cases, one-sub}
 use Rattle.tables.proofs.Listed.{held-cases, held-self, held-phy, list-beyond, beyond-list}
 use Rattle.tables.proofs.Tables.{in-table}
@@ -88,24 +88,10 @@ module _ (d : Domain) (w : Wired d) where
   unfolding traced
   traced-borne words s i arrival h = arrived-borne words s (length d) i arrival h
 
-  module _ (r : Routable d) where
-    -- a chain joins any two expanders, by way of expander 0
-    back-to : (a i m : ℕ) (l : List ℕ) → Way d a i l → Joined (length d) (neighbours d) a m → Joined (length d) (neighbours d) i m
-    back-to a i m [] c o = subst (λ v. Joined (length d) (neighbours d) v m) (c .ends) o
-    back-to a i m (b ∷ l) c o =
-        back-to b i m l (rest-of (length d) (neighbours d) a i b l c)
-        (prepend (length d) (neighbours d) b a m (c .below b (inr (inl refl))) (adj-symmetric d a b (c .steps .0)) o)
-
-    tail-of : (i m : ℕ) (l : List ℕ) → ChainIn d i m l → Joined (length d) (neighbours d) i m
-    tail-of i m [] c = absurd c
-    tail-of i m (x ∷ l) c = (l, subst (λ v. Way d v m l) (c .0) (c .1))
-
+  module _ {chain : ℕ} (r : Routable chain d) where
+    -- a chain joins any two expanders
     pub joined-all : (i m : ℕ) → i < length d → m < length d → Joined (length d) (neighbours d) i m
-    joined-all i m h k =
-        let a = r .linked .chained i h in
-        let b = r .linked .chained m k in
-        let o = tail-of 0 i (a .0) (a .1) in
-        back-to 0 i m (o .0) (o .1) (tail-of 0 m (b .0) (b .1))
+    joined-all = all-joined d (r .linked .chained)
 
     pub one-chain : (i m : ℕ) (p q : List ℕ) → ChainIn d i m p → ChainIn d i m q → p ≡ q
     one-chain i m p q = same-chain (length d) (neighbours d) (adj-symmetric d) (r .linked .noLoop) i m p q

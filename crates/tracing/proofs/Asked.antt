@@ -6,7 +6,7 @@ use mathlib.Core.Bool.{Bool, not, _||_, _&&_}
 use mathlib.Core.List.{List}
 use lib.ListN.{length}
 use lib.Dec.{T, eqb, ltb, leb, eqb→eq, ltb→lt, lt→ltb, leb→le, le→leb, not-T, T-not}
-use Rattle.tables.specs.Wiring.{Refusal, refused, good, unless, refusal, Domain, phyAt, toEnd, limits, domainRead}
+use Rattle.tables.specs.Wiring.{Refusal, refused, good, unless, refusal, Domain, phyAt, toEnd, Setting, domainRead}
 use Rattle.tables.specs.Tables.{needed}
 use Rattle.tables.proofs.Wiring.{tests, or-cases, or-left, or-right, eq→eqb, unless-good, good-unless}
 use Rattle.tables.specs.Judge.{judgedDomain}
@@ -82,22 +82,22 @@ module _ (d : Domain) (words : List ℕ) (q : Request) (before : List ℕ) where
   answer-yes e w = rw (sym e) (record { answers = w .ends; bytes = w .bytes })
 
 -- the trace call past causes 1 to 6
-module _ (first low : ℕ) (d : Domain) (words before : List ℕ) (q : Request) where
-  pub rows-refused : (r : Refusal) → judgedIn first low d ≡ refused r → TraceDone (requestIn first low d words (length before) q) (Refused r) before before
+module _ (chain first low : ℕ) (d : Domain) (words before : List ℕ) (q : Request) where
+  pub rows-refused : (r : Refusal) → judgedIn chain first low d ≡ refused r → TraceDone (requestIn chain first low d words (length before) q) (Refused r) before before
   unfolding requestIn
   rows-refused r e = rw e (record { answers = refl; bytes = refl })
 
-  pub rows-done : (answer : TraceAnswer) (after : List ℕ) → judgedIn first low d ≡ good d
-      → TraceDone (tracedRequest d words (length before) q) answer before after → TraceDone (requestIn first low d words (length before) q) answer before after
+  pub rows-done : (answer : TraceAnswer) (after : List ℕ) → judgedIn chain first low d ≡ good d
+      → TraceDone (tracedRequest d words (length before) q) answer before after → TraceDone (requestIn chain first low d words (length before) q) answer before after
   unfolding requestIn
   rows-done answer after e a = rw e a
 
-module _ (file words before : List ℕ) (q : Request) where
-  pub call-refused : (r : Refusal) → domainRead limits file ≡ refused r → TraceDone (traceCall file words (length before) q) (Refused r) before before
+module _ (setting : Setting) (file words before : List ℕ) (q : Request) where
+  pub call-refused : (r : Refusal) → domainRead setting file ≡ refused r → TraceDone (traceCall setting file words (length before) q) (Refused r) before before
   unfolding traceCall
   call-refused r e = rw e (record { answers = refl; bytes = refl })
 
-  pub call-done : (first low : ℕ) (d : Domain) (answer : TraceAnswer) (after : List ℕ) → domainRead limits file ≡ good d → judgedIn first low d ≡ judgedDomain d
-      → TraceDone (requestIn first low d words (length before) q) answer before after → TraceDone (traceCall file words (length before) q) answer before after
+  pub call-done : (first low : ℕ) (d : Domain) (answer : TraceAnswer) (after : List ℕ) → domainRead setting file ≡ good d → judgedIn (setting .chain) first low d ≡ judgedDomain (setting .chain) d
+      → TraceDone (requestIn (setting .chain) first low d words (length before) q) answer before after → TraceDone (traceCall setting file words (length before) q) answer before after
   unfolding traceCall requestIn
   call-done first low d answer after e j a = rw e (rw j at a)

@@ -1,4 +1,4 @@
--- Demand 3, whole: over a domain that is read, under any limits, and past causes 7 to 10; and over a domain file.
+-- Demand 3, whole: over a domain that is read, under any setting, and past causes 7 to 10; and over a domain file.
 use mathlib.Core.Path.{_≡_, refl, sym, ap, subst, _∙_}
 use mathlib.Core.Logic.{inl, inr, _↔_, ⊎-elim}
 use mathlib.Core.List.{List, [], _∷_, _++_}
@@ -6,7 +6,7 @@ use Prim.Native.Nat.{ℕ, _≤_, _<_}
 use native.Mathlib.Omega.{arith}
 use lib.ListN.{length, take, drop}
 use lib.Seq.{take-at}
-use Rattle.tables.specs.Wiring.{Result, good, then, Distinct, Below, Limits, limits, Domain, Read, wiredDomain, wired}
+use Rattle.tables.specs.Wiring.{Result, good, then, Distinct, Below, Setting, Domain, Read, wiredDomain, wired}
 use Rattle.tables.specs.Wiring.{NoTableToTable, Home, Borne}
 use Rattle.tables.specs.Tables.{tables, needed}
 use Rattle.tables.specs.Judge.{judgedDomain, tablesFor, judgedTables, tableCall, TablesDone}
@@ -27,13 +27,13 @@ use Rattle.tracing.proofs.Passing.{passes-once, passes-below, steps-tak
 use Rattle.tracing.proofs.Arrives.{tables-given, traced-borne, joined-all, one-chain, traced-arrives, ends-nowhere}
 
 -- every phy identifier is below 255: arrival phy 255 is the expander itself
-module _ (most : Limits) (d : Domain) (read : Read most d) (few : most .phys ≤ 255) (past : wiredDomain d ≡ good d) where
+module _ (most : Setting) (d : Domain) (read : Read most d) (past : wiredDomain d ≡ good d) (chain : ℕ) where
   w : Wired d
-  w = wired-iff most d read few .0 past
+  w = wired-iff most d read .0 past
 
   -- a request over words: the domain is accepted, the request passes causes 15 to 17, and the answer and the bytes are those of its trace
   record Answer (words : List ℕ) (q : Request) (e : End) (lent after : List ℕ) : Type 0 where
-    routable : Routable d
+    routable : Routable chain d
     asks : Asks q (length words) (length lent) d
     outcome : e .outcome ≡ traced d words q .outcome
     end : e .last .0 ≡ traced d words q .last
@@ -41,14 +41,14 @@ module _ (most : Limits) (d : Domain) (read : Read most d) (few : most .phys ≤
     count : e .count ≡ length (traced d words q .passed)
     bytes : after ≡ traced d words q .passed ++ drop (length (traced d words q .passed)) lent
 
-  answer : (words : List ℕ) (q : Request) (e : End) (lent after : List ℕ) → Over d (judgedTables d) (judgedRequest d) words q e lent after
+  answer : (words : List ℕ) (q : Request) (e : End) (lent after : List ℕ) → Over d (judgedTables chain d) (judgedRequest chain d) words q e lent after
       → Answer words q e lent after
   unfolding judgedRequest tracedRequest
   answer words q e lent after o =
       let n : Reported = record { outcome = e .outcome; last = e .last .0; phy = e .phy .0; count = e .count } in
-      let a = then-good (judgedRequest d words (length lent) q) report n (sym (o .answers)) in
-      let b = then-good (judgedDomain d) _ (a .0) (a .1) in
-      let r = judged-routable d (b .0) (b .1) in
+      let a = then-good (judgedRequest chain d words (length lent) q) report n (sym (o .answers)) in
+      let b = then-good (judgedDomain chain d) _ (a .0) (a .1) in
+      let r = judged-routable chain d (b .0) (b .1) in
       let c = then-good (requested q (length words) (length lent) (b .0)) _ (a .0) (b .2) in
       let t = traced d words q in
       let f : requested q (length words) (length lent) d ≡ good (c .0) = ap (requested q (length words) (length lent)) (r .0) ∙ c .1 in
@@ -104,24 +104,24 @@ module _ (most : Limits) (d : Domain) (read : Read most d) (few : most .phys ≤
 
   -- with room, the table call answers counts exactly when the domain is routable
   counts-routable : (before words : List ℕ) (answer : TablesGiven) → needed d ≤ length before
-      → TablesDone (judgedTables d (length before)) answer before words → ((t w : ℕ) × (answer ≡ Counts t w)) ↔ Routable d
+      → TablesDone (judgedTables chain d (length before)) answer before words → ((t w : ℕ) × (answer ≡ Counts t w)) ↔ Routable chain d
   counts-routable before words answer h o =
-      let c = counts-iff (judgedTables d (length before)) answer before words o in (
-        λ g. let x = c .0 g in tables-same d (x .0) (length before) (x .1) .1,
-        λ r. c .1 (d, tables-iff (judgedDomain d) (length before) d .1 (routable-iff d past .1 r, h)),
+      let c = counts-iff (judgedTables chain d (length before)) answer before words o in (
+        λ g. let x = c .0 g in tables-same chain d (x .0) (length before) (x .1) .1,
+        λ r. c .1 (d, tables-iff (judgedDomain chain d) (length before) d .1 (routable-iff chain d past .1 r, h)),
       )
 
   ends-home : (s m p : ℕ) → EndsAt d s m p → Home d s m
   ends-home s m p = ⊎-elim (λ e. inl (e .0)) (λ e. inr (p, e .0, e .1))
 
   -- a request over the tables given
-  module _ (q : Request) (e : End) (lent after : List ℕ) (o : OverTables d (judgedTables d) (judgedRequest d) q e lent after) where
+  module _ (q : Request) (e : End) (lent after : List ℕ) (o : OverTables d (judgedTables chain d) (judgedRequest chain d) q e lent after) where
     abbrev rest : List ℕ
     rest = drop (needed d) (o .before)
 
     -- the words are the tables, and the words lent after them
     words-are : o .words ≡ tables d ++ rest
-    words-are = tables-of d (o .tableCount) (o .wordCount) (o .before) (o .words) (o .given) .left
+    words-are = tables-of chain d (o .tableCount) (o .wordCount) (o .before) (o .words) (o .given) .left
 
     a : Answer (tables d ++ rest) q e lent after
     a = subst (λ l. Answer l q e lent after) words-are (answer (o .words) q e lent after (o .over))
@@ -157,7 +157,7 @@ module _ (most : Limits) (d : Domain) (read : Read most d) (few : most .phys ≤
         ∙ ends-nowhere d w (a .routable) (tables d ++ rest) (tables-given d rest) (q .address) (a .asks .nonzero) (q .start) (q .arrival) (a .asks .start) b
 
   -- of the table call and the trace call on the domain
-  pub demand3 : Demand3 d (judgedTables d) (judgedRequest d)
+  pub demand3 : Demand3 d (judgedTables chain d) (judgedRequest chain d) chain
   demand3 = record {
     given = counts-routable;
     mission = λ q e lent after o un. record { arrives = arrives-iff q e lent after o un; along = delivered q e lent after o un; otherwise = nobody-bears q e lent after o };
@@ -168,23 +168,26 @@ module _ (most : Limits) (d : Domain) (read : Read most d) (few : most .phys ≤
   }
 
 -- where the domain has no table-to-table link, every request over the tables given ends as in the mission
-pub demand3-clear : (d : Domain) (tableCalled : ℕ → Result Domain) (traceCalled : List ℕ → ℕ → Request → Result Traced) → Demand3 d tableCalled traceCalled
+pub demand3-clear : (d : Domain) (tableCalled : ℕ → Result Domain) (traceCalled : List ℕ → ℕ → Request → Result Traced) (chain : ℕ)
+    → Demand3 d tableCalled traceCalled chain
     → NoTableToTable d → (q : Request) (e : End) (lent after : List ℕ) → OverTables d tableCalled traceCalled q e lent after
     → Mission d q e lent after
-demand3-clear d tableCalled traceCalled c n q e lent after o = c .mission q e lent after o uncrossed
+demand3-clear d tableCalled traceCalled chain c n q e lent after o = c .mission q e lent after o uncrossed
   where
     uncrossed : Uncrossed d q
     uncrossed m k home [] f = absurd f
     uncrossed m k home (i ∷ l) f = all-clear d n i l
 
 -- demand 3 of the table call and the trace call on a file that reads as x
-abbrev FromFile : Domain → Result Domain → Type 0
-FromFile d x =
-    Demand3 d (λ room. then (then x judgedDomain) (tablesFor room)) (λ words bytes q. then (then x judgedDomain) (λ y. tracedRequest y words bytes q))
+abbrev FromFile : ℕ → Domain → Result Domain → Type 0
+FromFile chain d x =
+    Demand3 d (λ room. then (then x (judgedDomain chain)) (tablesFor room))
+    (λ words bytes q. then (then x (judgedDomain chain)) (λ y. tracedRequest y words bytes q)) chain
 
--- a file past causes 1 to 10: demand 3 of what `give_tables` and `trace` promise of it
-pub demand3-file : (file : List ℕ) (d : Domain) → wired file ≡ good d → Demand3 d (tableCall file) (traceCall file)
+-- a file past causes 22 and 1 to 10, under any setting: demand 3 of what `give_tables` and `trace` promise of it
+pub demand3-file : (setting : Setting) (file : List ℕ) (d : Domain) → wired setting file ≡ good d
+    → Demand3 d (tableCall setting file) (traceCall setting file) (setting .chain)
 unfolding tableCall traceCall judgedRequest
-demand3-file file d e =
-    let r = wired-file file d .0 e in
-    subst (FromFile d) (sym (r .0)) (demand3 limits d (read-good limits file d (r .0)) (omega arith) (r .1))
+demand3-file setting file d e =
+    let r = wired-file setting file d .0 e in
+    subst (FromFile (setting .chain) d) (sym (r .0)) (demand3 setting d (read-good setting file d (r .0)) (r .1) (setting .chain))

@@ -10,3 +10,4 @@ pub mod Demand
 pub mod Exactly
 pub mod Pair
 pub mod LongFrames
+pub mod Courses

@@ -4,16 +4,17 @@ use Prim.Native.Nat.{ℕ}
 use mathlib.Core.Path.{_≡_, refl}
 use mathlib.Core.List.{List, [], _∷_, _++_}
 use lib.ListN.{take, drop, replicate}
-use Rattle.tables.specs.Wiring.{refused, refusal, limits}
+use Rattle.tables.specs.Wiring.{refused, refusal, Setting, widest}
 use Rattle.tables.specs.Judge.{judged}
 use Rattle.tables.proofs.LongFrames.{short-judged}
-use Rattle.tables.proofs.Opened.{numberAt, bytesOf, frameSize, generalFixed, generalRead, discoverFixed, discoverRead, any, isIn, sizeAt, phyUnit, phyUnits, expanderUnit, expanders, headerUnit, domainRead, shortPhys, shortExpanders, shortFile}
+use Rattle.tables.proofs.Opened.{numberAt, bytesOf, frameSize, generalFixed, generalRead, discoverFixed, discoverRead, any, isIn, sizeAt, phyUnit, phyUnits, expanderUnit, expanders, headerUnit, domainRead, shortPhys, shortExpanders, shortFile, inRange}
 use Rattle.tracing.specs.Trace.{Request, traceCall}
 use Rattle.tracing.proofs.Pair.{general, discover, at, pair}
 
-pub short-traces : (file words : List ℕ) (bytes : ℕ) (q : Request) → traceCall (shortFile limits file) words bytes q ≡ traceCall file words bytes q
+pub short-traces : (setting : Setting) (file words : List ℕ) (bytes : ℕ) (q : Request)
+    → traceCall setting (shortFile setting file) words bytes q ≡ traceCall setting file words bytes q
 unfolding traceCall
-short-traces file words bytes q = rw (short-judged file)
+short-traces setting file words bytes q = rw (short-judged setting file)
 
 -- the long frame of a short one: byte 3, and other bytes after it
 unfoldable pub long : ℕ → ℕ → List ℕ → List ℕ
@@ -32,8 +33,8 @@ mixed =
     ++ long 0x0f 12 (discover 2 0 (at 0x20) 0 0 0)))))))))
 
 -- its short file is the pair rig's file; cut by a byte it is refused at the last phy, and the frames before are cut all the same
-pub mixed-pair : (shortFile limits mixed ≡ pair 4)
-    × ((judged (take 397 mixed) ≡ refused (refusal 1 1 2)) × (shortFile limits (take 397 mixed) ≡ take 282 (pair 4) ++ drop 334 (take 397 mixed)))
+pub mixed-pair : (shortFile widest mixed ≡ pair 4)
+    × ((judged widest (take 397 mixed) ≡ refused (refusal 1 1 2)) × (shortFile widest (take 397 mixed) ≡ take 282 (pair 4) ++ drop 334 (take 397 mixed)))
 unfolding mixed long general discover pair numberAt bytesOf frameSize generalFixed generalRead discoverFixed discoverRead any isIn sizeAt phyUnit phyUnits expanderUnit expanders headerUnit
-    domainRead shortPhys shortExpanders shortFile
+    inRange domainRead shortPhys shortExpanders shortFile
 mixed-pair = (refl, (refl, refl))

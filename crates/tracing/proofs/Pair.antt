@@ -6,8 +6,8 @@ use mathlib.Core.List.{List, [], _∷_, _++_, flatMap}
 use native.Mathlib.Omega.{arith}
 use lib.ListN.{length, drop, replicate, set, length-append}
 use lib.Dec.{T}
-use Rattle.tables.specs.Wiring.{Phy, Present, Result, refused, good, then, refusal, Domain, phyAt, toEnd, limits}
-use Rattle.tables.proofs.Opened.{numberAt, bytesOf, frameSize, generalFixed, generalRead, discoverFixed, discoverRead, numbers, any, keep, isIn, numberOf, sizeAt, phyUnit, phyUnits, expanderUnit, expanders, headerUnit, domainRead, unanswered, endAt, claimed, clash, clashing, fixed, phyPlaces, placesFrom, firstIn, wiredDomain, strip, reach, cabled, neighbours, unlooped, joined, joinedIn, linkedDomain}
+use Rattle.tables.specs.Wiring.{Phy, Present, Result, refused, good, then, refusal, Domain, phyAt, toEnd, widest}
+use Rattle.tables.proofs.Opened.{numberAt, bytesOf, frameSize, generalFixed, generalRead, discoverFixed, discoverRead, numbers, any, keep, isIn, numberOf, sizeAt, phyUnit, phyUnits, expanderUnit, expanders, headerUnit, domainRead, unanswered, endAt, claimed, clash, clashing, fixed, phyPlaces, placesFrom, firstIn, wiredDomain, strip, reach, cabled, neighbours, inRange, chainsWithin, unlong, unlooped, joined, joinedIn, linkedDomain}
 use Rattle.tables.proofs.Wiring.{good-then}
 use Rattle.tables.proofs.Given.{tableCall-iff}
 use Rattle.tables.specs.Levels.{once, belowPhys, below, nextLevel, levelsFrom, levels}
@@ -66,20 +66,20 @@ words = at 0xb1 ∷ 0 ∷ 0 ∷ 0 ∷ []
 
 -- what the judging call answers of a file
 abbrev pub Judges : List ℕ → Result ℕ → Type 0
-Judges file said = (answer : Judgement) → judgeAnswer answer ≡ then (judged file) expandersIn → judgeAnswer answer ≡ said
+Judges file said = (answer : Judgement) → judgeAnswer answer ≡ then (judged widest file) expandersIn → judgeAnswer answer ≡ said
 
 -- what the trace call over the rig and these words answers a request, with a byte lent for each expander: outcome, last expander, phy and
 -- count, and the lent bytes after
 abbrev pub Traces : List ℕ → Request → Outcome → ℕ → ℕ → ℕ → List ℕ → Type 0
 Traces lent q outcome last phy count passed =
-    (before after : List ℕ) (answer : TraceAnswer) → 2 ≤ length before → TraceDone (traceCall (pair 4) lent (length before) q) answer before after
+    (before after : List ℕ) (answer : TraceAnswer) → 2 ≤ length before → TraceDone (traceCall widest (pair 4) lent (length before) q) answer before after
     → (traceAnswer answer ≡ good (record { outcome = outcome; last = last; phy = phy; count = count })) × (after ≡ passed ++ drop count before)
 
 -- the calls' contracts on the rig, each with what it gives; `rest` are words lent after the tables
 pub record PairRig : Type 0 where
   pub bytes : length (pair 4) ≡ 334
-  pub read : domainRead limits (pair 4) ≡ good (rig 4)
-  pub listing : (before after : List ℕ) (answer : TablesGiven) → 4 ≤ length before → TablesDone (tableCall (pair 4) (length before)) answer before after
+  pub read : domainRead widest (pair 4) ≡ good (rig 4)
+  pub listing : (before after : List ℕ) (answer : TablesGiven) → 4 ≤ length before → TablesDone (tableCall widest (pair 4) (length before)) answer before after
       → (tablesAnswer answer ≡ good (record { tableCount = 1; wordCount = 4 })) × (after ≡ words ++ drop 4 before)
   pub accepted : Judges (pair 4) (good 2)
   pub indexes2 : Judges (pair 2) (good 2)
@@ -94,12 +94,12 @@ pub record PairRig : Type 0 where
   pub zeroed : (rest : List ℕ) → Traces (set words 0 0 ++ rest) (request 0 255 (at 0xb1)) NoDestination 0 255 1 (0 ∷ [])
 
 -- the file is accepted, and its domain has one table, of four words
-rig-judged : judged (pair 4) ≡ good (rig 4)
+rig-judged : judged widest (pair 4) ≡ good (rig 4)
 unfolding general discover pair rig
     numberAt bytesOf frameSize generalFixed generalRead discoverFixed discoverRead
-    numbers any keep isIn numberOf sizeAt phyUnit phyUnits expanderUnit expanders headerUnit domainRead
+    numbers any keep isIn numberOf sizeAt phyUnit phyUnits expanderUnit expanders headerUnit inRange domainRead
     unanswered endAt claimed clash clashing fixed phyPlaces placesFrom firstIn wiredDomain
-    strip reach cabled neighbours unlooped joined joinedIn linkedDomain
+    strip reach cabled neighbours unlooped joined joinedIn chainsWithin unlong linkedDomain
     once belowPhys below nextLevel levelsFrom levels flatMap
     heldBy gives give giveAll levelList overlong judgedDomain
 rig-judged = refl
@@ -125,8 +125,8 @@ traces lent q t a e before after answer h o =
     let b : Asks q (length lent) (length before) (rig 4) =
     record { start = a .start; arrivesBy = a .arrivesBy; enoughWords = a .enoughWords; enoughBytes = omega arith; nonzero = a .nonzero } in
     let r = requested-iff (length lent) (length before) q (rig 4) .1 b in
-    let c : traceCall (pair 4) lent (length before) q ≡ good t =
-    good-then (judged (pair 4)) _ (rig 4) t rig-judged
+    let c : traceCall widest (pair 4) lent (length before) q ≡ good t =
+    good-then (judged widest (pair 4)) _ (rig 4) t rig-judged
     (good-then (requested q (length lent) (length before) (rig 4)) _ (r .0) t (r .1) (ap good e)) in
     (o .answers ∙ ap (λ x. then x report) c, o .bytes ∙ ap (λ x. bytesAfter x before) c)
 
@@ -139,9 +139,9 @@ ending outcome last phy passed = record { outcome = outcome; last = last; phy = 
 pub pair-rig : PairRig
 unfolding general discover pair rig words ending
     numberAt bytesOf frameSize generalFixed generalRead discoverFixed discoverRead
-    numbers any keep isIn numberOf sizeAt phyUnit phyUnits expanderUnit expanders headerUnit domainRead
+    numbers any keep isIn numberOf sizeAt phyUnit phyUnits expanderUnit expanders headerUnit inRange domainRead
     unanswered endAt claimed clash clashing fixed phyPlaces placesFrom firstIn wiredDomain
-    strip reach cabled neighbours unlooped joined joinedIn linkedDomain
+    strip reach cabled neighbours unlooped joined joinedIn chainsWithin unlong linkedDomain
     once belowPhys below nextLevel levelsFrom levels flatMap
     heldBy gives give giveAll levelList overlong judgedDomain
     pick offsetIn size stretch subtractively byTable directly step afterStep traceFrom traced
@@ -150,7 +150,7 @@ pair-rig = record {
   read = refl;
   listing = λ before after answer h o.
       let n = rig-sizes .1 in
-      let e = tableCall-iff (pair 4) (rig 4) (length before) .1 (rig-judged, omega arith) in (
+      let e = tableCall-iff widest (pair 4) (rig 4) (length before) .1 (rig-judged, omega arith) in (
         o .answers ∙ ap (λ x. then x countsIn) e ∙ ap₂ (λ x y. good (record { tableCount = x; wordCount = y })) (n .1 .0) (n .0),
         o .words ∙ ap (λ x. tablesAfter x before) e ∙ ap₂ (λ x y. x ++ drop y before) (n .1 .1) (n .0),
       );

@@ -3,7 +3,7 @@ use Prim.Native.Nat.{ℕ}
 use mathlib.Core.Path.{_≡_, refl}
 use mathlib.Core.List.{List, [], _∷_, flatMap}
 use Rattle.tables.specs.Wiring.{Phy, Present, good, Domain}
-use Rattle.tables.proofs.Opened.{numbers, any, keep, isIn, numberOf, unanswered, endAt, claimed, clash, clashing, fixed, phyPlaces, placesFrom, firstIn, wiredDomain, strip, reach, cabled, neighbours, unlooped, joined, joinedIn, linkedDomain}
+use Rattle.tables.proofs.Opened.{numbers, any, keep, isIn, numberOf, unanswered, endAt, claimed, clash, clashing, fixed, phyPlaces, placesFrom, firstIn, wiredDomain, strip, reach, cabled, neighbours, chainsWithin, unlong, unlooped, joined, joinedIn, linkedDomain}
 use Rattle.tables.specs.Levels.{once, belowPhys, below, nextLevel, levelsFrom, levels}
 use Rattle.tables.specs.Tables.{heldBy, gives, give, giveAll, levelList, table, tablePlaces, tables, size, offsetIn, stretch}
 use Rattle.tables.specs.Judge.{overlong, judgedDomain}
@@ -31,10 +31,10 @@ words = 12 ∷ 3 ∷ 0 ∷ 0 ∷ 0 ∷ 0 ∷ []
 abbrev Ends : Request → Outcome → ℕ → ℕ → List ℕ → Type 0
 Ends q outcome last phy passed = traced row words q ≡ record { outcome = outcome; last = last; phy = phy; passed = passed }
 
--- it is accepted; the levels of the first's table phy end before the third, whose address is entered, and its drive's is not; the two table
+-- it is accepted where a chain may have three expanders; the levels of the first's table phy end before the third, whose address is entered, and its drive's is not; the two table
 -- phys that are cabled together have empty lists. Over these tables the third expander is reached across the cable from the first, as its
 -- address is entered there. Its drive, though a chain leads to it, is not; nor is anything from it. Requests that do not cross end as in the mission
-pub crossed : (judgedDomain row ≡ good row)
+pub crossed : (judgedDomain 3 row ≡ good row)
     × ((levels row 0 0 ≡ 1 ∷ []) × ((levelList row 0 0 ≡ 12 ∷ 3 ∷ []) × ((levelList row 1 2 ≡ []) × ((levelList row 2 0 ≡ [])
     × ((tables row ≡ words)
     × (Ends (request 0 255 3) Arrived 2 255 (0 ∷ 1 ∷ 2 ∷ [])
@@ -45,7 +45,7 @@ pub crossed : (judgedDomain row ≡ good row)
     × (Ends (request 1 255 11) Arrived 0 1 (1 ∷ 0 ∷ [])
     × Ends (request 0 255 99) NoDestination 0 255 (0 ∷ []))))))))))))
 unfolding row words numbers any keep isIn numberOf unanswered endAt claimed clash clashing fixed phyPlaces placesFrom firstIn wiredDomain
-    strip reach cabled neighbours unlooped joined joinedIn linkedDomain once belowPhys below nextLevel levelsFrom levels flatMap
+    strip reach cabled neighbours unlooped joined joinedIn chainsWithin unlong linkedDomain once belowPhys below nextLevel levelsFrom levels flatMap
     heldBy gives give giveAll levelList overlong judgedDomain table tablePlaces tables
     pick offsetIn size stretch subtractively byTable directly step afterStep traceFrom traced
 crossed = (refl, (refl, (refl, (refl, (refl, (refl, (refl, (refl, (refl, (refl, (refl, (refl, refl))))))))))))

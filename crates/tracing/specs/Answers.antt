@@ -63,6 +63,7 @@ pub record Walked (t : Traced) (end : End) (before after : List ℕ) : Type 0 wh
   pub ends : traceAnswer (Ended end) ≡ report t
   pub bytes : after ≡ t .passed ++ drop (length (t .passed)) before
 
--- causes 7 to 17, then the trace; 14 by own lists, and 16 where there is no room for entries of so many slots and phys
-unfoldable pub requestIn : ℕ → ℕ → Domain → List ℕ → ℕ → Request → Result Traced
-requestIn first low d words bytes q = then (judgedIn first low d) (λ e. tracedRequest e words bytes q)
+-- the judging call's causes from 7 on, and 15 to 17, then the trace; 14 by own lists, and 16 where there is no room for entries of so
+-- many slots and phys
+unfoldable pub requestIn : ℕ → ℕ → ℕ → Domain → List ℕ → ℕ → Request → Result Traced
+requestIn chain first low d words bytes q = then (judgedIn chain first low d) (λ e. tracedRequest e words bytes q)

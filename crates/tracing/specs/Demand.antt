@@ -88,7 +88,7 @@ pub record Mission (d : Domain) (q : Request) (e : End) (lent after : List ℕ) 
   -- "otherwise NO DESTINATION"
   pub otherwise : ¬ (Borne d (q .address)) → e .outcome ≡ NoDestination
 
--- domain d, past causes 1 to 10; what its table call yields with so many words lent, and its trace call over words, with so many bytes lent
+-- domain d, past causes 22 and 1 to 10; what its table call yields with so many words lent, and its trace call over words, with so many bytes lent
 module _ (d : Domain) (tableCalled : ℕ → Result Domain) (traceCalled : List ℕ → ℕ → Request → Result Traced) where
   -- a request over these words, which is a trace that isn't refused: the trace call answered e, and left these bytes of those lent
   abbrev pub Over : List ℕ → Request → End → List ℕ → List ℕ → Type 0
@@ -103,11 +103,13 @@ module _ (d : Domain) (tableCalled : ℕ → Result Domain) (traceCalled : List 
     pub given : TablesDone (tableCalled (length before)) (Counts tableCount wordCount) before words
     pub over : Over words q e lent after
 
-  pub record Demand3 : Type 0 where
-    -- "tables are given exactly when there is no loop, every expander is chained to the first, and no level list exceeds R": with room, the
-    -- table call answers with counts exactly then
+  -- a chain may have so many expanders
+  pub record Demand3 (chain : ℕ) : Type 0 where
+    -- "tables are given exactly when there is no loop, every expander is chained to the first, and no level list exceeds R", and "only where
+    -- the limits are kept as well" (document 02, paper 13): with room, the table call answers with counts exactly then. The limits on expanders
+    -- and phys are kept where the domain is past cause 3
     pub given : (before words : List ℕ) (answer : TablesGiven) → needed d ≤ length before → TablesDone (tableCalled (length before)) answer before words
-        → ((t w : ℕ) × (answer ≡ Counts t w)) ↔ Routable d
+        → ((t w : ℕ) × (answer ≡ Counts t w)) ↔ Routable chain d
     -- "over those tables": requests whose chain crosses no table-to-table link, or whose address no device bears, end as in the mission
     pub mission : (q : Request) (e : End) (lent after : List ℕ) → OverTables q e lent after → Uncrossed d q → Mission d q e lent after
     -- whatever words: a request that arrives arrives where the address is borne

@@ -3,3 +3,4 @@ pub mod Trace
 pub mod Answers
 pub mod Tested
 pub mod Demand
+pub mod Courses

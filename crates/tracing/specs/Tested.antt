@@ -5,7 +5,7 @@ use mathlib.Core.Logic.{_⊎_, _≢_}
 use mathlib.Core.List.{List}
 use lib.ListN.{length}
 use lib.Dec.{T}
-use Rattle.tables.specs.Wiring.{Domain, phyAt, toEnd}
+use Rattle.tables.specs.Wiring.{Setting, Domain, phyAt, toEnd}
 use Rattle.tables.specs.Tables.{needed}
 use Rattle.tables.specs.Tested.{NoJudgingCause, judgingNumber}
 use Rattle.tracing.specs.Trace.{Request}
@@ -22,10 +22,10 @@ pub record Asks (q : Request) (words bytes : ℕ) (d : Domain) : Type 0 where
   pub nonzero : q .address ≢ 0
 
 -- none of the causes that the trace call tests holds: those of the judging call, and 15 to 17
-pub record NoTraceCause (file : List ℕ) (q : Request) (words bytes : ℕ) : Type 0 where
-  pub judging : NoJudgingCause file
+pub record NoTraceCause (setting : Setting) (file : List ℕ) (q : Request) (words bytes : ℕ) : Type 0 where
+  pub judging : NoJudgingCause setting file
   pub asks : Asks q words bytes (judging .domain)
 
--- 1 to 12, 14, and 15 to 17
+-- 1 to 12, 14, 22 and 23, and 15 to 17
 abbrev pub traceNumber : ℕ → Type 0
 traceNumber n = judgingNumber n ⊎ ((15 ≤ n) × (n ≤ 17))

@@ -5,7 +5,7 @@ use mathlib.Core.Bool.{Bool, not, _||_, _&&_}
 use mathlib.Core.List.{List, [], _∷_, _++_}
 use lib.ListN.{length, drop}
 use lib.Dec.{eqb, ltb, leb}
-use Rattle.tables.specs.Wiring.{Result, refused, good, unless, then, refusal, Domain, phyAt, toEnd}
+use Rattle.tables.specs.Wiring.{Result, refused, good, unless, then, refusal, Setting, Domain, phyAt, toEnd}
 use Rattle.tables.specs.Tables.{needed}
 use Rattle.tables.specs.Judge.{judgedDomain, judged}
 use Rattle.tracing.specs.Steps.{Step, here, endDevice, bad, lost, onward, step}
@@ -72,13 +72,13 @@ tracedRequest d words bytes q =
     then (requested q (length words) bytes d) (λ _.
     good (traced d words q))
 
--- causes 7 to 17, then the trace: the trace call on a domain that was read
-unfoldable pub judgedRequest : Domain → List ℕ → ℕ → Request → Result Traced
-judgedRequest d words bytes q = then (judgedDomain d) (λ e. tracedRequest e words bytes q)
+-- the judging call's causes from 7 on, and 15 to 17, then the trace: the trace call on a domain that was read
+unfoldable pub judgedRequest : ℕ → Domain → List ℕ → ℕ → Request → Result Traced
+judgedRequest chain d words bytes q = then (judgedDomain chain d) (λ e. tracedRequest e words bytes q)
 
--- the trace call on a file
-unfoldable pub traceCall : List ℕ → List ℕ → ℕ → Request → Result Traced
-traceCall file words bytes q = then (judged file) (λ d. tracedRequest d words bytes q)
+-- the trace call on a file under a setting
+unfoldable pub traceCall : Setting → List ℕ → List ℕ → ℕ → Request → Result Traced
+traceCall setting file words bytes q = then (judged setting file) (λ d. tracedRequest d words bytes q)
 
 -- what the answer says: outcome, last expander, phy, count
 pub record Reported : Type 0 where

@@ -5,12 +5,13 @@ use tables::Check;
 use tables::DomainRead;
 use tables::ExpanderNumber;
 use tables::PhyId;
+use tables::Setting;
 ghost use lib.ListN.{length};
 ghost use Rattle.tracing.specs.Trace.{request, traceCall, TraceDone};
 ghost use Rattle.tracing.specs.Answers.{requestIn};
 ghost use Rattle.tables.specs.Wiring.{domainIn, FileRoom};
 
-// Causes 7 to 17 of a request over rows, then the walk. `first` and `low` have room for who has which
+// Causes 7 to 12, 23, 14 and 15 to 17 of a request over rows, then the walk. A chain may have `chain` expanders. `first` and `low` have room for who has which
 // address; 16 where there is too little.
 fn request_rows(
     rows: &[u64],
@@ -21,12 +22,13 @@ fn request_rows(
     arrival: PhyId,
     s: u64,
     passed: &mut [u8],
+    chain: u8,
 ) -> TraceAnswer
     ensures { λ r. ⌜ TraceDone
-        (requestIn (length (now (first .entry))) (length (now (low .entry))) (domainIn (now (rows .entry))) (now (words .entry)) (length (now (passed .entry))) (request (start .0) (arrival .0) s))
+        (requestIn chain (length (now (first .entry))) (length (now (low .entry))) (domainIn (now (rows .entry))) (now (words .entry)) (length (now (passed .entry))) (request (start .0) (arrival .0) s))
         r (now (passed .entry)) (now (passed .exit)) ⌝ }
 {
-    let verdict = tables::judge_rows(rows, first, low);
+    let verdict = tables::judge_rows(rows, first, low, chain);
     match verdict {
         Check::Refused(r) => TraceAnswer::Refused(r),
         Check::Passed => requests::trace_rows(rows, first, words, start, arrival, s, passed),
@@ -35,6 +37,7 @@ fn request_rows(
 
 // The trace call, with room for the rows of the file's domain and for who has which address.
 fn trace_in(
+    setting: Setting,
     file: &[u8],
     rows: &mut [u64],
     first: &mut [u16],
@@ -45,25 +48,37 @@ fn trace_in(
     s: u64,
     passed: &mut [u8],
 ) -> TraceAnswer
-    requires { ⌜ FileRoom (now file) (now rows) (now first) (now low) ⌝ }
+    requires { ⌜ FileRoom setting (now file) (now rows) (now first) (now low) ⌝ }
     ensures { λ r. ⌜ TraceDone
-        (traceCall (now (file .entry)) (now (words .entry)) (length (now (passed .entry))) (request (start .0) (arrival .0) s))
+        (traceCall setting (now (file .entry)) (now (words .entry)) (length (now (passed .entry))) (request (start .0) (arrival .0) s))
         r (now (passed .entry)) (now (passed .exit)) ⌝ }
 {
-    let read = tables::read_domain(file, rows);
+    let read = tables::read_domain(setting, file, rows);
     match read {
         DomainRead::Refused(r) => TraceAnswer::Refused(r),
         DomainRead::Expanders(n) => {
             let e = 258 * (n as usize);
-            request_rows(&rows[..e], first, low, words, start, arrival, s, passed)
+            let chain = setting.chain;
+            request_rows(
+                &rows[..e],
+                first,
+                low,
+                words,
+                start,
+                arrival,
+                s,
+                passed,
+                chain,
+            )
         }
     }
 }
 
-// The trace call: causes 1 to 17, or how the request ends. The numbers of the expanders passed
+// The trace call: causes 22, 1 to 12, 23, 14 and 15 to 17, or how the request ends. The numbers of the expanders passed
 // fill the first of the lent bytes; the rest stay, and all of them where it is refused. Few
 // expanders need little room.
 pub fn trace(
+    setting: Setting,
     file: &[u8],
     words: &[u64],
     start: ExpanderNumber,
@@ -72,7 +87,7 @@ pub fn trace(
     passed: &mut [u8],
 ) -> TraceAnswer
     ensures { λ r. ⌜ TraceDone
-        (traceCall (now (file .entry)) (now (words .entry)) (length (now (passed .entry))) (request (start .0) (arrival .0) s))
+        (traceCall setting (now (file .entry)) (now (words .entry)) (length (now (passed .entry))) (request (start .0) (arrival .0) s))
         r (now (passed .entry)) (now (passed .exit)) ⌝ }
 {
     let n = tables::stated_count(file);
@@ -81,6 +96,7 @@ pub fn trace(
         let mut first = [0u16; 320];
         let mut low = [0u8; 256];
         return trace_in(
+            setting,
             file,
             &mut rows[..],
             &mut first[..],
@@ -97,6 +113,7 @@ pub fn trace(
         let mut first = [0u16; 1088];
         let mut low = [0u8; 1024];
         return trace_in(
+            setting,
             file,
             &mut rows[..],
             &mut first[..],
@@ -112,6 +129,7 @@ pub fn trace(
     let mut first = [0u16; 8256];
     let mut low = [0u8; 8192];
     trace_in(
+        setting,
         file,
         &mut rows[..],
         &mut first[..],

@@ -1,4 +1,4 @@
--- What the causes leave of a domain that is read: 7 to 10 of one that is wired, 11 and 12 of one that is linked.
+-- What the causes leave of a domain that is read: 7 to 10 of one that is wired, 11, 12 and 23 of one that is linked.
 use mathlib.Core.Path.{_≡_, refl, sym, ap, subst, _∙_}
 use mathlib.Core.Logic.{_⊎_, inl, inr, _≢_, _↔_, ⊎-elim, by-cases}
 use mathlib.Core.List.{List, [], _∷_}
@@ -9,23 +9,25 @@ use native.Mathlib.Decide.{ℕ-discrete, decLt}
 use lib.ListN.{length, getD, take, List·getD-eq-default}
 use lib.Dec.{T, eqb, ltb, eqb→eq, ltb→lt, lt→ltb, not-T, T-not}
 use Rattle.frames.specs.Refusals.{refused, good, refusal}
-use Rattle.wiring.specs.declared.Limits.{Limits}
+use Rattle.wiring.specs.declared.Setting.{Setting}
 use Rattle.wiring.specs.declared.Phy.{Phy}
 use Rattle.wiring.specs.declared.Phy.the-variants.{Vacant, Present}
 use Rattle.wiring.specs.Lists.{upTo, any, In, Distinct}
 use Rattle.wiring.specs.Domain.{Expander, Domain, noExpander, expanderAt, phyAt, addressOf, farOf, attributeOf, routes, attached, toEnd, toExpander, numberOf}
 use Rattle.wiring.specs.Read.{ReadPhy, ReadExpander, addresses, Read}
-use Rattle.wiring.specs.File.{limits, domainRead}
+use Rattle.wiring.specs.File.{domainRead}
 use Rattle.wiring.specs.Causes.{Place, place, places, farPhy, names, unanswered, endAt, claimed, clash, clashing, fixed, firstIn, firstOf, wiredDomain, wired}
 use Rattle.wiring.specs.Tested.{Passed, Linked}
 use Rattle.wiring.specs.Graph.{loopfree}
 use Rattle.wiring.specs.Neighbours.{neighbours}
+use Rattle.wiring.specs.Chains.{chainsWithin, unlong, ShortChains}
 use Rattle.wiring.specs.Links.{unlooped, joined, joinedIn, linkedDomain}
 use Rattle.wiring.proofs.Results.{never, good-one, unless-good, good-unless, then-good, good-then, then-same}
 use Rattle.wiring.proofs.Read.{read-good}
 use Rattle.wiring.proofs.Members.{tests, or-cases, not-not, is-true, is-false, was-true, eq→eqb, in-cast, all-cons, any-of, of-any, in-getD, getD-in, in-take, take-in, map-in, in-upTo, numbers-below}
 use Rattle.wiring.proofs.Loops.{loopfree-iff}
 use Rattle.wiring.proofs.Reach.{reached-iff}
+use Rattle.wiring.proofs.LongChains.{within-iff}
 use Rattle.wiring.proofs.Wires.{LoopIn, ChainIn, To, Plain, Wired, end-attached, expander-attached, routes-one, plain-attribute, numberOf-is, expander-range, phy-range, in-range, routes-range, in-places, adj-symmetric}
 
 -- what causes 1 to 6 leave, expander by expander and phy by phy
@@ -47,7 +49,7 @@ read-borne : (φ : Phy) → ReadPhy φ → T (attached φ) → addressOf φ ≢ 
 read-borne (Vacant r) h t = absurd t
 read-borne (Present f) h t = h .borne (λ e. T-not (eqb (f .device) 0) t (eq→eqb (f .device) 0 e))
 
-module _ (most : Limits) (d : Domain) (g : Read most d) where
+module _ (most : Setting) (d : Domain) (g : Read most d) where
   pub read-expander : (i : ℕ) → i < length d → ReadExpander most (expanderAt d i)
   read-expander i h = g .each (expanderAt d i) (in-getD d noExpander i h)
 
@@ -178,7 +180,7 @@ lower-clash d i p q h c =
     any-of (clash (phyAt d i p)) (take p (expanderAt d i .phys)) (phyAt d i q) (in-take (expanderAt d i .phys) (Vacant 0) q p h (omega arith)) c
 
 -- past causes 1 to 6, none of 7 to 10 holds of a phy exactly when the domain is wired
-module _ (most : Limits) (d : Domain) (g : Read most d) (s : Passed d) where
+module _ (most : Setting) (d : Domain) (g : Read most d) (s : Passed d) where
   no-direct : (i p : ℕ) → T (toExpander (phyAt d i p)) → ¬ (T (routes 0 (phyAt d i p)))
   unfolding unanswered
   no-direct i p t u = s .seven i p (search tests)
@@ -242,11 +244,11 @@ module _ (most : Limits) (d : Domain) (g : Read most d) (s : Passed d) where
   unfolding fixed
   loadable i p t e = s .ten i p (search tests)
 
-  pub passed-wires : most .phys ≤ 255 → Wired d
-  passed-wires m = record {
+  pub passed-wires : Wired d
+  passed-wires = record {
     number = numbers-differ d (g .differ);
     borne = λ j h. read-expander most d g j h .borne;
-    few = λ i p t. let a = in-range d i p t in omega (arith, a .1, read-expander most d g i (a .0) .few);
+    few = λ i p t. let a = in-range d i p t in omega (arith, a .1, read-expander most d g i (a .0) .few, g .range .phys .1);
     plain = all-plain most d g;
     attachedBorne = λ i p t. read-borne (phyAt d i p) (read-phy most d g i p (in-range d i p t .1)) t;
     routing = routed;
@@ -311,17 +313,17 @@ module _ (d : Domain) (w : Wired d) where
   pub wires-passed : Passed d
   wires-passed = record { seven = answers; eight = unclaimed; nine = unclashing; ten = unfixed }
 
-pub wired-iff : (most : Limits) (d : Domain) → Read most d → most .phys ≤ 255 → (wiredDomain d ≡ good d) ↔ Wired d
-wired-iff most d g m = (λ e. passed-wires most d g (passed-iff d .0 e) m, λ w. passed-iff d .1 (wires-passed d w))
+pub wired-iff : (most : Setting) (d : Domain) → Read most d → (wiredDomain d ≡ good d) ↔ Wired d
+wired-iff most d g = (λ e. passed-wires most d g (passed-iff d .0 e), λ w. passed-iff d .1 (wires-passed d w))
 
--- a file past causes 1 to 10: it reads as a domain that is past 7 to 10
-pub wired-file : (file : List ℕ) (d : Domain) → (wired file ≡ good d) ↔ ((domainRead limits file ≡ good d) × (wiredDomain d ≡ good d))
-wired-file file d = then-same (domainRead limits file) wiredDomain d (λ a. wired-same a d)
+-- a file past causes 22 and 1 to 10: it reads as a domain that is past 7 to 10
+pub wired-file : (setting : Setting) (file : List ℕ) (d : Domain) → (wired setting file ≡ good d) ↔ ((domainRead setting file ≡ good d) × (wiredDomain d ≡ good d))
+wired-file setting file d = then-same (domainRead setting file) wiredDomain d (λ a. wired-same a d)
 
-pub wired-wires : (file : List ℕ) (d : Domain) → wired file ≡ good d → Wired d
-wired-wires file d e = let r = wired-file file d .0 e in wired-iff limits d (read-good limits file d (r .0)) (omega arith) .0 (r .1)
+pub wired-wires : (setting : Setting) (file : List ℕ) (d : Domain) → wired setting file ≡ good d → Wired d
+wired-wires setting file d e = let r = wired-file setting file d .0 e in wired-iff setting d (read-good setting file d (r .0)) .0 (r .1)
 
--- causes 11 and 12
+-- causes 11, 12 and 23
 unlooped-good : (d e : Domain) → unlooped d ≡ good e → ¬ (LoopIn d)
 unfolding unlooped
 unlooped-good d e f =
@@ -352,26 +354,26 @@ pub joined-iff : (d : Domain) (i : ℕ) → i < length d → T (joined d i) ↔ 
 unfolding joined
 joined-iff d i h = reached-iff (length d) (neighbours d) 0 i (omega arith)
 
-linked-links : (d e : Domain) → linkedDomain d ≡ good e → (d ≡ e) × Linked d
-unfolding linkedDomain
-linked-links d e f =
+linked-links : (chain : ℕ) (d e : Domain) → linkedDomain chain d ≡ good e → (d ≡ e) × Linked d × ShortChains chain d
+unfolding linkedDomain unlong
+linked-links chain d e f =
     let a = then-good (unlooped d) _ e f in
-    let b = joinedIn-good (upTo (length d)) d e (a .2) in (
-      b .0,
-      record {
-        noLoop = unlooped-good d (a .0) (a .1);
-        chained = λ i h. joined-iff d i h .0 (b .1 i (in-upTo (length d) i h));
-      },
-    )
+    let b = then-good (joinedIn (upTo (length d)) d) _ e (a .2) in
+    let j = joinedIn-good (upTo (length d)) d (b .0) (b .1) in
+    let c = unless-good (chainsWithin chain d) (refusal 23 0 0) (good d) e (b .2) in
+    let l : Linked d = record { noLoop = unlooped-good d (a .0) (a .1); chained = λ i h. joined-iff d i h .0 (j .1 i (in-upTo (length d) i h)) } in
+    (good-one d e (c .1), l, within-iff chain d (l .noLoop) (l .chained) .0 (c .0))
 
-links-linked : (d : Domain) → Linked d → linkedDomain d ≡ good d
-unfolding linkedDomain
-links-linked d r =
+links-linked : (chain : ℕ) (d : Domain) → Linked d → ShortChains chain d → linkedDomain chain d ≡ good d
+unfolding linkedDomain unlong
+links-linked chain d r s =
     good-then (unlooped d) _ d d (good-unlooped d (r .noLoop))
+    (good-then (joinedIn (upTo (length d)) d) _ d d
     (good-joinedIn (upTo (length d)) d (λ i h. let k = numbers-below (length d) i h in joined-iff d i k .1 (r .chained i k)))
+    (good-unless (chainsWithin chain d) (refusal 23 0 0) (good d) (within-iff chain d (r .noLoop) (r .chained) .1 s)))
 
-pub linked-iff : (d : Domain) → (linkedDomain d ≡ good d) ↔ Linked d
-linked-iff d = (λ e. linked-links d d e .1, links-linked d)
+pub linked-iff : (chain : ℕ) (d : Domain) → (linkedDomain chain d ≡ good d) ↔ (Linked d × ShortChains chain d)
+linked-iff chain d = (λ e. let l = linked-links chain d d e in (l .1, l .2), λ l. links-linked chain d (l .0) (l .1))
 
-pub linked-same : (d e : Domain) → linkedDomain d ≡ good e → d ≡ e
-linked-same d e f = linked-links d e f .0
+pub linked-same : (chain : ℕ) (d e : Domain) → linkedDomain chain d ≡ good e → d ≡ e
+linked-same chain d e f = linked-links chain d e f .0

@@ -1,5 +1,5 @@
 -- Rows give their domain back.
-use Prim.Native.Nat.{ℕ, _+_, _-_, _*_, _/_, _%_, _<_, min}
+use Prim.Native.Nat.{ℕ, _+_, _-_, _*_, _/_, _%_, _≤_, _<_, min}
 use mathlib.Core.Path.{_≡_, refl, sym, _∙_, ap}
 use mathlib.Core.Logic.{inl, inr}
 use mathlib.Core.List.{List, [], _∷_, _++_, append-nil, append-assoc}
@@ -8,12 +8,12 @@ use native.Mathlib.Nat.{add-mul-mod-self-left, mod-eq-of-lt}
 use lib.ListN.{length, replicate, length-append}
 use lib.Seq.{drop-at}
 use borrow.Author.Tests.{eq-eqb, ne-eqb}
+use Rattle.wiring.specs.declared.Setting.{Setting}
 use Rattle.wiring.specs.declared.Phy.{Phy}
 use Rattle.wiring.specs.declared.Phy.the-variants.{Vacant, Present}
 use Rattle.wiring.specs.Lists.{In}
 use Rattle.wiring.specs.Domain.{Domain, Expander, addressOf}
 use Rattle.wiring.specs.Read.{ReadPhy, ReadExpander, Read, FitsPhy, FitsExpander, FitsDomain}
-use Rattle.wiring.specs.File.{limits}
 use Rattle.wiring.specs.Rows.{phyWord, phyWords, headWord, rowOf, rowsOf, phyIn, physIn, rowIn, rowsIn, domainIn}
 use Rattle.wiring.proofs.Filling.{length-rowOf}
 
@@ -41,53 +41,56 @@ phys-back [] rest g h = refl
 phys-back (φ ∷ φs) rest g h =
     rw (phy-back φ (g φ (inl refl)) (h φ (inl refl)), phys-back φs rest (λ ψ k. g ψ (inr k)) (λ ψ k. h ψ (inr k)))
 
-row-back : (e : Expander) (rest : List ℕ) → ReadExpander limits e → FitsExpander e → rowIn (rowOf e ++ rest) ≡ e
-unfolding rowIn rowOf
-row-back e rest g h =
-    let w : ℕ = headWord (e .indexes) (length (e .phys)) (e .configurable) in
-    let n : ℕ = length (e .phys) in
-    let i = h .indexes in
-    let m = g .few in
-    let o = g .configurable in
-    let w1 : w ≡ e .indexes + 65536 * (n + 256 * e .configurable) = omega arith in
-    let w2 : w / 65536 ≡ n + 256 * e .configurable = omega arith in
-    let w3 : w / 16777216 ≡ e .configurable = omega arith in
-    let a : w % 65536 ≡ e .indexes = ap (λ (x : ℕ). x % 65536) w1 ∙ low 65536 (e .indexes) _ i in
-    let b′ : w / 65536 % 256 ≡ n = ap (λ (x : ℕ). x % 256) w2 ∙ low 256 n _ (omega arith) in
-    let b : min 128 (w / 65536 % 256) ≡ n = omega arith in
-    let c : w / 16777216 % 2 ≡ e .configurable = ap (λ (x : ℕ). x % 2) w3 ∙ mod-eq-of-lt (omega arith) in
-    simp (a, b, c, append-assoc, phys-back (e .phys) (replicate (256 - length (phyWords (e .phys))) 0 ++ rest) (g .phys) (h .phys))
-
 -- the same of expanders
 module _ (P : Expander → Type 0) where
   abbrev Each : Domain → Type 0
   Each d = (e : Expander) → In e d → P e
 
-rows-back : (d : Domain) (rest : List ℕ) → Each (ReadExpander limits) d → Each FitsExpander d → rowsIn (length d) (rowsOf d ++ rest) ≡ d
-unfolding rowsIn rowsOf
-rows-back [] rest g h = refl
-rows-back (e ∷ d) rest g h =
-    let x = g e (inl refl) in
-    let r = rows-back d rest (λ f k. g f (inr k)) (λ f k. h f (inr k)) in
-    rw (append-assoc (rowOf e) (rowsOf d) rest, row-back e (rowsOf d ++ rest) x (h e (inl refl)), drop-at (rowOf e) (rowsOf d ++ rest) 258 (length-rowOf e (x .few)), r)
+-- rows have place for 128 phys
+module _ (most : Setting) (fit : most .phys ≤ 128) where
+  row-back : (e : Expander) (rest : List ℕ) → ReadExpander most e → FitsExpander e → rowIn (rowOf e ++ rest) ≡ e
+  unfolding rowIn rowOf
+  row-back e rest g h =
+      let w : ℕ = headWord (e .indexes) (length (e .phys)) (e .configurable) in
+      let n : ℕ = length (e .phys) in
+      let i = h .indexes in
+      let m = g .few in
+      let o = g .configurable in
+      let w1 : w ≡ e .indexes + 65536 * (n + 256 * e .configurable) = omega arith in
+      let w2 : w / 65536 ≡ n + 256 * e .configurable = omega arith in
+      let w3 : w / 16777216 ≡ e .configurable = omega arith in
+      let a : w % 65536 ≡ e .indexes = ap (λ (x : ℕ). x % 65536) w1 ∙ low 65536 (e .indexes) _ i in
+      let b′ : w / 65536 % 256 ≡ n = ap (λ (x : ℕ). x % 256) w2 ∙ low 256 n _ (omega arith) in
+      let b : min 128 (w / 65536 % 256) ≡ n = omega arith in
+      let c : w / 16777216 % 2 ≡ e .configurable = ap (λ (x : ℕ). x % 2) w3 ∙ mod-eq-of-lt (omega arith) in
+      simp (a, b, c, append-assoc, phys-back (e .phys) (replicate (256 - length (phyWords (e .phys))) 0 ++ rest) (g .phys) (h .phys))
 
-rows-length : (d : Domain) → Each (ReadExpander limits) d → length (rowsOf d) ≡ 258 * length d
-unfolding rowsOf
-rows-length [] g = refl
-rows-length (e ∷ d) g =
-    let k = rows-length d (λ f h. g f (inr h)) in
-    let j = length-rowOf e (g e (inl refl) .few) in
-    rw (length-append (rowOf e) (rowsOf d)) (omega arith)
+  rows-back : (d : Domain) (rest : List ℕ) → Each (ReadExpander most) d → Each FitsExpander d → rowsIn (length d) (rowsOf d ++ rest) ≡ d
+  unfolding rowsIn rowsOf
+  rows-back [] rest g h = refl
+  rows-back (e ∷ d) rest g h =
+      let x = g e (inl refl) in
+      let r = rows-back d rest (λ f k. g f (inr k)) (λ f k. h f (inr k)) in
+      rw (append-assoc (rowOf e) (rowsOf d) rest, row-back e (rowsOf d ++ rest) x (h e (inl refl)), drop-at (rowOf e) (rowsOf d ++ rest) 258 (length-rowOf e (omega (arith, x .few))), r)
+
+  rows-length : (d : Domain) → Each (ReadExpander most) d → length (rowsOf d) ≡ 258 * length d
+  unfolding rowsOf
+  rows-length [] g = refl
+  rows-length (e ∷ d) g =
+      let k = rows-length d (λ f h. g f (inr h)) in
+      let j = length-rowOf e (omega (arith, g e (inl refl) .few)) in
+      rw (length-append (rowOf e) (rowsOf d)) (omega arith)
 
 -- a domain that is read, and fits
-module _ (d : Domain) (g : Read limits d) where
+module _ (most : Setting) (d : Domain) (g : Read most d) where
   pub length-rowsOf : length (rowsOf d) ≡ 258 * length d
-  length-rowsOf = rows-length d (g .each)
+  length-rowsOf = rows-length most (g .range .phys .1) d (g .each)
 
   pub domain-back : FitsDomain d → domainIn (rowsOf d) ≡ d
   unfolding domainIn
   domain-back h =
       let l = length-rowsOf in
       let k = g .few in
+      let m = g .range .expanders .1 in
       let n : min 64 (length (rowsOf d) / 258) ≡ length d = omega arith in
-      rw n (ap (rowsIn (length d)) (sym (append-nil (rowsOf d))) ∙ rows-back d [] (g .each) (h .each))
+      rw n (ap (rowsIn (length d)) (sym (append-nil (rowsOf d))) ∙ rows-back most (g .range .phys .1) d [] (g .each) (h .each))

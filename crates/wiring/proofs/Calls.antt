@@ -1,14 +1,15 @@
 -- The outcomes of the checks in order, and of the wiring call.
 use Prim.Native.Nat.{ℕ, _*_, _≤_, _<_}
 use mathlib.Core.Path.{_≡_, refl, sym, _∙_, ap}
-use mathlib.Core.Bool.{true, false, _&&_}
+use mathlib.Core.Bool.{Bool, true, false, _&&_}
 use mathlib.Core.List.{List, _++_}
 use native.Mathlib.Omega.{arith}
 use lib.ListN.{length, drop}
 use lib.Dec.{leb, leb→le}
 use borrow.Author.Tests.{le-leb, lt-leb}
-use Rattle.frames.specs.Refusals.{Result, refused, good, then, refusal}
+use Rattle.frames.specs.Refusals.{Result, refused, good, unless, then, refusal}
 use Rattle.frames.specs.declared.Refusal.{Refusal}
+use Rattle.wiring.specs.declared.Setting.{Setting}
 use Rattle.wiring.specs.declared.Check.{Check}
 use Rattle.wiring.specs.declared.Check.the-variants.{Refused as Check·Refused, Passed}
 use Rattle.wiring.specs.declared.Wiring.{Wiring}
@@ -18,8 +19,9 @@ use Rattle.wiring.specs.Domain.{Domain}
 use Rattle.wiring.specs.Causes.{wiredDomain}
 use Rattle.wiring.specs.Graph.{loopfree}
 use Rattle.wiring.specs.Neighbours.{neighbours, neighbourWord, neighbourWords, bitsIn, wordsFor, wiringCall, WiringDone}
-use Rattle.wiring.specs.File.{limits, domainRead}
+use Rattle.wiring.specs.File.{domainRead}
 use Rattle.wiring.specs.Links.{unlooped, joinedIn, linkedDomain, checkedDomain}
+use Rattle.wiring.specs.Chains.{chainsWithin, unlong}
 use Rattle.wiring.specs.Addresses.{slotsBefore}
 use Rattle.wiring.specs.Checks.{checkedIn}
 use Rattle.wiring.specs.Rounds.{Held}
@@ -34,32 +36,39 @@ held d words rest e = each-held (neighbourWord d) (length d) words rest e
 pub wiring-refused : (room : ℕ) (before : List ℕ) (r : Refusal) (x : Result Domain) → x ≡ refused r → WiringDone (then x (wordsFor room)) (Refused r) before before
 wiring-refused room before r x e = rw e (record { answers = refl; words = refl })
 
-module _ (d : Domain) where
-  -- causes 11 and 12
-  pub links-loop : loopfree (length d) (neighbours d) ≡ false → linkedDomain d ≡ refused (refusal 11 0 0)
+module _ (chain : ℕ) (d : Domain) where
+  -- causes 11, 12 and 23
+  pub links-loop : loopfree (length d) (neighbours d) ≡ false → linkedDomain chain d ≡ refused (refusal 11 0 0)
   unfolding linkedDomain unlooped
   links-loop q = rw q
 
-  pub links-joined : loopfree (length d) (neighbours d) ≡ true → linkedDomain d ≡ joinedIn (upTo (length d)) d
+  pub links-joined : (x : Result Domain) → loopfree (length d) (neighbours d) ≡ true → joinedIn (upTo (length d)) d ≡ x
+      → linkedDomain chain d ≡ then x (λ _. unlong chain d)
   unfolding linkedDomain unlooped
-  links-joined q = rw q
+  links-joined x q e = rw (q, e)
 
-  -- causes 7 to 12
-  pub checked-by : (x : Result Domain) → wiredDomain d ≡ x → checkedDomain d ≡ then x (λ _. linkedDomain d)
+  -- cause 23, by what its test answers
+  pub long-by : {b : Bool} → chainsWithin chain d ≡ b → unlong chain d ≡ unless b (refusal 23 0 0) (good d)
+  unfolding unlong
+  long-by q = rw q
+
+  -- causes 7 to 12 and 23
+  pub checked-by : (x : Result Domain) → wiredDomain d ≡ x → checkedDomain chain d ≡ then x (λ _. linkedDomain chain d)
   unfolding checkedDomain
   checked-by x e = rw e
 
   -- with room for the entries, or without
-  pub checked-short : (first low : ℕ) → (slotsBefore (length d) ≤ first → 128 * length d ≤ low → ⊥) → checkedIn first low d ≡ refused (refusal 16 0 0)
+  pub checked-short : (first low : ℕ) → (slotsBefore (length d) ≤ first → 128 * length d ≤ low → ⊥) → checkedIn chain first low d ≡ refused (refusal 16 0 0)
   unfolding checkedIn
   checked-short first low n =
       rw (is-false (leb (slotsBefore (length d)) first && leb (128 * length d) low) (λ t. n (search (tests, leb→le)) (search (tests, leb→le))))
 
-  pub checked-room : (first low : ℕ) → slotsBefore (length d) ≤ first → 128 * length d ≤ low → checkedIn first low d ≡ checkedDomain d
+  pub checked-room : (first low : ℕ) → slotsBefore (length d) ≤ first → 128 * length d ≤ low → checkedIn chain first low d ≡ checkedDomain chain d
   unfolding checkedIn
   checked-room first low a b = rw (le-leb (slotsBefore (length d)) first a, le-leb (128 * length d) low b)
 
-  -- the wiring call past causes 1 to 6
+-- the wiring call past causes 1 to 6
+module _ (d : Domain) where
   module _ (room : ℕ) (before : List ℕ) where
     pub wiring-short : (x : Result Domain) → x ≡ good d → room < length d → WiringDone (then x (wordsFor room)) (Refused (refusal 16 0 0)) before before
     wiring-short x e h = rw (e, lt-leb (length d) room h) (record { answers = refl; words = refl })
@@ -75,11 +84,11 @@ pub not-passed : {A : Type 0} {c : Check} (r : Refusal) → c ≡ Check·Refused
 not-passed r e q = let z : _≡_ {A = ℕ} 0 1 = cc in absurd (omega arith)
 
 -- the wiring call on a file
-pub wire-refused : (file before : List ℕ) (r : Refusal) → domainRead limits file ≡ refused r → WiringDone (wiringCall file (length before)) (Refused r) before before
+pub wire-refused : (setting : Setting) (file before : List ℕ) (r : Refusal) → domainRead setting file ≡ refused r → WiringDone (wiringCall setting file (length before)) (Refused r) before before
 unfolding wiringCall
-wire-refused file before r e = rw e (record { answers = refl; words = refl })
+wire-refused setting file before r e = rw e (record { answers = refl; words = refl })
 
-pub wire-done : (file before after : List ℕ) (d : Domain) (answer : Wiring) → domainRead limits file ≡ good d
-    → WiringDone (then (wiredDomain d) (wordsFor (length before))) answer before after → WiringDone (wiringCall file (length before)) answer before after
+pub wire-done : (setting : Setting) (file before after : List ℕ) (d : Domain) (answer : Wiring) → domainRead setting file ≡ good d
+    → WiringDone (then (wiredDomain d) (wordsFor (length before))) answer before after → WiringDone (wiringCall setting file (length before)) answer before after
 unfolding wiringCall
-wire-done file before after d answer e w = rw e w
+wire-done setting file before after d answer e w = rw e w

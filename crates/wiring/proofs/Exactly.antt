@@ -1,7 +1,7 @@
 -- When the wiring call answers, and with which numbers it refuses.
 use Prim.Native.Nat.{ℕ, _≤_}
 use mathlib.Core.Path.{_≡_, refl}
-use mathlib.Core.Logic.{inl, inr}
+use mathlib.Core.Logic.{inl, inr, ⊎-elim}
 use mathlib.Core.Bool.{Bool, true, false, cond}
 use mathlib.Core.List.{List, [], _∷_}
 use native.Mathlib.Omega.{arith}
@@ -10,14 +10,15 @@ use lib.Dec.{leb, leb→le, le→leb}
 use Rattle.frames.specs.Refusals.{refused, good, then, refusal}
 use Rattle.frames.specs.Exactly.{Exactly}
 pub use Rattle.frames.proofs.Exactly.{Numbered, numbered-unless, numbered-then, exactly}
+use Rattle.wiring.specs.declared.Setting.{Setting}
 use Rattle.wiring.specs.declared.Wiring.{Wiring}
 use Rattle.wiring.specs.Domain.{Domain}
-use Rattle.wiring.specs.File.{limits, domainRead}
+use Rattle.wiring.specs.File.{domainRead}
 use Rattle.wiring.specs.Causes.{Place, unanswered, claimed, clashing, fixed, firstIn, firstOf, wiredDomain, wired}
 use Rattle.wiring.specs.Neighbours.{neighbourWords, bitsIn, wordsFor, wiringCall, wiringAnswer, bitsOf, WiringDone}
 use Rattle.wiring.specs.Tested.{NoWiringCause, wiringNumber}
 use Rattle.wiring.proofs.Results.{unless-good, good-unless, then-good, good-then}
-use Rattle.wiring.proofs.Read.{read-numbered}
+use Rattle.wiring.proofs.Read.{read-good, read-numbered}
 use Rattle.wiring.proofs.Accepted.{passed-iff, wired-file}
 
 -- number k, or none
@@ -40,36 +41,36 @@ wired-numbered P h d =
     (λ c. first-numbered P 10 (fixed d) _ d (h 10 (omega arith) (omega arith)))))
 
 -- the wiring call answers exactly when none of its causes holds, and refuses with no other number
-pub wiring-exactly : (file before after : List ℕ) (answer : Wiring) → WiringDone (wiringCall file (length before)) answer before after
-    → Exactly (wiringAnswer answer) (NoWiringCause file (length before)) wiringNumber
+pub wiring-exactly : (setting : Setting) (file before after : List ℕ) (answer : Wiring) → WiringDone (wiringCall setting file (length before)) answer before after
+    → Exactly (wiringAnswer answer) (NoWiringCause setting file (length before)) wiringNumber
 unfolding wiringCall
-wiring-exactly file before after answer w =
-    exactly wiringNumber (wiringAnswer answer) _ (NoWiringCause file (length before)) (w .answers) numbered from to
+wiring-exactly setting file before after answer w =
+    exactly wiringNumber (wiringAnswer answer) _ (NoWiringCause setting file (length before)) (w .answers) numbered from to
   where
     room : ℕ
     room = length before
 
-    numbered : Numbered wiringNumber (then (wiringCall file room) bitsOf)
+    numbered : Numbered wiringNumber (then (wiringCall setting file room) bitsOf)
     numbered =
-        numbered-then wiringNumber (wiringCall file room) bitsOf
-        (numbered-then wiringNumber (wired file) (wordsFor room)
-        (numbered-then wiringNumber (domainRead limits file) wiredDomain (read-numbered limits file wiringNumber (λ n a b. inl (a, omega arith)))
+        numbered-then wiringNumber (wiringCall setting file room) bitsOf
+        (numbered-then wiringNumber (wired setting file) (wordsFor room)
+        (numbered-then wiringNumber (domainRead setting file) wiredDomain (read-numbered setting file wiringNumber (λ n. ⊎-elim (λ h. inl (h .0, omega arith)) (λ h. inr (inr h))))
         (wired-numbered wiringNumber (λ n a b. inl (omega arith, b))))
-        (λ d. numbered-unless wiringNumber (leb (length d) room) (refusal 16 0 0) _ (inr refl) tt))
+        (λ d. numbered-unless wiringNumber (leb (length d) room) (refusal 16 0 0) _ (inr (inl refl)) tt))
         (λ ws. tt)
 
-    from : (n : ℕ) → then (wiringCall file room) bitsOf ≡ good n → NoWiringCause file room
+    from : (n : ℕ) → then (wiringCall setting file room) bitsOf ≡ good n → NoWiringCause setting file room
     from n e =
-        let a = then-good (wiringCall file room) bitsOf n e in
-        let b = then-good (wired file) (wordsFor room) (a .0) (a .1) in
+        let a = then-good (wiringCall setting file room) bitsOf n e in
+        let b = then-good (wired setting file) (wordsFor room) (a .0) (a .1) in
         let c = unless-good (leb (length (b .0)) room) (refusal 16 0 0) _ (a .0) (b .2) in
-        let r = wired-file file (b .0) .0 (b .1) in
-        record { domain = b .0; read = r .0; passed = passed-iff (b .0) .0 (r .1); enough = leb→le (length (b .0)) room (c .0) }
+        let r = wired-file setting file (b .0) .0 (b .1) in
+        record { domain = b .0; range = read-good setting file (b .0) (r .0) .range; read = r .0; passed = passed-iff (b .0) .0 (r .1); enough = leb→le (length (b .0)) room (c .0) }
 
-    to : NoWiringCause file room → (n : ℕ) × (then (wiringCall file room) bitsOf ≡ good n)
+    to : NoWiringCause setting file room → (n : ℕ) × (then (wiringCall setting file room) bitsOf ≡ good n)
     to c =
         let d = c .domain in
-        let a = wired-file file d .1 (c .read, passed-iff d .1 (c .passed)) in
+        let a = wired-file setting file d .1 (c .read, passed-iff d .1 (c .passed)) in
         let b = good-unless (leb (length d) room) (refusal 16 0 0) (good (neighbourWords d)) (le→leb (length d) room (c .enough)) in
-        let e = good-then (wired file) (wordsFor room) d (neighbourWords d) a b in
-        (bitsIn (neighbourWords d), good-then (wiringCall file room) bitsOf (neighbourWords d) (bitsIn (neighbourWords d)) e refl)
+        let e = good-then (wired setting file) (wordsFor room) d (neighbourWords d) a b in
+        (bitsIn (neighbourWords d), good-then (wiringCall setting file room) bitsOf (neighbourWords d) (bitsIn (neighbourWords d)) e refl)

@@ -8,7 +8,7 @@ use lib.ListN.{length, take, drop, set, replicate, length-replicate, length-appe
 use lib.Seq.{sets, sets-eq, drop-length, take-at, drop-at, drop-drop, length-take-le}
 use Rattle.frames.specs.Refusals.{Result, refused, good}
 use Rattle.frames.specs.declared.Refusal.{Refusal}
-use Rattle.wiring.specs.declared.Limits.{Limits}
+use Rattle.wiring.specs.declared.Setting.{Setting}
 use Rattle.wiring.specs.declared.ExpanderUnit.{ExpanderUnit}
 use Rattle.wiring.specs.declared.Phy.{Phy}
 use Rattle.wiring.specs.Domain.{Expander, Domain, addressOf}
@@ -124,7 +124,7 @@ pasted-next ws i a k e r d qa qk qr qe h =
     rw (s, t1, t2) (append-assoc (take a ws) r (rowsOf d ++ drop (258 * (i + suc (length d))) ws) ∙ rw (qa, qr, append-assoc (rowOf e)))
 
 -- the expanders that are left
-module _ (most : Limits) (file : List ℕ) (n i at : ℕ) where
+module _ (most : Setting) (file : List ℕ) (n i at : ℕ) where
   got-next : (x : Result (Parsed ExpanderUnit)) → expanderUnit most file [] i at ≡ x → i < n
       → domainGot most file (n - i) i at
       ≡ thenGot x (λ u. expanderOf (u .value) (physAfter file i u .value) ∷ domainGot most file (n - (i + 1)) (i + 1) (physAfter file i u .next))

@@ -1,9 +1,9 @@
 -- What a file reads as, by one induction over the definitions of the file: for each unit a record of all its facts. The domain is one
--- that causes 1 to 6 leave, it fits where the file is of bytes, and the second reading gets it again. A file that is refused is refused
--- with a number from 1 to 6.
+-- that causes 22 and 1 to 6 leave, it fits where the file is of bytes, and the second reading gets it again. A file that is refused is refused
+-- with a number from 1 to 6, or with 22.
 use Prim.Native.Nat.{ℕ, zero, suc, _+_, _^_, _≤_, _<_}
 use mathlib.Core.Path.{_≡_, refl, sym, ap, _∙_}
-use mathlib.Core.Logic.{_≢_, inl, ⊎-elim}
+use mathlib.Core.Logic.{_≢_, inl, inr, ⊎-elim}
 use mathlib.Core.Bool.{Bool, true, false, cond, not, _&&_}
 use mathlib.Core.List.{List, [], _∷_, _++_}
 use native.Mathlib.Nat.{pow-suc}
@@ -23,27 +23,29 @@ use Rattle.frames.specs.declared.Discover.{Discover}
 use Rattle.frames.specs.declared.Response.{Response}
 use Rattle.frames.specs.declared.Response.the-variants.{ReportGeneral, Discover as DiscoverResponse}
 use Rattle.frames.proofs.Exactly.{Holds, Numbered, unless-holds, then-holds}
-use Rattle.wiring.specs.declared.Limits.{Limits}
+use Rattle.wiring.specs.declared.Setting.{Setting}
 use Rattle.wiring.specs.declared.ExpanderUnit.{ExpanderUnit}
 use Rattle.wiring.specs.declared.PhyFields.{PhyFields}
 use Rattle.wiring.specs.declared.Phy.{Phy}
 use Rattle.wiring.specs.declared.Phy.the-variants.{Present}
 use Rattle.wiring.specs.Lists.{any, In, isIn, Distinct}
+use Rattle.wiring.specs.Settings.{within, inRange}
 use Rattle.wiring.specs.Domain.{Expander, Domain}
 use Rattle.wiring.specs.Read.{ReadPhy, ReadExpander, addresses, Read, Bytes, FitsPhy, FitsExpander, FitsDomain}
 use Rattle.wiring.specs.File.{Parsed, parsed, placed, sizeAt, frameAt, fieldsOf, ranged, phyOf, phyUnit, phyUnits, unitOf, unitTested, expanderUnit, expanderOf, expanders, headerUnit, domainRead}
 use Rattle.wiring.specs.Tested.{readNumber}
 use Rattle.wiring.specs.Fill.{physGot, domainGot}
+use Rattle.wiring.proofs.Ranges.{range-iff}
 use Rattle.wiring.proofs.Results.{held, weaker, both}
-use Rattle.wiring.proofs.Members.{tests, was-false, in-cast, all-cons, in-left, in-right, isIn-of}
+use Rattle.wiring.proofs.Members.{tests, was-true, was-false, in-cast, all-cons, in-left, in-right, isIn-of}
 
--- what reading yields: a refusal with a number from 1 to 6, or something of which P holds
+-- what reading yields: a refusal with a number from 1 to 6 or 22, or something of which P holds
 module _ {A : Type 0} (P : A → Type 0) where
   abbrev Reads : Result A → Type 0
   Reads = Holds readNumber P
 
   tested : (b : Bool) (r : Refusal) (x : Result A) → T (leb 1 (r .number) && leb (r .number) 6) → (b ≡ true → Reads x) → Reads (unless b r x)
-  tested b r x t = unless-holds readNumber P b r x (search (tests, leb→le), search (tests, leb→le))
+  tested b r x t = unless-holds readNumber P b r x (inl (search (tests, leb→le), search (tests, leb→le)))
 
 next : {A B : Type 0} (P : A → Type 0) (Q : B → Type 0) (x : Result A) (k : A → Result B) → Reads P x
     → ((a : A) → x ≡ good a → P a → Reads Q (k a)) → Reads Q (then x k)
@@ -75,7 +77,7 @@ size-reads kind s = tested (λ _. Unit {0}) (leb 4 (length s)) (refusal 1 0 0) _
     go : (b c : Bool) → Reads (λ _. Unit {0}) (cond b (good (shortSize kind)) (cond c (good (longSize kind)) (refused (refusal 2 0 0))))
     go true c = tt
     go false true = tt
-    go false false = (omega arith, omega arith)
+    go false false = inl (omega arith, omega arith)
 
 -- one frame
 itself-holds : {A : Type 0} (P : A → Type 0) (kind : Response) (rest : List ℕ → Result A) (s : List ℕ) → Reads P (rest s) → Reads P (byItself kind rest s)
@@ -193,7 +195,7 @@ module _ (file : List ℕ) where
       record { size = ap suc (r .size); each = all-cons (PhyFacts file) (u .value) (us .value) f (r .each); again = simp (q, r .again) }))
 
 -- an expander's unit: one that passes where addresses were seen passes where none were
-record ExpanderFacts (most : Limits) (file seen : List ℕ) (i at : ℕ) (u : Parsed ExpanderUnit) : Type 0 where
+record ExpanderFacts (most : Setting) (file seen : List ℕ) (i at : ℕ) (u : Parsed ExpanderUnit) : Type 0 where
   borne : u .value .address ≢ 0
   new : ¬ (In (u .value .address) seen)
   configurable : u .value .configurable ≤ 1
@@ -202,7 +204,7 @@ record ExpanderFacts (most : Limits) (file seen : List ℕ) (i at : ℕ) (u : Pa
   fits : Bytes file → (u .value .address < 2 ^ 64) × ((u .value .indexes < 65536) × (u .value .phys < 256))
   again : expanderUnit most file [] i at ≡ good u
 
-module _ (most : Limits) (file : List ℕ) where
+module _ (most : Setting) (file : List ℕ) where
   expanderUnit-facts : (seen : List ℕ) (i at : ℕ) → Reads (ExpanderFacts most file seen i at) (expanderUnit most file seen i at)
   unfolding expanderUnit isIn any
   expanderUnit-facts seen i at =
@@ -214,7 +216,7 @@ module _ (most : Limits) (file : List ℕ) where
       let w = unitOf own (g .value) in
       let R : ExpanderUnit → Type 0 = λ u. P (parsed u (g .next)) in
       next R P (unitTested most seen i w) _
-      (tested R (leb 1 (w .phys) && leb (w .phys) (most .phys)) (refusal 3 i 0) _ tt (λ three.
+      (tested R (within (most .phys) (w .phys)) (refusal 3 i 0) _ tt (λ three.
       tested R (not (eqb own 0) && not (isIn own seen)) (refusal 4 i 0) _ tt (λ four.
       let n = both (leb 1 (w .phys)) _ three in
       let o = both (not (eqb own 0)) _ four in
@@ -280,7 +282,7 @@ module _ (most : Limits) (file : List ℕ) where
       let n = byte file 1 in
       tested HeaderFacts (leb 2 (length file)) (refusal 1 0 0) _ tt (λ _.
       tested HeaderFacts (eqb (byte file 0) 0x10) (refusal 2 0 0) _ tt (λ _.
-      tested HeaderFacts (leb 1 n && leb n (most .expanders)) (refusal 3 0 0) _ tt (λ three.
+      tested HeaderFacts (within (most .expanders) n) (refusal 3 0 0) _ tt (λ three.
       let k = both (leb 1 n) _ three in
       record { stated = refl; some = leb-true 1 n (k .0); few = leb-true n (most .expanders) (k .1) })))
 
@@ -294,17 +296,18 @@ module _ (most : Limits) (file : List ℕ) where
   file-facts : Reads FileFacts (domainRead most file)
   unfolding domainRead
   file-facts =
+      unless-holds readNumber FileFacts (inRange most) (refusal 22 0 0) _ (inr refl) (λ set.
       next HeaderFacts FileFacts (headerUnit most file) _ header-facts (λ n _ k.
       weaker readNumber readNumber (RestFacts [] n 0 2) FileFacts (expanders most file n 0 2 []) (expanders-facts n 0 2 []) (λ _ k. k) (λ d r.
       let e = r .size in
       record {
-        read = record { some = omega (arith, k .some); few = omega (arith, k .few); differ = r .differ; each = r .each };
+        read = record { range = range-iff most .0 (was-true (inRange most) set); some = omega (arith, k .some); few = omega (arith, k .few); differ = r .differ; each = r .each };
         fits = λ b. record { count = omega (arith, k .stated, b 1); each = r .fits b };
         stated = r .size ∙ k .stated;
         again = rw (r .size) (r .again);
-      }))
+      })))
 
-  -- what a file reads as, causes 1 to 6 leave
+  -- what a file reads as, causes 22 and 1 to 6 leave
   pub read-good : (d : Domain) → domainRead most file ≡ good d → Read most d
   read-good d q = held readNumber FileFacts (domainRead most file) d file-facts q .read
 
@@ -320,9 +323,9 @@ module _ (most : Limits) (file : List ℕ) where
   pub read-again : (d : Domain) → domainRead most file ≡ good d → domainGot most file (length d) 0 2 ≡ d
   read-again d q = held readNumber FileFacts (domainRead most file) d file-facts q .again
 
-  -- it is refused with a number from 1 to 6, or with none
-  pub read-numbered : (N : ℕ → Type 0) → ((n : ℕ) → 1 ≤ n → n ≤ 6 → N n) → Numbered N (domainRead most file)
-  read-numbered N h = weaker readNumber N FileFacts (λ _. Unit {0}) (domainRead most file) file-facts (λ n k. h n (k .0) (k .1)) (λ _ _. tt)
+  -- it is refused with a number from 1 to 6, with 22, or with none
+  pub read-numbered : (N : ℕ → Type 0) → ((n : ℕ) → readNumber n → N n) → Numbered N (domainRead most file)
+  read-numbered N h = weaker readNumber N FileFacts (λ _. Unit {0}) (domainRead most file) file-facts h (λ _ _. tt)
 
   pub few-phys : (seen : List ℕ) (i at : ℕ) (u : Parsed ExpanderUnit) → expanderUnit most file seen i at ≡ good u → u .value .phys ≤ most .phys
   few-phys seen i at u q = held readNumber (ExpanderFacts most file seen i at) (expanderUnit most file seen i at) u (expanderUnit-facts seen i at) q .few

@@ -20,7 +20,8 @@ use Rattle.frames.specs.declared.Refusal.{Refusal}
 use Rattle.frames.specs.declared.Response.{Response}
 use Rattle.frames.specs.declared.Response.the-variants.{ReportGeneral, Discover as DiscoverResponse}
 use Rattle.frames.proofs.LongFrames.{size-least}
-use Rattle.wiring.specs.declared.Limits.{Limits}
+use Rattle.wiring.specs.declared.Setting.{Setting}
+use Rattle.wiring.specs.Settings.{within, inRange}
 use Rattle.wiring.specs.declared.ExpanderUnit.{ExpanderUnit}
 use Rattle.wiring.specs.declared.Phy.{Phy}
 use Rattle.wiring.specs.Lists.{any, isIn}
@@ -121,7 +122,7 @@ module _ (i : ℕ) (after : ℕ → ℕ → Result Domain) where
     go-unit (good u) h next e = go-phys (u .value) h next (phys u) e
 
 -- the expanders that are left
-module _ (most : Limits) (file : List ℕ) (n i at : ℕ) (seen : List ℕ) where
+module _ (most : Setting) (file : List ℕ) (n i at : ℕ) (seen : List ℕ) where
   module _ {v : Result ℕ} (inv : then (expanders most file (n - i) i at seen) (countFrom i) ≡ v) where
     pub expander-stop : {r : Refusal} → expanderChecked most file seen i at ≡ refused r → i < n → refused r ≡ v
     unfolding expanders expanderChecked
@@ -156,13 +157,13 @@ module _ (most : Limits) (file : List ℕ) (n i at : ℕ) (seen : List ℕ) wher
 pub take-next : (s : List ℕ) (i a : ℕ) → i < length s → take (i + 1) (set s i a) ≡ take i s ++ (a ∷ [])
 take-next s i a h = rw (add-one, take-suc-set s i a h)
 
--- a file, by what the tests of its first two bytes answer
-pub file-by : (most : Limits) (file : List ℕ) {a b c : Bool} → leb 2 (length file) ≡ a → eqb (byte file 0) 0x10 ≡ b
-    → (leb 1 (byte file 1) && leb (byte file 1) (most .expanders)) ≡ c
+-- a file, by what the tests of the setting and of its first two bytes answer
+pub file-by : (most : Setting) (file : List ℕ) {o a b c : Bool} → inRange most ≡ o → leb 2 (length file) ≡ a → eqb (byte file 0) 0x10 ≡ b
+    → within (most .expanders) (byte file 1) ≡ c
     → then (domainRead most file) countOf
-    ≡ then (then (unless a (refusal 1 0 0) (unless b (refusal 2 0 0) (unless c (refusal 3 0 0) (good (byte file 1))))) (λ n. expanders most file n 0 2 [])) countOf
+    ≡ then (unless o (refusal 22 0 0) (then (unless a (refusal 1 0 0) (unless b (refusal 2 0 0) (unless c (refusal 3 0 0) (good (byte file 1))))) (λ n. expanders most file n 0 2 []))) countOf
 unfolding domainRead headerUnit
-file-by most file p q r = rw (p, q, r)
+file-by most file s p q r = rw (s, p, q, r)
 
 -- n bytes are there from offset a on
 pub bytes-there : (a n l : ℕ) → a ≤ l → leb n (l - a) ≡ leb (a + n) l
@@ -251,7 +252,7 @@ module _ (file : List ℕ) (own i p at : ℕ) where
   unfolding phyUnit
   phy-unit-by = unit-by DiscoverResponse discoverRead (phyOf own i p) i p file at
 
-module _ (most : Limits) (file seen : List ℕ) (i at own : ℕ) (o : numberAt file at 8 ≡ own) where
+module _ (most : Setting) (file seen : List ℕ) (i at own : ℕ) (o : numberAt file at 8 ≡ own) where
   pub expander-unit-cut : (r : Refusal) → sizeAt ReportGeneral file (at + 8) ≡ refused r → expanderUnit most file seen i at ≡ refused (refusal (r .number) i 0)
   unfolding expanderUnit
   expander-unit-cut r e = rw o (unit-cut ReportGeneral generalRead (λ g. unitTested most seen i (unitOf own g)) i 0 file (at + 8) r e)

@@ -19,15 +19,16 @@ use Rattle.frames.specs.declared.Refusal.{Refusal}
 use Rattle.frames.specs.declared.Response.{Response}
 use Rattle.frames.specs.declared.Response.the-variants.{ReportGeneral, Discover}
 use Rattle.frames.proofs.LongFrames.{number-alike, short-length, short-size, short-general, short-discover}
-use Rattle.wiring.specs.declared.Limits.{Limits}
+use Rattle.wiring.specs.declared.Setting.{Setting}
 use Rattle.wiring.specs.declared.ExpanderUnit.{ExpanderUnit}
 use Rattle.wiring.specs.declared.Phy.{Phy}
 use Rattle.wiring.specs.Domain.{Domain}
-use Rattle.wiring.specs.File.{limits, Parsed, parsed, placed, sizeAt, frameAt, phyOf, phyUnit, phyUnits, unitOf, unitTested, expanderUnit, expanderOf, expanders, headerUnit, domainRead}
+use Rattle.wiring.specs.Settings.{inRange}
+use Rattle.wiring.specs.File.{Parsed, parsed, placed, sizeAt, frameAt, phyOf, phyUnit, phyUnits, unitOf, unitTested, expanderUnit, expanderOf, expanders, headerUnit, domainRead}
 use Rattle.wiring.specs.Units.{endsAt}
 use Rattle.wiring.specs.Neighbours.{wiringCall}
 use Rattle.wiring.specs.ShortFile.{orStay, shortPhys, shortExpanders, shortFile}
-use Rattle.wiring.proofs.Results.{never, good-one, then-good}
+use Rattle.wiring.proofs.Results.{never, good-one, unless-good, then-good}
 use Rattle.wiring.proofs.Reading.{size-whole, size-within, unitAt, unit-cut, unit-by}
 
 -- the size of a frame depends on the bytes from its offset on
@@ -178,7 +179,7 @@ after-phys file other own i rest (good us) y f g h same = rw (h .value) (same us
 byte-from : (file : List ℕ) (a j : ℕ) → byte file (a + j) ≡ byte (drop a file) j
 byte-from file a j = sym (getD-drop a file j 0)
 
-module _ (most : Limits) (file other : List ℕ) where
+module _ (most : Setting) (file other : List ℕ) where
   module _ (seen : List ℕ) (i a b : ℕ) where
     abbrev tested : ℕ → General → Result ExpanderUnit
     tested own g = unitTested most seen i (unitOf own g)
@@ -256,7 +257,7 @@ module _ (most : Limits) (file other : List ℕ) where
   rest-read (suc count) i a b seen h k d = expander-step count i a b seen (λ m n more. rest-read count (i + 1) m n more) (expanderUnit most file seen i a) refl d
 
 -- the header
-module _ (most : Limits) (file more : List ℕ) where
+module _ (most : Setting) (file more : List ℕ) where
   header-there : (n : ℕ) → headerUnit most file ≡ good n → 2 ≤ length file
   unfolding headerUnit
   header-there n e = go (leb 2 (length file)) _ refl e
@@ -274,9 +275,9 @@ module _ (most : Limits) (file more : List ℕ) where
       rw (le-leb 2 (length (take 2 file ++ more)) k, le-leb 2 (length file) h, b 0 (omega arith), b 1 (omega arith))
 
 -- a file and its short file read to the same result, domain or refusal with its place
-pub short-file : (most : Limits) (file : List ℕ) → domainRead most (shortFile most file) ≡ domainRead most file
+pub short-file : (most : Setting) (file : List ℕ) → domainRead most (shortFile most file) ≡ domainRead most file
 unfolding domainRead shortFile
-short-file most file = go (headerUnit most file) refl
+short-file most file = ap (unless (inRange most) (refusal 22 0 0)) (go (headerUnit most file) refl)
   where
     go : (x : Result ℕ) → headerUnit most file ≡ x
         → then (headerUnit most (orStay file x (λ n. take 2 file ++ shortExpanders most file n 0 2 []))) (λ n.
@@ -292,9 +293,9 @@ short-file most file = go (headerUnit most file) refl
         rw (header-same most file more h ∙ e) (rest-read most file other n 0 2 2 [] h k (drop-at (take 2 file) more 2 l))
 
 -- so the wiring call on both is the same
-pub short-wiring : (file : List ℕ) (room : ℕ) → wiringCall (shortFile limits file) room ≡ wiringCall file room
+pub short-wiring : (most : Setting) (file : List ℕ) (room : ℕ) → wiringCall most (shortFile most file) room ≡ wiringCall most file room
 unfolding wiringCall
-short-wiring file room = rw (short-file limits file)
+short-wiring most file room = rw (short-file most file)
 
 -- every frame of a short file is short: it ends with the bytes of its short units
 abbrev pub shortBytes : Domain → ℕ
@@ -326,7 +327,7 @@ phys-bytes file own i rest (suc count) p a us e =
     ap (λ x. length (orStay (drop a file) x (λ w. shortFrame Discover (drop a file) ++ shortPhys file own i count (p + 1) (w .next) rest))) (one .1)
     ∙ length-append (shortFrame Discover (drop a file)) (shortPhys file own i count (p + 1) (u .next) rest) ∙ omega arith
 
-rest-bytes : (most : Limits) (file : List ℕ) (count i a : ℕ) (seen : List ℕ) (d : Domain) → expanders most file count i a seen ≡ good d
+rest-bytes : (most : Setting) (file : List ℕ) (count i a : ℕ) (seen : List ℕ) (d : Domain) → expanders most file count i a seen ≡ good d
     → length (shortExpanders most file count i a seen) ≡ shortBytes d
 unfolding expanders shortExpanders expanderUnit
 rest-bytes most file zero i a seen d e = ends (eqb a (length file)) refl e
@@ -358,10 +359,11 @@ rest-bytes most file (suc count) i a seen d e =
     ++ shortPhys file (w .value .address) i (w .value .phys) 0 (w .next) (λ next. shortExpanders most file count (i + 1) next (seen ++ (w .value .address ∷ []))))))) (one .1)
     ∙ length-append (take 8 (drop a file)) (frame ++ after) ∙ ap (λ (k : ℕ). length (take 8 (drop a file)) + k) (length-append frame after) ∙ omega arith
 
-pub short-file-bytes : (most : Limits) (file : List ℕ) (d : Domain) → domainRead most file ≡ good d → length (shortFile most file) ≡ 2 + shortBytes d
+pub short-file-bytes : (most : Setting) (file : List ℕ) (d : Domain) → domainRead most file ≡ good d → length (shortFile most file) ≡ 2 + shortBytes d
 unfolding domainRead shortFile
 short-file-bytes most file d e =
-    let head = then-good (headerUnit most file) _ d e in
+    let read = unless-good (inRange most) (refusal 22 0 0) _ d e .1 in
+    let head = then-good (headerUnit most file) _ d read in
     let n = head .0 in
     let h = header-there most file [] n (head .1) in
     let l = length-take-le 2 file h in

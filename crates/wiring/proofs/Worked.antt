@@ -23,10 +23,10 @@ bench φs = record { address = 1; indexes = 0; configurable = 0; phys = φs } �
 -- a domain passes 7 to 10, has one bit in all, its own, and is a loop
 abbrev SelfCabled : Domain → Type 0
 SelfCabled d =
-    (wiredDomain d ≡ good d) × ((neighbourWords d ≡ 1 ∷ []) × ((bitsIn (neighbourWords d) ≡ 1) × (linkedDomain d ≡ refused (refusal 11 0 0))))
+    (wiredDomain d ≡ good d) × ((neighbourWords d ≡ 1 ∷ []) × ((bitsIn (neighbourWords d) ≡ 1) × ((chain : ℕ) → linkedDomain chain d ≡ refused (refusal 11 0 0))))
 
 -- a phy that names itself, and two phys that name each other
 pub self-cabled : SelfCabled (bench (self 0 ∷ [])) × SelfCabled (bench (self 1 ∷ self 0 ∷ []))
 unfolding numbers any keep isIn numberOf unanswered endAt claimed clash clashing fixed phyPlaces placesFrom firstIn wiredDomain strip reach cabled
     neighbours setOf neighbourWord neighbourWords bitsIn unlooped joined joinedIn linkedDomain ones onesIn
-self-cabled = ((refl, (refl, (refl, refl))), (refl, (refl, (refl, refl))))
+self-cabled = ((refl, (refl, (refl, λ chain. refl))), (refl, (refl, (refl, λ chain. refl))))

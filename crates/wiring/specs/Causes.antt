@@ -5,10 +5,11 @@ use mathlib.Core.List.{List, [], _∷_, _++_}
 use lib.ListN.{length, take}
 use lib.Dec.{eqb, ltb}
 use Rattle.frames.specs.Refusals.{Result, refused, good, then, refusal}
+use Rattle.wiring.specs.declared.Setting.{Setting}
 use Rattle.wiring.specs.declared.Phy.{Phy}
 use Rattle.wiring.specs.Lists.{any}
 use Rattle.wiring.specs.Domain.{Expander, Domain, expanderAt, phyAt, addressOf, farOf, attributeOf, routes, attached, toEnd, toExpander, numberOf}
-use Rattle.wiring.specs.File.{limits, domainRead}
+use Rattle.wiring.specs.File.{domainRead}
 
 -- the far end of a phy: a vacant phy where it is missing
 abbrev pub farPhy : Domain → Phy → Phy
@@ -88,6 +89,6 @@ wiredDomain d =
     then (firstOf 9 (clashing d) d) (λ _.
     firstOf 10 (fixed d) d)))
 
--- a domain file past causes 1 to 10
-abbrev pub wired : List ℕ → Result Domain
-wired file = then (domainRead limits file) wiredDomain
+-- a domain file under a setting, past causes 22 and 1 to 10
+abbrev pub wired : Setting → List ℕ → Result Domain
+wired setting file = then (domainRead setting file) wiredDomain

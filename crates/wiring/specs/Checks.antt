@@ -6,13 +6,14 @@ use mathlib.Core.List.{List}
 use lib.ListN.{length}
 use lib.Dec.{eqb, leb}
 use Rattle.frames.specs.Refusals.{Result, refused, good, unless, refusal}
+use Rattle.wiring.specs.declared.Setting.{Setting}
 use Rattle.wiring.specs.declared.Check.{Check}
 use Rattle.wiring.specs.declared.Check.the-variants.{Refused, Passed}
 use Rattle.wiring.specs.Domain.{Domain, expanderAt}
 use Rattle.wiring.specs.Causes.{unanswered, claimed, clashing, fixed, phyPlaces, firstIn}
 use Rattle.wiring.specs.Links.{checkedDomain}
 use Rattle.wiring.specs.Addresses.{slotsBefore, IndexRoom}
-use Rattle.wiring.specs.File.{limits, domainRead}
+use Rattle.wiring.specs.File.{domainRead}
 
 -- what the answer says in document 01's terms: the domain itself where it passed
 abbrev pub checkAnswer : Domain → Check → Result Domain
@@ -42,11 +43,11 @@ pub record Testable (k : ℕ) (d : Domain) (i p : ℕ) : Type 0 where
   pub within : p < length (expanderAt d i .phys)
   pub none : (q : ℕ) → q < p → causeOf k d i q ≡ false
 
--- causes 7 to 12 in order, where there is room for entries of so many slots and phys: 16 otherwise
-unfoldable pub checkedIn : ℕ → ℕ → Domain → Result Domain
-checkedIn first low d = unless (leb (slotsBefore (length d)) first && leb (128 * length d) low) (refusal 16 0 0) (checkedDomain d)
+-- causes 7 to 12 and 23 in order, where there is room for entries of so many slots and phys: 16 otherwise
+unfoldable pub checkedIn : ℕ → ℕ → ℕ → Domain → Result Domain
+checkedIn chain first low d = unless (leb (slotsBefore (length d)) first && leb (128 * length d) low) (refusal 16 0 0) (checkedDomain chain d)
 
 -- room for the rows of a file's domain, and for the entries of its slots and phys
-pub record FileRoom (file words first low : List ℕ) : Type 0 where
-  pub rows : (d : Domain) → domainRead limits file ≡ good d → 258 * length d ≤ length words
-  pub index : (d : Domain) → domainRead limits file ≡ good d → IndexRoom d first low
+pub record FileRoom (setting : Setting) (file words first low : List ℕ) : Type 0 where
+  pub rows : (d : Domain) → domainRead setting file ≡ good d → 258 * length d ≤ length words
+  pub index : (d : Domain) → domainRead setting file ≡ good d → IndexRoom d first low

@@ -1,4 +1,4 @@
--- The domain file: causes 1 to 6, unit by unit, and in each unit number by number.
+-- The domain file under a setting: cause 22, then causes 1 to 6, unit by unit, and in each unit number by number.
 use Prim.Native.Nat.{ℕ, zero, suc, _+_}
 use mathlib.Core.Bool.{Bool, true, false, not, _||_, _&&_}
 use mathlib.Core.List.{List, [], _∷_, _++_}
@@ -13,17 +13,14 @@ use Rattle.frames.specs.declared.General.{General}
 use Rattle.frames.specs.declared.Discover.{Discover}
 use Rattle.frames.specs.declared.Response.{Response}
 use Rattle.frames.specs.declared.Response.the-variants.{ReportGeneral, Discover as DiscoverResponse}
-use Rattle.wiring.specs.declared.Limits.{Limits}
+use Rattle.wiring.specs.declared.Setting.{Setting}
 use Rattle.wiring.specs.declared.ExpanderUnit.{ExpanderUnit}
 use Rattle.wiring.specs.declared.PhyFields.{PhyFields}
 use Rattle.wiring.specs.declared.Phy.{Phy}
 use Rattle.wiring.specs.declared.Phy.the-variants.{Vacant, Present}
 use Rattle.wiring.specs.Lists.{isIn}
+use Rattle.wiring.specs.Settings.{within, inRange}
 use Rattle.wiring.specs.Domain.{Expander, Domain}
-
--- 64 expanders of 128 phys at most
-abbrev pub limits : Limits
-limits = record { expanders = 64; phys = 128 }
 
 -- what was read, and the place after it
 pub record Parsed (A : Type 0) : Type 0 where
@@ -92,14 +89,14 @@ unitOf own g = record { address = own; indexes = g .indexes; phys = g .phys; con
 
 -- 3 and 4, of an expander's fields, where `seen` are the addresses of the expanders before it: phy count outside its range; address
 -- zero or already used
-abbrev pub unitTested : Limits → List ℕ → ℕ → ExpanderUnit → Result ExpanderUnit
+abbrev pub unitTested : Setting → List ℕ → ℕ → ExpanderUnit → Result ExpanderUnit
 unitTested most seen i u =
-    unless (leb 1 (u .phys) && leb (u .phys) (most .phys)) (refusal 3 i 0)
+    unless (within (most .phys) (u .phys)) (refusal 3 i 0)
     (unless (not (eqb (u .address) 0) && not (isIn (u .address) seen)) (refusal 4 i 0)
     (good u))
 
 -- the unit of expander i at offset `at`: its address, and its frame from the byte after that on
-unfoldable pub expanderUnit : Limits → List ℕ → List ℕ → ℕ → ℕ → Result (Parsed ExpanderUnit)
+unfoldable pub expanderUnit : Setting → List ℕ → List ℕ → ℕ → ℕ → Result (Parsed ExpanderUnit)
 expanderUnit most file seen i at =
     then (placed i 0 (frameAt ReportGeneral generalRead file (at + 8))) (λ g.
     then (unitTested most seen i (unitOf (numberAt file at 8) (g .value))) (λ u.
@@ -109,7 +106,7 @@ abbrev pub expanderOf : ExpanderUnit → List Phy → Expander
 expanderOf u φs = record { address = u .address; indexes = u .indexes; configurable = u .configurable; phys = φs }
 
 -- the last `count` expanders, from expander i on; then bytes after the last unit
-unfoldable pub expanders : Limits → List ℕ → ℕ → ℕ → ℕ → List ℕ → Result Domain
+unfoldable pub expanders : Setting → List ℕ → ℕ → ℕ → ℕ → List ℕ → Result Domain
 expanders most file zero i at seen = unless (eqb at (length file)) (refusal 1 i 0) (good [])
 expanders most file (suc count) i at seen =
     then (expanderUnit most file seen i at) (λ u.
@@ -118,13 +115,15 @@ expanders most file (suc count) i at seen =
     good (expanderOf (u .value) (φs .value) ∷ d))))
 
 -- the header: the count of expanders
-unfoldable pub headerUnit : Limits → List ℕ → Result ℕ
+unfoldable pub headerUnit : Setting → List ℕ → Result ℕ
 headerUnit most file =
     unless (leb 2 (length file)) (refusal 1 0 0)
     (unless (eqb (byte file 0) 0x10) (refusal 2 0 0)
-    (unless (leb 1 (byte file 1) && leb (byte file 1) (most .expanders)) (refusal 3 0 0)
+    (unless (within (most .expanders) (byte file 1)) (refusal 3 0 0)
     (good (byte file 1))))
 
--- a domain file, as far as causes 1 to 6 go
-unfoldable pub domainRead : Limits → List ℕ → Result Domain
-domainRead most file = then (headerUnit most file) (λ n. expanders most file n 0 2 [])
+-- a domain file under a setting, as far as causes 22 and 1 to 6 go
+unfoldable pub domainRead : Setting → List ℕ → Result Domain
+domainRead most file =
+    unless (inRange most) (refusal 22 0 0)
+    (then (headerUnit most file) (λ n. expanders most file n 0 2 []))

@@ -5,7 +5,7 @@ use mathlib.Core.List.{List, [], _∷_, _++_}
 use lib.ListN.{length, take, drop}
 use lib.Seq.{sets}
 use Rattle.frames.specs.Refusals.{Result, refused, good}
-use Rattle.wiring.specs.declared.Limits.{Limits}
+use Rattle.wiring.specs.declared.Setting.{Setting}
 use Rattle.wiring.specs.declared.ExpanderUnit.{ExpanderUnit}
 use Rattle.wiring.specs.declared.Phy.{Phy}
 use Rattle.wiring.specs.declared.Phy.the-variants.{Vacant}
@@ -39,7 +39,7 @@ abbrev pub thenGot : Result (Parsed ExpanderUnit) → (Parsed ExpanderUnit → D
 thenGot (refused r) k = []
 thenGot (good u) k = k u
 
-unfoldable pub domainGot : Limits → List ℕ → ℕ → ℕ → ℕ → Domain
+unfoldable pub domainGot : Setting → List ℕ → ℕ → ℕ → ℕ → Domain
 domainGot most file zero i at = []
 domainGot most file (suc count) i at =
     thenGot (expanderUnit most file [] i at) (λ u.

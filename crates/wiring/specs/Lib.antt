@@ -3,6 +3,7 @@ pub mod Lists
 pub mod Domain
 pub mod Addresses
 pub mod SearchTree
+pub mod Settings
 pub mod File
 pub mod ShortFile
 pub mod Read

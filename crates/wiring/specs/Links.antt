@@ -1,4 +1,4 @@
--- Causes 11 and 12: loops, and chains to expander 0.
+-- Causes 11, 12 and 23 in order: loops, chains to expander 0, and long chains.
 use Prim.Native.Nat.{ℕ}
 use mathlib.Core.Bool.{Bool, cond}
 use mathlib.Core.List.{List, [], _∷_}
@@ -9,6 +9,7 @@ use Rattle.wiring.specs.Domain.{Domain}
 use Rattle.wiring.specs.Causes.{wiredDomain}
 use Rattle.wiring.specs.Graph.{loopfree, reached}
 use Rattle.wiring.specs.Neighbours.{neighbours}
+use Rattle.wiring.specs.Chains.{unlong}
 
 -- 11: loop. `loopfree` says exactly that there is none: `loopfree-iff` (proofs/Loops)
 unfoldable pub unlooped : Domain → Result Domain
@@ -23,10 +24,13 @@ unfoldable pub joinedIn : List ℕ → Domain → Result Domain
 joinedIn [] d = good d
 joinedIn (i ∷ is) d = cond (joined d i) (joinedIn is d) (refused (refusal 12 i 0))
 
--- causes 11 and 12 in order; 13 is withdrawn (document 02, paper 3)
-unfoldable pub linkedDomain : Domain → Result Domain
-linkedDomain d = then (unlooped d) (λ _. joinedIn (upTo (length d)) d)
+-- causes 11, 12 and 23 in order, where a chain may have so many expanders; 13 is withdrawn (document 02, paper 3)
+unfoldable pub linkedDomain : ℕ → Domain → Result Domain
+linkedDomain chain d =
+    then (unlooped d) (λ _.
+    then (joinedIn (upTo (length d)) d) (λ _.
+    unlong chain d))
 
--- causes 7 to 12 in order
-unfoldable pub checkedDomain : Domain → Result Domain
-checkedDomain d = then (wiredDomain d) (λ _. linkedDomain d)
+-- causes 7 to 12 and 23 in order
+unfoldable pub checkedDomain : ℕ → Domain → Result Domain
+checkedDomain chain d = then (wiredDomain d) (λ _. linkedDomain chain d)

@@ -7,6 +7,7 @@ use lib.ListN.{length, drop}
 use lib.Dec.{eqb, leb}
 use lib.Count.{ones}
 use Rattle.frames.specs.Refusals.{Result, refused, good, unless, then, refusal}
+use Rattle.wiring.specs.declared.Setting.{Setting}
 use Rattle.wiring.specs.declared.Wiring.{Wiring}
 use Rattle.wiring.specs.declared.Wiring.the-variants.{Refused, Bits}
 use Rattle.wiring.specs.Lists.{upTo, any, keep}
@@ -43,9 +44,9 @@ bitsIn (w ∷ ws) = ones w + bitsIn ws
 abbrev pub wordsFor : ℕ → Domain → Result (List ℕ)
 wordsFor room d = unless (leb (length d) room) (refusal 16 0 0) (good (neighbourWords d))
 
--- the wiring call on a file, with room for so many words
-unfoldable pub wiringCall : List ℕ → ℕ → Result (List ℕ)
-wiringCall file room = then (wired file) (wordsFor room)
+-- the wiring call on a file under a setting, with room for so many words
+unfoldable pub wiringCall : Setting → List ℕ → ℕ → Result (List ℕ)
+wiringCall setting file room = then (wired setting file) (wordsFor room)
 
 -- what the wiring call answers in document 01's terms: how many bits are set in all
 abbrev pub wiringAnswer : Wiring → Result ℕ

@@ -1,15 +1,16 @@
--- What causes 1 to 6 leave of a domain (`Read`), and what the bytes of a file have room for (`FitsDomain`): a file of bytes reads as
+-- What causes 22 and 1 to 6 leave of a domain (`Read`), and what the bytes of a file have room for (`FitsDomain`): a file of bytes reads as
 -- a domain of which both hold.
 use Prim.Native.Nat.{ℕ, _^_, _≤_, _<_}
 use mathlib.Core.Path.{_≡_}
 use mathlib.Core.Logic.{_≢_}
 use mathlib.Core.List.{List, map}
 use lib.ListN.{length, getD}
-use Rattle.wiring.specs.declared.Limits.{Limits}
+use Rattle.wiring.specs.declared.Setting.{Setting}
 use Rattle.wiring.specs.declared.PhyFields.{PhyFields}
 use Rattle.wiring.specs.declared.Phy.{Phy}
 use Rattle.wiring.specs.declared.Phy.the-variants.{Vacant, Present}
 use Rattle.wiring.specs.Lists.{In, Distinct}
+use Rattle.wiring.specs.Settings.{InRange}
 use Rattle.wiring.specs.Domain.{Expander, Domain}
 
 -- a phy that is not vacant (6); where nothing is attached, the attached address and phy are 0
@@ -25,7 +26,7 @@ ReadPhy (Vacant result) = result ≢ 0
 ReadPhy (Present f) = ReadFields f
 
 -- an expander: its address is not zero (4), its phys are 1 or more and within the limit (3)
-pub record ReadExpander (most : Limits) (e : Expander) : Type 0 where
+pub record ReadExpander (most : Setting) (e : Expander) : Type 0 where
   pub borne : e .address ≢ 0
   pub configurable : e .configurable ≤ 1
   pub some : 1 ≤ length (e .phys)
@@ -35,8 +36,9 @@ pub record ReadExpander (most : Limits) (e : Expander) : Type 0 where
 abbrev pub addresses : Domain → List ℕ
 addresses d = map (λ e. e .address) d
 
--- a domain: its expanders are 1 or more and within the limit (3), and their addresses differ (4)
-pub record Read (most : Limits) (d : Domain) : Type 0 where
+-- a domain: the setting is in range (22), its expanders are 1 or more and within the limit (3), and their addresses differ (4)
+pub record Read (most : Setting) (d : Domain) : Type 0 where
+  pub range : InRange most
   pub some : 1 ≤ length d
   pub few : length d ≤ most .expanders
   pub differ : Distinct (addresses d)

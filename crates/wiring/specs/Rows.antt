@@ -7,12 +7,13 @@ use mathlib.Core.List.{List, [], _∷_, _++_}
 use lib.ListN.{length, getD, take, drop, replicate}
 use lib.Dec.{eqb, leb}
 use Rattle.frames.specs.Refusals.{Result, refused, good, unless, then, refusal}
+use Rattle.wiring.specs.declared.Setting.{Setting}
 use Rattle.wiring.specs.declared.Phy.{Phy}
 use Rattle.wiring.specs.declared.Phy.the-variants.{Vacant, Present}
 use Rattle.wiring.specs.declared.DomainRead.{DomainRead}
 use Rattle.wiring.specs.declared.DomainRead.the-variants.{Refused, Expanders}
 use Rattle.wiring.specs.Domain.{Expander, Domain, addressOf}
-use Rattle.wiring.specs.File.{limits, domainRead}
+use Rattle.wiring.specs.File.{domainRead}
 
 -- a phy's second word: bit 0 is 0 where it is vacant, and the result follows; else it is 1, and type, attribute and attached phy follow
 abbrev pub phyWord : Phy → ℕ
@@ -71,9 +72,9 @@ readAnswer (Expanders n) = good n
 abbrev pub rowsFor : ℕ → Domain → Result Domain
 rowsFor room d = unless (leb (258 * length d) room) (refusal 16 0 0) (good d)
 
--- reading a file into so many words: causes 1 to 6, then 16
-unfoldable pub rowsRead : List ℕ → ℕ → Result Domain
-rowsRead file room = then (domainRead limits file) (rowsFor room)
+-- reading a file into so many words: causes 22 and 1 to 6, then 16
+unfoldable pub rowsRead : Setting → List ℕ → ℕ → Result Domain
+rowsRead setting file room = then (domainRead setting file) (rowsFor room)
 
 abbrev pub countOf : Domain → Result ℕ
 countOf d = good (length d)
@@ -89,7 +90,7 @@ rowsHold (refused r) after = Unit {0}
 rowsHold (good d) after = domainIn (take (258 * length d) after) ≡ d
 
 -- all that reading a file into words promises: the answer, the words after, and that they give the domain back
-pub record RowsRead (file : List ℕ) (answer : DomainRead) (before after : List ℕ) : Type 0 where
-  pub answers : readAnswer answer ≡ then (rowsRead file (length before)) countOf
-  pub words : after ≡ rowsAfter (rowsRead file (length before)) before
-  pub holds : rowsHold (rowsRead file (length before)) after
+pub record RowsRead (setting : Setting) (file : List ℕ) (answer : DomainRead) (before after : List ℕ) : Type 0 where
+  pub answers : readAnswer answer ≡ then (rowsRead setting file (length before)) countOf
+  pub words : after ≡ rowsAfter (rowsRead setting file (length before)) before
+  pub holds : rowsHold (rowsRead setting file (length before)) after

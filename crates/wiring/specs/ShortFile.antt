@@ -6,7 +6,7 @@ use lib.ListN.{take, drop}
 use Rattle.frames.specs.Refusals.{Result, refused, good}
 use Rattle.frames.specs.Sizes.{shortFrame}
 use Rattle.frames.specs.declared.Response.the-variants.{ReportGeneral, Discover}
-use Rattle.wiring.specs.declared.Limits.{Limits}
+use Rattle.wiring.specs.declared.Setting.{Setting}
 use Rattle.wiring.specs.File.{phyUnit, expanderUnit, headerUnit}
 
 module _ {A : Type 0} where
@@ -23,7 +23,7 @@ shortPhys file own i (suc count) p at rest =
     shortFrame Discover (drop at file) ++ shortPhys file own i count (p + 1) (u .next) rest)
 
 -- from offset `at` on: the units of the last `count` expanders, from expander i on, and bytes after the last unit
-unfoldable pub shortExpanders : Limits → List ℕ → ℕ → ℕ → ℕ → List ℕ → List ℕ
+unfoldable pub shortExpanders : Setting → List ℕ → ℕ → ℕ → ℕ → List ℕ → List ℕ
 shortExpanders most file zero i at seen = drop at file
 shortExpanders most file (suc count) i at seen =
     orStay (drop at file) (expanderUnit most file seen i at) (λ u.
@@ -31,5 +31,5 @@ shortExpanders most file (suc count) i at seen =
     ++ shortPhys file (u .value .address) i (u .value .phys) 0 (u .next) (λ next.
     shortExpanders most file count (i + 1) next (seen ++ (u .value .address ∷ [])))))
 
-unfoldable pub shortFile : Limits → List ℕ → List ℕ
+unfoldable pub shortFile : Setting → List ℕ → List ℕ
 shortFile most file = orStay file (headerUnit most file) (λ n. take 2 file ++ shortExpanders most file n 0 2 [])

@@ -1,4 +1,4 @@
--- What the wiring call tests, cause by cause; and what causes 11 and 12 test, for the calls that run them too.
+-- What the wiring call tests, cause by cause; and what causes 11 and 12 test, for the calls that run them too (23: `ShortChains`).
 use Prim.Native.Nat.{ℕ, _≤_, _<_}
 use mathlib.Core.Path.{_≡_}
 use mathlib.Core.Logic.{_⊎_}
@@ -6,8 +6,10 @@ use mathlib.Core.List.{List}
 use lib.ListN.{length}
 use lib.Dec.{T}
 use Rattle.frames.specs.Refusals.{good}
+use Rattle.wiring.specs.declared.Setting.{Setting}
 use Rattle.wiring.specs.Domain.{Domain}
-use Rattle.wiring.specs.File.{limits, domainRead}
+use Rattle.wiring.specs.Settings.{InRange}
+use Rattle.wiring.specs.File.{domainRead}
 use Rattle.wiring.specs.Causes.{unanswered, claimed, clashing, fixed}
 use Rattle.wiring.specs.Devices.{LoopIn, ChainIn}
 
@@ -30,19 +32,21 @@ pub record Linked (d : Domain) : Type 0 where
   pub chained : (i : ℕ) → i < length d → (l : List ℕ) × ChainIn d 0 i l
 
 -- none of the causes that the wiring call tests holds, with so many words lent
-pub record NoWiringCause (file : List ℕ) (room : ℕ) : Type 0 where
+pub record NoWiringCause (setting : Setting) (file : List ℕ) (room : ℕ) : Type 0 where
   pub domain : Domain
+  -- 22: a setting outside its range
+  pub range : InRange setting
   -- 1 to 6, unit by unit
-  pub read : domainRead limits file ≡ good domain
+  pub read : domainRead setting file ≡ good domain
   -- 7 to 10
   pub passed : Passed domain
   -- 16: lent buffer shorter than needed
   pub enough : length domain ≤ room
 
--- 1 to 6: what reading a file tests
+-- 1 to 6, and 22: what reading a file tests
 abbrev pub readNumber : ℕ → Type 0
-readNumber n = (1 ≤ n) × (n ≤ 6)
+readNumber n = ((1 ≤ n) × (n ≤ 6)) ⊎ (n ≡ 22)
 
--- 1 to 10, and 16
+-- 1 to 10, 16, and 22
 abbrev pub wiringNumber : ℕ → Type 0
-wiringNumber n = ((1 ≤ n) × (n ≤ 10)) ⊎ (n ≡ 16)
+wiringNumber n = ((1 ≤ n) × (n ≤ 10)) ⊎ ((n ≡ 16) ⊎ (n ≡ 22))

@@ -2,7 +2,7 @@
 use Prim.Native.Nat.{ℕ}
 use mathlib.Core.List.{List}
 use Rattle.frames.specs.Refusals.{Result, refused, good, then}
-use Rattle.wiring.specs.declared.Limits.{Limits}
+use Rattle.wiring.specs.declared.Setting.{Setting}
 use Rattle.wiring.specs.declared.ExpanderUnit.{ExpanderUnit}
 use Rattle.wiring.specs.declared.Phy.{Phy}
 use Rattle.wiring.specs.declared.PhyRead.{PhyRead}
@@ -36,7 +36,7 @@ module _ {A : Type 0} where
   endsAt next a = good (parsed a next)
 
 -- an expander's unit, and the place after its phys
-unfoldable pub expanderChecked : Limits → List ℕ → List ℕ → ℕ → ℕ → Result (Parsed ExpanderUnit)
+unfoldable pub expanderChecked : Setting → List ℕ → List ℕ → ℕ → ℕ → Result (Parsed ExpanderUnit)
 expanderChecked most file seen i at =
     then (expanderUnit most file seen i at) (λ u.
     then (physNext (phyUnits file (u .value .address) i (u .value .phys) 0 (u .next))) (λ next.

@@ -1,18 +1,26 @@
-// Cause 23: chains of more expanders than the setting allows.
+// Cause 23: a chain of more expanders than the setting allows.
+use crate::Check;
+use crate::refusals;
 use crate::rounds;
 use crate::view;
+use frames::ExpanderNumber;
+use frames::PhyId;
 ghost use mathlib.Core.Path.{_≡_};
 ghost use Rattle.wiring.specs.Rows.{domainIn};
 ghost use Rattle.wiring.specs.Rounds.{Held};
-ghost use Rattle.wiring.specs.Chains.{chainsWithin};
+ghost use Rattle.wiring.specs.Chains.{unlong};
+ghost use Rattle.wiring.specs.Checks.{checkAnswer};
 
-// Whether cause 23 does not hold: in half as many rounds as a chain may have expanders, each round takes
-// away both ends of every chain, and none is left, or one where that number is odd.
-pub(crate) fn are_short(rows: &[u64], words: &[u64], most: u8) -> bool
+// Cause 23: in half as many rounds as a chain may have expanders, each round takes away both ends of every
+// chain, and none is left, or one where that number is odd. `words` has the neighbour words.
+pub(crate) fn check_chains(rows: &[u64], words: &[u64], chain: u8) -> Check
     requires { ⌜ Held (domainIn (now rows)) (now words) ⌝ }
-    ensures { λ r. ⌜ r ≡ chainsWithin most (domainIn (now (rows .entry))) ⌝ }
+    ensures { λ r. ⌜ checkAnswer (domainIn (now (rows .entry))) r ≡ unlong chain (domainIn (now (rows .entry))) ⌝ }
 {
     let all = rounds::all_of(view::expander_count(rows));
-    let left = rounds::run_rounds(rows, words, 11, most / 2, all);
-    u64::count_ones(left) <= (most % 2) as u32
+    let left = rounds::run_rounds(rows, words, 11, chain / 2, all);
+    if u64::count_ones(left) > (chain % 2) as u32 {
+        return refusals::check_refused(23, ExpanderNumber(0), PhyId(0));
+    }
+    Check::Passed
 }

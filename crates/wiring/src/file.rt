@@ -1,10 +1,11 @@
-// Causes 1 to 6 of a domain file.
+// Causes 22 and 1 to 6 of a domain file.
 use crate::DomainRead;
 use crate::ExpanderRead;
-use crate::Limits;
 use crate::PhyRead;
 use crate::PhysCheck;
+use crate::Setting;
 use crate::refusals;
+use crate::settings;
 use crate::units;
 use frames::ExpanderNumber;
 use frames::PhyId;
@@ -38,7 +39,7 @@ pub(crate) fn check_phys(file: &[u8], own: u64, i: ExpanderNumber, n: u8, at: us
 
 // Expander i with its phys, at offset `at`, and the place after them.
 fn check_expander(
-    most: Limits,
+    most: Setting,
     file: &[u8],
     seen: &[u64],
     i: ExpanderNumber,
@@ -60,7 +61,7 @@ fn check_expander(
 }
 
 // The n expanders of a file, and bytes after the last unit.
-fn check_expanders(most: Limits, file: &[u8], n: u8) -> DomainRead
+fn check_expanders(most: Setting, file: &[u8], n: u8) -> DomainRead
     ensures { λ r. ⌜ readAnswer r ≡ then (expanders most (now (file .entry)) n 0 2 []) countOf ⌝ }
 {
     // the addresses of the expanders before expander i
@@ -87,10 +88,13 @@ fn check_expanders(most: Limits, file: &[u8], n: u8) -> DomainRead
     refusals::domain_refused(1, ExpanderNumber(n))
 }
 
-// Causes 1 to 6 of a file, or how many expanders it has.
-pub(crate) fn check_file(most: Limits, file: &[u8]) -> DomainRead
+// Causes 22 and 1 to 6 of a file, or how many expanders it has.
+pub(crate) fn check_file(most: Setting, file: &[u8]) -> DomainRead
     ensures { λ r. ⌜ readAnswer r ≡ then (domainRead most (now (file .entry))) countOf ⌝ }
 {
+    if !settings::is_in_range(most) {
+        return refusals::domain_refused(22, ExpanderNumber(0));
+    }
     if file.len() < 2 {
         return refusals::domain_refused(1, ExpanderNumber(0));
     }

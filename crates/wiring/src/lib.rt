@@ -9,6 +9,7 @@ mod neighbours;
 mod refusals;
 mod rounds;
 mod rows;
+mod settings;
 mod units;
 mod view;
 mod wiring_call;
@@ -18,6 +19,7 @@ pub use addresses::lowest_phy;
 pub use links::check_domain;
 pub use rows::read_domain;
 pub use rows::stated_count;
+pub use settings::widest;
 pub use view::configurable_bit;
 pub use view::expander_address;
 pub use view::expander_count;
@@ -36,10 +38,12 @@ pub use frames::ExpanderNumber;
 pub use frames::PhyId;
 pub use frames::Refusal;
 
-// The limits of cause 3: the most expanders of a domain, and the most phys of an expander.
-pub struct Limits {
+// A course's setting: the most expanders of a domain, the most phys of an expander, and the longest chain
+// in expanders.
+pub struct Setting {
     pub expanders: u8,
     pub phys: u8,
+    pub chain: u8,
 }
 
 // The fields of a phy that is not vacant: attached device type, routing attribute, attached

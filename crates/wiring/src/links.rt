@@ -1,7 +1,8 @@
-// Causes 11 and 12: loops, and chains to expander 0.
+// Causes 11, 12 and 23 in order: loops, chains to expander 0, and long chains.
 use crate::Check;
 use crate::addresses;
 use crate::causes;
+use crate::chains;
 use crate::neighbours;
 use crate::refusals;
 use crate::rounds;
@@ -50,35 +51,39 @@ fn check_joined(rows: &[u64], words: &[u64]) -> Check
     Check::Passed
 }
 
-// Causes 11 and 12 in order.
-fn check_links(rows: &[u64], first: &[u16]) -> Check
+// Causes 11, 12 and 23 in order. A chain may have `chain` expanders.
+fn check_links(rows: &[u64], first: &[u16], chain: u8) -> Check
     requires { ⌜ IndexedFirst (domainIn (now rows)) (now first) ⌝ }
-    ensures { λ r. ⌜ checkAnswer (domainIn (now (rows .entry))) r ≡ linkedDomain (domainIn (now (rows .entry))) ⌝ }
+    ensures { λ r. ⌜ checkAnswer (domainIn (now (rows .entry))) r ≡ linkedDomain chain (domainIn (now (rows .entry))) ⌝ }
 {
     let mut words = [0u64; 64];
     neighbours::put_neighbours(rows, first, &mut words[..]);
     if !is_loopfree(rows, &words[..]) {
         return refusals::check_refused(11, ExpanderNumber(0), PhyId(0));
     }
-    check_joined(rows, &words[..])
+    let joined = check_joined(rows, &words[..]);
+    match joined {
+        Check::Refused(r) => Check::Refused(r),
+        Check::Passed => chains::check_chains(rows, &words[..], chain),
+    }
 }
 
-// Causes 7 to 12 in order.
-fn check_indexed(rows: &[u64], first: &[u16], low: &[u8]) -> Check
+// Causes 7 to 12 and 23 in order.
+fn check_indexed(rows: &[u64], first: &[u16], low: &[u8], chain: u8) -> Check
     requires { ⌜ Indexed (domainIn (now rows)) (now first) (now low) ⌝ }
-    ensures { λ r. ⌜ checkAnswer (domainIn (now (rows .entry))) r ≡ checkedDomain (domainIn (now (rows .entry))) ⌝ }
+    ensures { λ r. ⌜ checkAnswer (domainIn (now (rows .entry))) r ≡ checkedDomain chain (domainIn (now (rows .entry))) ⌝ }
 {
     let wired = causes::check_wiring(rows, first, low);
     match wired {
         Check::Refused(r) => Check::Refused(r),
-        Check::Passed => check_links(rows, first),
+        Check::Passed => check_links(rows, first, chain),
     }
 }
 
-// Causes 7 to 12 in order, with entries for all slots in `first` and for all phys in `low`, which hold who has
+// Causes 7 to 12 and 23 in order, with entries for all slots in `first` and for all phys in `low`, which hold who has
 // their addresses where it passed. 16 where there is too little room for them.
-pub fn check_domain(rows: &[u64], first: &mut [u16], low: &mut [u8]) -> Check
-    ensures { λ r. ⌜ checkAnswer (domainIn (now (rows .entry))) r ≡ checkedIn (length (now (first .entry))) (length (now (low .entry))) (domainIn (now (rows .entry))) ⌝ }
+pub fn check_domain(rows: &[u64], first: &mut [u16], low: &mut [u8], chain: u8) -> Check
+    ensures { λ r. ⌜ checkAnswer (domainIn (now (rows .entry))) r ≡ checkedIn chain (length (now (first .entry))) (length (now (low .entry))) (domainIn (now (rows .entry))) ⌝ }
     ensures { λ r. ⌜ (r ≡ Check.Passed → Indexed (domainIn (now (rows .entry))) (now (first .exit)) (now (low .exit))) ⌝ }
 {
     let n = view::expander_count(rows) as usize;
@@ -89,5 +94,5 @@ pub fn check_domain(rows: &[u64], first: &mut [u16], low: &mut [u8]) -> Check
         return refusals::check_refused(16, ExpanderNumber(0), PhyId(0));
     }
     addresses::put_index(rows, first, low);
-    check_indexed(rows, first, low)
+    check_indexed(rows, first, low, chain)
 }

@@ -2,9 +2,9 @@
 use crate::DomainRead;
 use crate::ExpanderRead;
 use crate::ExpanderUnit;
-use crate::Limits;
 use crate::Phy;
 use crate::PhyRead;
+use crate::Setting;
 use crate::file;
 use crate::refusals;
 use crate::units;
@@ -103,7 +103,7 @@ fn put_row(row: &mut [u64], file: &[u8], u: ExpanderUnit, i: ExpanderNumber, at:
 }
 
 // Writes the rows of the n expanders of a file that passed causes 1 to 6.
-fn fill_rows(rows: &mut [u64], most: Limits, file: &[u8], n: u8)
+fn fill_rows(rows: &mut [u64], most: Setting, file: &[u8], n: u8)
     requires { ⌜ (most .phys ≤ 128) × (258 * n ≤ length (now rows)) ⌝ }
     ensures { λ _. ⌜ now (rows .exit) ≡ pasted (now (rows .entry)) 0 (domainGot most (now (file .entry)) n 0 2) ⌝ }
 {
@@ -127,23 +127,19 @@ fn fill_rows(rows: &mut [u64], most: Limits, file: &[u8], n: u8)
     }
 }
 
-// Reads a domain file into rows: causes 1 to 6, then 16. The words after the rows stay, and all of them
+// Reads a domain file into rows: causes 22 and 1 to 6, then 16. The words after the rows stay, and all of them
 // where it is refused.
-pub fn read_domain(file: &[u8], rows: &mut [u64]) -> DomainRead
-    ensures { λ r. ⌜ RowsRead (now (file .entry)) r (now (rows .entry)) (now (rows .exit)) ⌝ }
+pub fn read_domain(setting: Setting, file: &[u8], rows: &mut [u64]) -> DomainRead
+    ensures { λ r. ⌜ RowsRead setting (now (file .entry)) r (now (rows .entry)) (now (rows .exit)) ⌝ }
 {
-    let most = Limits {
-        expanders: 64,
-        phys: 128,
-    };
-    let answer = file::check_file(most, file);
+    let answer = file::check_file(setting, file);
     match answer {
         DomainRead::Refused(r) => DomainRead::Refused(r),
         DomainRead::Expanders(n) => {
             if rows.len() < 258 * (n as usize) {
                 return refusals::domain_refused(16, ExpanderNumber(0));
             }
-            fill_rows(rows, most, file, n);
+            fill_rows(rows, setting, file, n);
             DomainRead::Expanders(n)
         }
     }

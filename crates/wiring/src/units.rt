@@ -2,10 +2,10 @@
 // response, each frame short or long.
 use crate::ExpanderRead;
 use crate::ExpanderUnit;
-use crate::Limits;
 use crate::Phy;
 use crate::PhyFields;
 use crate::PhyRead;
+use crate::Setting;
 use crate::refusals;
 use frames::Discover;
 use frames::DiscoverRead;
@@ -24,6 +24,7 @@ ghost use Rattle.frames.specs.Refusals.{then};
 ghost use Rattle.frames.specs.Sizes.{sizeAnswer};
 ghost use Rattle.frames.specs.Discovery.{fields};
 ghost use Rattle.wiring.specs.Lists.{isIn};
+ghost use Rattle.wiring.specs.Settings.{within};
 ghost use Rattle.wiring.specs.File.{sizeAt, fieldsOf, ranged, phyOf, phyUnit, unitOf, unitTested, expanderUnit};
 ghost use Rattle.wiring.specs.Units.{phyAnswer, expanderAnswer, endsAt};
 
@@ -163,7 +164,7 @@ fn is_free(seen: &[u64], own: u64) -> bool
 
 // Whether n is 1 to `most`.
 pub(crate) fn is_within(n: u8, most: u8) -> bool
-    ensures { λ r. ⌜ r ≡ (leb 1 n && leb n most) ⌝ }
+    ensures { λ r. ⌜ r ≡ within most n ⌝ }
 {
     if n < 1 {
         return false;
@@ -173,7 +174,7 @@ pub(crate) fn is_within(n: u8, most: u8) -> bool
 
 // Causes 3 and 4 of an expander's fields; `next` is the place after its unit.
 fn test_unit(
-    most: Limits,
+    most: Setting,
     seen: &[u64],
     u: ExpanderUnit,
     i: ExpanderNumber,
@@ -205,7 +206,7 @@ fn unit_of(own: u64, g: General) -> ExpanderUnit
 // The unit of expander i at offset `at`, where `seen` are the addresses of the expanders before it:
 // causes 1 to 4. Its frame starts after the eight bytes of the address.
 pub(crate) fn expander_unit(
-    most: Limits,
+    most: Setting,
     file: &[u8],
     seen: &[u64],
     i: ExpanderNumber,

@@ -1,6 +1,7 @@
 // The wiring call.
 use crate::Check;
 use crate::DomainRead;
+use crate::Setting;
 use crate::Wiring;
 use crate::addresses;
 use crate::causes;
@@ -42,16 +43,17 @@ fn wire_rows(rows: &[u64], first: &mut [u16], low: &mut [u8], words: &mut [u64])
 
 // The wiring call, with room for the rows of the file's domain and for who has which address.
 fn wire_in(
+    setting: Setting,
     file: &[u8],
     rows: &mut [u64],
     first: &mut [u16],
     low: &mut [u8],
     words: &mut [u64],
 ) -> Wiring
-    requires { ⌜ FileRoom (now file) (now rows) (now first) (now low) ⌝ }
-    ensures { λ r. ⌜ WiringDone (wiringCall (now (file .entry)) (length (now (words .entry)))) r (now (words .entry)) (now (words .exit)) ⌝ }
+    requires { ⌜ FileRoom setting (now file) (now rows) (now first) (now low) ⌝ }
+    ensures { λ r. ⌜ WiringDone (wiringCall setting (now (file .entry)) (length (now (words .entry)))) r (now (words .entry)) (now (words .exit)) ⌝ }
 {
-    let read = rows::read_domain(file, rows);
+    let read = rows::read_domain(setting, file, rows);
     match read {
         DomainRead::Refused(r) => Wiring::Refused(r),
         DomainRead::Expanders(n) => {
@@ -61,27 +63,48 @@ fn wire_in(
     }
 }
 
-// The wiring call: causes 1 to 10, then 16. It writes one word for each expander, and answers how
+// The wiring call: causes 22 and 1 to 10, then 16. It writes one word for each expander, and answers how
 // many bits are set in all. The words after stay, and all of them where it is refused. Few expanders, whose
 // number stands in the second byte, need little room.
-pub fn wire(file: &[u8], words: &mut [u64]) -> Wiring
-    ensures { λ r. ⌜ WiringDone (wiringCall (now (file .entry)) (length (now (words .entry)))) r (now (words .entry)) (now (words .exit)) ⌝ }
+pub fn wire(setting: Setting, file: &[u8], words: &mut [u64]) -> Wiring
+    ensures { λ r. ⌜ WiringDone (wiringCall setting (now (file .entry)) (length (now (words .entry)))) r (now (words .entry)) (now (words .exit)) ⌝ }
 {
     let n = rows::stated_count(file);
     if n <= 2 {
         let mut rows = [0u64; 516];
         let mut first = [0u16; 320];
         let mut low = [0u8; 256];
-        return wire_in(file, &mut rows[..], &mut first[..], &mut low[..], words);
+        return wire_in(
+            setting,
+            file,
+            &mut rows[..],
+            &mut first[..],
+            &mut low[..],
+            words,
+        );
     }
     if n <= 8 {
         let mut rows = [0u64; 2064];
         let mut first = [0u16; 1088];
         let mut low = [0u8; 1024];
-        return wire_in(file, &mut rows[..], &mut first[..], &mut low[..], words);
+        return wire_in(
+            setting,
+            file,
+            &mut rows[..],
+            &mut first[..],
+            &mut low[..],
+            words,
+        );
     }
     let mut rows = [0u64; 16512];
     let mut first = [0u16; 8256];
     let mut low = [0u8; 8192];
-    wire_in(file, &mut rows[..], &mut first[..], &mut low[..], words)
+    wire_in(
+        setting,
+        file,
+        &mut rows[..],
+        &mut first[..],
+        &mut low[..],
+        words,
+    )
 }

@@ -5,6 +5,9 @@ use Rattle.tables.specs.Judge.{judgeAnswer}
 use Rattle.exports.proofs.metzurgo_judge.Statement.{statement}
 use Rattle.exports.proofs.metzurgo_judge.Tie as tie
 
+setting-requires : tie.Need-setting-requires
+setting-requires c κs = search needs
+
 judge-requires : tie.Need-judge-requires
 judge-requires c κs = search needs
 
@@ -22,13 +25,15 @@ cast-result c = search needs
 
 returns : tie.Need-returns
 returns c =
-    let e = sym (c .before .before .before .before .judge .ensures) ∙ ap (judgeAnswer) (c .before .before .answer .given .1) in
+    let w = c .before .before .before .before in
+    let e = sym (rw (w .before .setting .ensures) at (w .judge .ensures)) ∙ ap (judgeAnswer) (c .before .before .answer .given .1) in
     c .refusal .ensures ∙ sym (ap (packed number) e)
 
 returns-2 : tie.Need-returns-2
 returns-2 c =
-    let e = sym (c .before .before .before .judge .ensures) ∙ ap (judgeAnswer) (c .before .answer2 .given .1) in
+    let w = c .before .before .before in
+    let e = sym (rw (w .before .setting .ensures) at (w .judge .ensures)) ∙ ap (judgeAnswer) (c .before .answer2 .given .1) in
     sym (ap (packed number) e)
 
 pub metzurgo-judge-spec : {M : Type 1} → statement M
-metzurgo-judge-spec = tie.close (tie.spec judge-requires enum-known-answer refusal-requires enum-known-answer-2 cast-result returns returns-2)
+metzurgo-judge-spec = tie.close (tie.spec setting-requires judge-requires enum-known-answer refusal-requires enum-known-answer-2 cast-result returns returns-2)

@@ -5,6 +5,9 @@ use Rattle.tables.specs.Judge.{tablesAnswer}
 use Rattle.exports.proofs.metzurgo_tables.Statement.{statement}
 use Rattle.exports.proofs.metzurgo_tables.Tie as tie
 
+setting-requires : tie.Need-setting-requires
+setting-requires c κs = search needs
+
 give-tables-requires : tie.Need-give-tables-requires
 give-tables-requires c κs = search needs
 
@@ -34,16 +37,20 @@ same-length c = search needs
 
 returns : tie.Need-returns
 returns c =
-    let e = sym (c .before .before .before .before .before .before .give-tables .ensures .answers) ∙ ap (tablesAnswer) (c .before .before .answer .given .1) in
-    (c .refusal .ensures ∙ sym (ap (packed counts) e), c .before .before .before .before .before .before .give-tables .ensures .words)
+    let w = c .before .before .before .before .before .before in
+    let done = rw (w .before .before .setting .ensures) at (w .give-tables .ensures) in
+    let e = sym (done .answers) ∙ ap (tablesAnswer) (c .before .before .answer .given .1) in
+    (c .refusal .ensures ∙ sym (ap (packed counts) e), done .words)
 
 same-length-2 : tie.Need-same-length-2
 same-length-2 c = search needs
 
 returns-2 : tie.Need-returns-2
 returns-2 c =
-    let e = sym (c .before .before .before .before .before .give-tables .ensures .answers) ∙ ap (tablesAnswer) (c .before .answer2 .given .1) in
-    (sym (ap (packed counts) e), c .before .before .before .before .before .give-tables .ensures .words)
+    let w = c .before .before .before .before .before in
+    let done = rw (w .before .before .setting .ensures) at (w .give-tables .ensures) in
+    let e = sym (done .answers) ∙ ap (tablesAnswer) (c .before .answer2 .given .1) in
+    (sym (ap (packed counts) e), done .words)
 
 pub metzurgo-tables-spec : {M : Type 1} → statement M
-metzurgo-tables-spec = tie.close (tie.spec give-tables-requires enum-known-answer refusal-requires enum-known-answer-2 cast-result mul-result cast-result-2 add-result same-length returns same-length-2 returns-2)
+metzurgo-tables-spec = tie.close (tie.spec setting-requires give-tables-requires enum-known-answer refusal-requires enum-known-answer-2 cast-result mul-result cast-result-2 add-result same-length returns same-length-2 returns-2)

@@ -5,6 +5,9 @@ use Rattle.tracing.specs.Trace.{traceAnswer}
 use Rattle.exports.proofs.metzurgo_trace.Statement.{statement}
 use Rattle.exports.proofs.metzurgo_trace.Tie as tie
 
+setting-requires : tie.Need-setting-requires
+setting-requires c κs = search needs
+
 trace-requires : tie.Need-trace-requires
 trace-requires c κs = search needs
 
@@ -25,16 +28,20 @@ same-length c = search needs
 
 returns : tie.Need-returns
 returns c =
-    let e = sym (c .before .before .before .before .before .before .trace .ensures .answers) ∙ ap (traceAnswer) (c .before .before .answer .given .1) in
-    (c .refusal .ensures ∙ sym (ap (packed endPacked) e), c .before .before .before .before .before .before .trace .ensures .bytes)
+    let w = c .before .before .before .before .before .before in
+    let done = rw (w .before .before .setting .ensures) at (w .trace .ensures) in
+    let e = sym (done .answers) ∙ ap (traceAnswer) (c .before .before .answer .given .1) in
+    (c .refusal .ensures ∙ sym (ap (packed endPacked) e), done .bytes)
 
 same-length-2 : tie.Need-same-length-2
 same-length-2 c = search needs
 
 returns-2 : tie.Need-returns-2
 returns-2 c =
-    let e = sym (c .before .before .before .before .before .before .trace .ensures .answers) ∙ ap (traceAnswer) (c .before .before .answer2 .given .1) in
-    (c .end .ensures ∙ sym (ap (packed endPacked) e), c .before .before .before .before .before .before .trace .ensures .bytes)
+    let w = c .before .before .before .before .before .before in
+    let done = rw (w .before .before .setting .ensures) at (w .trace .ensures) in
+    let e = sym (done .answers) ∙ ap (traceAnswer) (c .before .before .answer2 .given .1) in
+    (c .end .ensures ∙ sym (ap (packed endPacked) e), done .bytes)
 
 pub metzurgo-trace-spec : {M : Type 1} → statement M
-metzurgo-trace-spec = tie.close (tie.spec trace-requires enum-known-answer refusal-requires enum-known-answer-2 end-requires same-length returns same-length-2 returns-2)
+metzurgo-trace-spec = tie.close (tie.spec setting-requires trace-requires enum-known-answer refusal-requires enum-known-answer-2 end-requires same-length returns same-length-2 returns-2)

@@ -3,7 +3,6 @@ use Prim.Native.Nat.{ℕ}
 use mathlib.Core.Path.{sym}
 use lib.ListN.{length-replicate}
 use lib.Seq.{length-take-le}
-use Rattle.wiring.specs.File.{limits}
 use Rattle.wiring.proofs.Read.{read-good}
 use Rattle.wiring.proofs.Opening.{opened-fits}
 use borrow.Author.Needs.{needs}
@@ -25,6 +24,9 @@ write-all-requires c κs = search needs
 
 returns : tie.Need-returns
 returns c = search needs
+
+widest-requires : tie.Need-widest-requires
+widest-requires c κs = search needs
 
 slice-aggregate-read-domain : tie.Need-slice-aggregate-read-domain
 slice-aggregate-read-domain c = search needs
@@ -48,10 +50,10 @@ mul-e : tie.Need-mul-e
 mul-e c = search needs
 
 array-share-prefix-rows : tie.Need-array-share-prefix-rows
-array-share-prefix-rows c = opened-fits _ _ _ _ _ (λ d q. let few = read-good limits _ d q .few in let z = length-replicate {A = ℕ} 16512 0 in omega arith) ((c .before .before .before .before .read-domain) .ensures) ((c .before .read2) .given .1) ((c .before .before .before .before .read-domain) .kept .1 .0)
+array-share-prefix-rows c = opened-fits _ _ _ _ _ _ (λ d q. let g = read-good _ _ d q in omega (arith, g .few, g .range .expanders .1, length-replicate {A = ℕ} 16512 0)) ((c .before .before .before .before .read-domain) .ensures) ((c .before .read2) .given .1) ((c .before .before .before .before .read-domain) .kept .1 .1 .0)
 
 slice-aggregate-print-rows : tie.Need-slice-aggregate-print-rows
-slice-aggregate-print-rows c = sym (length-take-le _ ((c .before .before .before .before .before .read-domain) .last .1 .0) (opened-fits _ _ _ _ _ (λ d q. let few = read-good limits _ d q .few in let z = length-replicate {A = ℕ} 16512 0 in omega arith) ((c .before .before .before .before .before .read-domain) .ensures) ((c .before .before .read2) .given .1) ((c .before .before .before .before .before .read-domain) .kept .1 .0)))
+slice-aggregate-print-rows c = sym (length-take-le _ ((c .before .before .before .before .before .read-domain) .last .1 .1 .0) (opened-fits _ _ _ _ _ _ (λ d q. let g = read-good _ _ d q in omega (arith, g .few, g .range .expanders .1, length-replicate {A = ℕ} 16512 0)) ((c .before .before .before .before .before .read-domain) .ensures) ((c .before .before .read2) .given .1) ((c .before .before .before .before .before .read-domain) .kept .1 .1 .0)))
 
 print-rows-requires : tie.Need-print-rows-requires
 print-rows-requires c κs = search needs
@@ -63,4 +65,4 @@ returns-3 : tie.Need-returns-3
 returns-3 c = search needs
 
 pub print-listing-spec : {M : Type 1} → statement M
-print-listing-spec = tie.close (tie.spec too-long-requires array-share-prefix-line slice-aggregate-write-all write-all-requires returns slice-aggregate-read-domain read-domain-requires enum-known-read print-refusal-requires enum-known-read-2 cast-e mul-e array-share-prefix-rows slice-aggregate-print-rows print-rows-requires returns-2 returns-3)
+print-listing-spec = tie.close (tie.spec too-long-requires array-share-prefix-line slice-aggregate-write-all write-all-requires returns widest-requires slice-aggregate-read-domain read-domain-requires enum-known-read print-refusal-requires enum-known-read-2 cast-e mul-e array-share-prefix-rows slice-aggregate-print-rows print-rows-requires returns-2 returns-3)

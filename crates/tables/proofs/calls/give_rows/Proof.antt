@@ -1,4 +1,4 @@
--- give_rows meets its contract: past causes 7 to 14 by own lists, the tables by own lists, where there is room for them.
+-- give_rows meets its contract: past the causes by own lists, the tables by own lists, where there is room for them.
 use mathlib.Core.Path.{sym, _∙_, ap}
 use native.Mathlib.Omega.{arith}
 use Rattle.wiring.specs.Checks.{checkAnswer}
@@ -34,13 +34,13 @@ table-count-requires c κs = search needs
 put-all-requires : tie.Need-put-all-requires
 put-all-requires c κs =
     let v = sym ((c .before .before .before .before .before .before .before .before .before .before .before .before .judge-rows) .ensures .0) ∙ ap (checkAnswer _) ((c .before .before .before .before .before .before .enum-told) .given .1) in
-    ((c .before .before .before .before .before .before .before .before .before .before .before .before .judge-rows) .ensures .1 ((c .before .before .before .before .before .before .enum-told) .given .1), (fillable _ _ _ v, omega (arith, (c .before .before .before .before .before .needed-words) .ensures .0)))
-
-cast-t26 : tie.Need-cast-t26
-cast-t26 c = search needs
+    ((c .before .before .before .before .before .before .before .before .before .before .before .before .judge-rows) .ensures .1 ((c .before .before .before .before .before .before .enum-told) .given .1), (fillable _ _ _ _ v, omega (arith, (c .before .before .before .before .before .needed-words) .ensures .0)))
 
 cast-t27 : tie.Need-cast-t27
 cast-t27 c = search needs
+
+cast-t28 : tie.Need-cast-t28
+cast-t28 c = search needs
 
 same-length-3 : tie.Need-same-length-3
 same-length-3 c = search needs
@@ -66,4 +66,4 @@ returns-3 c =
     (omega (arith, (c .before .before .before .before .before .before .before .before .needed-words) .ensures .0)) ((c .before .before .before .before .before .before .table-count) .ensures .0) ((c .before .before .before .before .before .before .before .before .needed-words) .ensures .0) ((c .before .before .put-all) .ensures)
 
 pub give-rows-spec : {M : Type 1} → statement M
-give-rows-spec = tie.close (tie.spec judge-rows-requires enum-known-verdict enum-told needed-words-requires same-length same-length-2 returns table-count-requires put-all-requires cast-t26 cast-t27 same-length-3 same-length-4 returns-2 same-length-5 same-length-6 same-length-7 returns-3)
+give-rows-spec = tie.close (tie.spec judge-rows-requires enum-known-verdict enum-told needed-words-requires same-length same-length-2 returns table-count-requires put-all-requires cast-t27 cast-t28 same-length-3 same-length-4 returns-2 same-length-5 same-length-6 same-length-7 returns-3)

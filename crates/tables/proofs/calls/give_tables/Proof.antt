@@ -1,7 +1,6 @@
 -- give_tables meets its contract: the second byte states how many expanders there are, so the room is enough.
 use Prim.Native.Nat.{ℕ}
 use lib.ListN.{length-replicate}
-use Rattle.wiring.specs.File.{limits}
 use Rattle.wiring.proofs.Read.{read-good, stated-expanders}
 use Rattle.wiring.proofs.Opening.{file-room}
 use borrow.Author.Needs.{needs}
@@ -23,8 +22,9 @@ slice-aggregate-give-in-3 c = search needs
 
 give-in-requires : tie.Need-give-in-requires
 give-in-requires c κs =
-    let f = (c .before .before .before .before .before .before .before .before .args) .file .now in
-    file-room 2 f _ _ _ (λ d e. omega (arith, stated-expanders limits f d e, (c .before .before .before .before .before .stated-count) .ensures))
+    let a = c .before .before .before .before .before .before .before .before .args in
+    let f = a .file .now in
+    file-room (a .setting) 2 f _ _ _ (λ d e. omega (arith, stated-expanders (a .setting) f d e, (c .before .before .before .before .before .stated-count) .ensures))
     (omega (arith, length-replicate {A = ℕ} 516 0)) (omega (arith, length-replicate {A = ℕ} 320 0)) (omega (arith, length-replicate {A = ℕ} 256 0))
 
 same-length : tie.Need-same-length
@@ -44,8 +44,9 @@ slice-aggregate-give-in-6 c = search needs
 
 give-in-requires-2 : tie.Need-give-in-requires-2
 give-in-requires-2 c κs =
-    let f = (c .before .before .before .before .before .before .before .before .before .args) .file .now in
-    file-room 8 f _ _ _ (λ d e. omega (arith, stated-expanders limits f d e, (c .before .before .before .before .before .before .stated-count) .ensures))
+    let a = c .before .before .before .before .before .before .before .before .before .args in
+    let f = a .file .now in
+    file-room (a .setting) 8 f _ _ _ (λ d e. omega (arith, stated-expanders (a .setting) f d e, (c .before .before .before .before .before .before .stated-count) .ensures))
     (omega (arith, length-replicate {A = ℕ} 2064 0)) (omega (arith, length-replicate {A = ℕ} 1088 0)) (omega (arith, length-replicate {A = ℕ} 1024 0))
 
 same-length-2 : tie.Need-same-length-2
@@ -65,8 +66,9 @@ slice-aggregate-give-in-9 c = search needs
 
 give-in-requires-3 : tie.Need-give-in-requires-3
 give-in-requires-3 c κs =
-    let f = (c .before .before .before .before .before .before .before .before .before .args) .file .now in
-    file-room 64 f _ _ _ (λ d e. read-good limits f d e .few)
+    let a = c .before .before .before .before .before .before .before .before .before .args in
+    let f = a .file .now in
+    file-room (a .setting) 64 f _ _ _ (λ d e. let g = read-good (a .setting) f d e in omega (arith, g .few, g .range .expanders .1))
     (omega (arith, length-replicate {A = ℕ} 16512 0)) (omega (arith, length-replicate {A = ℕ} 8256 0)) (omega (arith, length-replicate {A = ℕ} 8192 0))
 
 same-length-3 : tie.Need-same-length-3

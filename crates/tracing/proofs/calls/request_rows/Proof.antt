@@ -1,4 +1,4 @@
--- request_rows meets its contract: causes 7 to 14 by own lists, and the request past them.
+-- request_rows meets its contract: the judging call's causes by own lists, and the request past them.
 use mathlib.Core.Path.{sym, _∙_, ap}
 use Rattle.tables.specs.Wiring.{checkAnswer}
 use Rattle.tracing.proofs.Asked.{rows-refused, rows-done}
@@ -25,7 +25,7 @@ same-length-2 : tie.Need-same-length-2
 same-length-2 c = search needs
 
 returns : tie.Need-returns
-returns c = rows-refused _ _ _ _ _ _ _ (sym ((c .before .before .before .before .before .before .before .judge-rows) .ensures .0) ∙ ap (checkAnswer _) ((c .before .verdict) .given .1))
+returns c = rows-refused _ _ _ _ _ _ _ _ (sym ((c .before .before .before .before .before .before .before .judge-rows) .ensures .0) ∙ ap (checkAnswer _) ((c .before .verdict) .given .1))
 
 same-length-3 : tie.Need-same-length-3
 same-length-3 c = search needs
@@ -37,7 +37,7 @@ same-length-5 : tie.Need-same-length-5
 same-length-5 c = search needs
 
 returns-2 : tie.Need-returns-2
-returns-2 c = rows-done _ _ _ _ _ _ _ _ (sym ((c .before .before .before .before .before .before .before .before .before .before .before .judge-rows) .ensures .0) ∙ ap (checkAnswer _) ((c .before .before .before .before .before .enum-told) .given .1)) ((c .before .before .trace-rows) .ensures)
+returns-2 c = rows-done _ _ _ _ _ _ _ _ _ (sym ((c .before .before .before .before .before .before .before .before .before .before .before .judge-rows) .ensures .0) ∙ ap (checkAnswer _) ((c .before .before .before .before .before .enum-told) .given .1)) ((c .before .before .trace-rows) .ensures)
 
 pub request-rows-spec : {M : Type 1} → statement M
 request-rows-spec = tie.close (tie.spec judge-rows-requires enum-known-verdict enum-told trace-rows-requires same-length same-length-2 returns same-length-3 same-length-4 same-length-5 returns-2)

@@ -1,4 +1,4 @@
--- check_indexed meets its contract: causes 7 to 10, then 11 and 12.
+-- check_indexed meets its contract: causes 7 to 10, then 11, 12 and 23.
 use mathlib.Core.Path.{sym, _∙_, ap}
 use Rattle.wiring.specs.Checks.{checkAnswer}
 use Rattle.wiring.proofs.Calls.{checked-by}
@@ -19,10 +19,10 @@ check-links-requires : tie.Need-check-links-requires
 check-links-requires c κs = c .before .before .before .before .before .before .pre .firsts
 
 returns : tie.Need-returns
-returns c = sym (checked-by _ _ (sym (c .before .before .before .check-wiring .ensures) ∙ ap (checkAnswer _) (c .before .wired .given .1)))
+returns c = sym (checked-by _ _ _ (sym (c .before .before .before .check-wiring .ensures) ∙ ap (checkAnswer _) (c .before .wired .given .1)))
 
 returns-2 : tie.Need-returns-2
-returns-2 c = c .check-links .ensures ∙ sym (checked-by _ _ (sym (c .before .before .before .check-wiring .ensures) ∙ ap (checkAnswer _) (c .before .enum-told .given .1)))
+returns-2 c = c .check-links .ensures ∙ sym (checked-by _ _ _ (sym (c .before .before .before .check-wiring .ensures) ∙ ap (checkAnswer _) (c .before .enum-told .given .1)))
 
 pub check-indexed-spec : {M : Type 1} → statement M
 check-indexed-spec = tie.close (tie.spec check-wiring-requires enum-known-wired enum-told check-links-requires returns returns-2)

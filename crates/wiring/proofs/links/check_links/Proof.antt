@@ -24,7 +24,7 @@ check-refused-requires : tie.Need-check-refused-requires
 check-refused-requires c κs = search needs
 
 returns : tie.Need-returns
-returns c = ap (checkAnswer _) (c .check-refused .ensures) ∙ sym (links-loop _ (sym (c .before .before .is-loopfree .ensures) ∙ not-true _ (c .before .if1 .taken)))
+returns c = ap (checkAnswer _) (c .check-refused .ensures) ∙ sym (links-loop _ _ (sym (c .before .before .is-loopfree .ensures) ∙ not-true _ (c .before .if1 .taken)))
 
 slice-aggregate-check-joined : tie.Need-slice-aggregate-check-joined
 slice-aggregate-check-joined c = search needs
@@ -32,10 +32,31 @@ slice-aggregate-check-joined c = search needs
 check-joined-requires : tie.Need-check-joined-requires
 check-joined-requires c κs = held _ _ _ (c .before .before .before .before .before .put-neighbours .ensures .1)
 
+enum-known-joined : tie.Need-enum-known-joined
+enum-known-joined c = search needs
+
+enum-told : tie.Need-enum-told
+enum-told c = search needs
+
+slice-aggregate-check-chains : tie.Need-slice-aggregate-check-chains
+slice-aggregate-check-chains c = search needs
+
+check-chains-requires : tie.Need-check-chains-requires
+check-chains-requires c κs = held _ _ _ (c .before .before .before .before .before .before .before .before .before .put-neighbours .ensures .1)
+
 returns-2 : tie.Need-returns-2
 returns-2 c =
-    c .check-joined .ensures
-    ∙ sym (links-joined _ (sym (c .before .before .before .is-loopfree .ensures) ∙ not-false _ (c .before .before .if1 .left)))
+    let j = c .before .before .before in
+    let l = j .before .before in
+    sym (links-joined _ _ _ (sym (l .before .is-loopfree .ensures) ∙ not-false _ (l .if1 .left)) (sym (j .check-joined .ensures) ∙ ap (checkAnswer _) (c .before .joined .given .1)))
+
+returns-3 : tie.Need-returns-3
+returns-3 c =
+    let e = c .before .before in
+    let j = e .before .before in
+    let l = j .before .before in
+    c .check-chains .ensures
+    ∙ sym (links-joined _ _ _ (sym (l .before .is-loopfree .ensures) ∙ not-false _ (l .if1 .left)) (sym (j .check-joined .ensures) ∙ ap (checkAnswer _) (e .enum-told .given .1)))
 
 pub check-links-spec : {M : Type 1} → statement M
-check-links-spec = tie.close (tie.spec slice-aggregate-put-neighbours put-neighbours-requires slice-aggregate-is-loopfree is-loopfree-requires check-refused-requires returns slice-aggregate-check-joined check-joined-requires returns-2)
+check-links-spec = tie.close (tie.spec slice-aggregate-put-neighbours put-neighbours-requires slice-aggregate-is-loopfree is-loopfree-requires check-refused-requires returns slice-aggregate-check-joined check-joined-requires enum-known-joined enum-told slice-aggregate-check-chains check-chains-requires returns-2 returns-3)

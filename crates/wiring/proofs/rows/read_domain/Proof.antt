@@ -1,7 +1,7 @@
 use mathlib.Core.Path.{sym, _∙_, ap}
 use native.Mathlib.Omega.{arith}
 use borrow.Author.Needs.{needs}
-use Rattle.wiring.proofs.RowsRead.{rows-refused, rows-short, rows-full}
+use Rattle.wiring.proofs.RowsRead.{rows-refused, rows-short, rows-full, place-for}
 use Rattle.wiring.specs.Rows.{readAnswer}
 use Rattle.wiring.proofs.rows.read_domain.Statement.{statement}
 use Rattle.wiring.proofs.rows.read_domain.Tie as tie
@@ -29,16 +29,20 @@ returns c =
     let u = c .before .before .before in
     let f = u .before .before in
     let a = f .before .before .before .args in
-    rows-short (a .file .now) (a .rows .now) _ _ (c .domain-refused .ensures) (sym (f .check-file .ensures) ∙ ap readAnswer (u .answer2 .given .1)) (omega arith)
+    rows-short (a .setting) (a .file .now) (a .rows .now) _ _ (c .domain-refused .ensures) (sym (f .check-file .ensures) ∙ ap readAnswer (u .answer2 .given .1)) (omega arith)
 
 fill-rows-requires : tie.Need-fill-rows-requires
-fill-rows-requires c κs = search needs
+fill-rows-requires c κs =
+    let u = c .before .before .before in
+    let f = u .before .before in
+    let a = f .before .before .before .args in
+    (place-for (a .setting) (a .file .now) (a .rows .now) _ (sym (f .check-file .ensures) ∙ ap readAnswer (u .answer2 .given .1)), omega arith)
 
 returns-2 : tie.Need-returns-2
 returns-2 c =
     let f = c .before .before .before in
     let a = f .before .before .before .args in
-    rows-refused (a .file .now) (a .rows .now) _ (sym (f .check-file .ensures) ∙ ap readAnswer (c .before .answer .given .1))
+    rows-refused (a .setting) (a .file .now) (a .rows .now) _ (sym (f .check-file .ensures) ∙ ap readAnswer (c .before .answer .given .1))
 
 same-length : tie.Need-same-length
 same-length c = search needs
@@ -49,7 +53,7 @@ returns-3 c =
     let u = r .before .before .before .before in
     let f = u .before .before in
     let a = f .before .before .before .args in
-    rows-full (a .file .now) (a .rows .now) (r .fill-rows .last .0) _ (λ k. f .before .before .shared-slice-known .given k .fits)
+    rows-full (a .setting) (a .file .now) (a .rows .now) (r .fill-rows .last .0) _ (λ k. f .before .before .shared-slice-known .given k .fits)
     (sym (f .check-file .ensures) ∙ ap readAnswer (u .answer2 .given .1)) (omega arith) (r .fill-rows .ensures)
 
 pub read-domain-spec : {M : Type 1} → statement M
