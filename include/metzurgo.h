@@ -8,6 +8,12 @@
  * after a call returns. A call that takes a file uses some 300,000 bytes of
  * stack (docs/BENCHMARK.md has the measured bytes).
  *
+ * Every call that takes a file takes a course's setting before it: the most
+ * expanders (1 to 64), the most phys of an expander (1 to 128) and the longest
+ * chain in expanders (1 to 64), packed by METZURGO_SETTING. A setting outside
+ * this range, or a bit set above the 24 that it has, is refused with 22 before
+ * anything else is tested.
+ *
  * Refusals: bit 63 of the answer is set, and the answer is
  *     2^63 + number * 65536 + expander * 256 + phy.
  * After a refusal every lent buffer holds what it held before.
@@ -41,6 +47,19 @@ extern "C" {
 #define METZURGO_TABLE_TO_TABLE ((uint64_t)1 << 33)
 #define METZURGO_CONFIGURES_OTHERS ((uint64_t)1 << 32)
 
+/*
+ * A setting: most expanders * 65536 + most phys * 256 + longest chain; 0, which
+ * is refused with 22, where one of them exceeds 255. The widest setting has the
+ * limits of a domain file: 64 expanders, 128 phys, chains of 64 expanders.
+ */
+#define METZURGO_SETTING(expanders, phys, chain)                              \
+    ((uint64_t)(expanders) > 255 || (uint64_t)(phys) > 255                    \
+             || (uint64_t)(chain) > 255                                       \
+         ? (uint32_t)0                                                        \
+         : (uint32_t)(expanders) << 16 | (uint32_t)(phys) << 8                \
+               | (uint32_t)(chain))
+#define METZURGO_WIDEST METZURGO_SETTING(64, 128, 64)
+
 /* The parts of a refusal. */
 #define METZURGO_NUMBER(answer) ((unsigned)((answer) >> 16 & 0xff))
 #define METZURGO_EXPANDER(answer) ((unsigned)((answer) >> 8 & 0xff))
@@ -63,36 +82,39 @@ extern "C" {
 #define METZURGO_TABLE 2
 
 /*
- * Wiring. Tests causes 1 to 10, then 16 (fewer words than expanders). Writes
- * one word for each expander: the bit worth 2^j is set when expander j is a
- * neighbour. Later words stay. Answer: the number of bits set in all.
+ * Wiring. Tests causes 22 and 1 to 10, then 16 (fewer words than expanders).
+ * Chains are not tested. Writes one word for each expander: the bit worth 2^j is
+ * set when expander j is a neighbour. Later words stay. Answer: the number of
+ * bits set in all.
  */
-uint64_t metzurgo_wire(const uint8_t *file, size_t file_len,
+uint64_t metzurgo_wire(uint32_t setting, const uint8_t *file, size_t file_len,
                        uint64_t *words, size_t words_len);
 
 /*
- * Judging. Tests causes 1 to 12 and 14. Answer: the number of expanders.
+ * Judging. Tests causes 22, 1 to 12, 23 (a chain of more expanders than the
+ * setting allows) and 14. Answer: the number of expanders.
  */
-uint64_t metzurgo_judge(const uint8_t *file, size_t file_len);
+uint64_t metzurgo_judge(uint32_t setting, const uint8_t *file,
+                        size_t file_len);
 
 /*
- * Tables. Tests causes 1 to 12 and 14, then 16 (fewer words than the sum of
- * the route indexes over the non-vacant table phys). Writes the tables by expander and
- * then phy; later words stay. Answer: tables * 2^32 + words.
+ * Tables. Tests the causes of judging, then 16 (fewer words than the sum of the
+ * route indexes over the non-vacant table phys). Writes the tables by expander
+ * and then phy; later words stay. Answer: tables * 2^32 + words.
  */
-uint64_t metzurgo_tables(const uint8_t *file, size_t file_len,
-                         uint64_t *words, size_t words_len);
+uint64_t metzurgo_tables(uint32_t setting, const uint8_t *file,
+                         size_t file_len, uint64_t *words, size_t words_len);
 
 /*
- * Tracing a connection request over the table words given. Tests causes 1 to
- * 12 and 14, then 15 (no such start expander, or an arrival phy that is neither 255
- * nor attached to an end device), 16 (fewer table words than needed, or fewer
+ * Tracing a connection request over the table words given. Tests the causes of
+ * judging, then 15 (no such start expander, or an arrival phy that is neither
+ * 255 nor attached to an end device), 16 (fewer table words than needed, or fewer
  * bytes in `passed` than expanders), 17 (address zero). Writes the numbers of
  * the expanders passed, in order; later bytes stay.
  * Answer: outcome * 2^24 + last expander * 2^16 + phy * 2^8 + count of
  * expanders passed. The phy is 255 unless the request arrived at an end device.
  */
-uint64_t metzurgo_trace(const uint8_t *file, size_t file_len,
+uint64_t metzurgo_trace(uint32_t setting, const uint8_t *file, size_t file_len,
                         const uint64_t *words, size_t words_len,
                         uint8_t start, uint8_t arrival, uint64_t address,
                         uint8_t *passed, size_t passed_len);

@@ -6,6 +6,7 @@ use std::time::{Duration, Instant};
 
 use crate::calls::{Archive, Calls};
 use crate::fast::Fast;
+use crate::generate::WIDEST;
 use crate::layout::*;
 use crate::stack;
 use crate::vectors::{self, d, e, full_star};
@@ -79,14 +80,22 @@ pub fn run() {
         let file = &case.file[..];
 
         // Both must answer alike before they are timed.
-        let judged = agree(case, "judge", |calls| calls.judge(file));
-        let written = Archive.tables(file, &mut words);
-        if written != Fast.tables(file, &mut other) || words != other {
+        let judged = agree(case, "judge", |calls| calls.judge(WIDEST, file));
+        let written = Archive.tables(WIDEST, file, &mut words);
+        if written != Fast.tables(WIDEST, file, &mut other) || words != other {
             fail(case, "tables");
         }
         let (start, arrival) = case.start;
         let traced = agree(case, "trace", |calls| {
-            calls.trace(file, &words, start, arrival, case.address, &mut [0; 64])
+            calls.trace(
+                WIDEST,
+                file,
+                &words,
+                start,
+                arrival,
+                case.address,
+                &mut [0; 64],
+            )
         });
         println!(
             "{} ({} bytes, {} expanders, {} tables, {} words, trace over {} expanders)",
@@ -112,17 +121,18 @@ pub fn run() {
         };
         row(
             "judge",
-            measure(|| Archive.judge(black_box(file))),
-            measure(|| Fast.judge(black_box(file))),
+            measure(|| Archive.judge(WIDEST, black_box(file))),
+            measure(|| Fast.judge(WIDEST, black_box(file))),
         );
         row(
             "tables",
-            measure(|| Archive.tables(black_box(file), &mut words)),
-            measure(|| Fast.tables(black_box(file), &mut other)),
+            measure(|| Archive.tables(WIDEST, black_box(file), &mut words)),
+            measure(|| Fast.tables(WIDEST, black_box(file), &mut other)),
         );
         let mut trace = |calls: &dyn Calls| {
             measure(|| {
                 calls.trace(
+                    WIDEST,
                     black_box(file),
                     &words,
                     start,
@@ -149,7 +159,7 @@ pub fn run() {
 
 fn words_needed(case: &Case) -> usize {
     let mut room = vec![0; 8_000_000];
-    let answer = Fast.tables(&case.file, &mut room);
+    let answer = Fast.tables(WIDEST, &case.file, &mut room);
     if answer >> 63 == 1 {
         fail(case, "tables");
     }

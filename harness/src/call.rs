@@ -8,18 +8,20 @@
 //!                                                 NO DESTINATION 0 count 2
 //!                                                 BAD DESTINATION 1 count 1
 //!
-//! WORDS and BYTES are the lengths of the lent buffers. A trace goes over the
+//! Before the call may stand `setting EXPANDERS PHYS CHAIN`; without it the
+//! setting is 64 128 64. WORDS and BYTES are the lengths of the lent buffers. A trace goes over the
 //! words that the table call gives for the file; without lengths the buffers are
 //! as long as needed. A second line has the words written, or the expanders
 //! passed. A refusal is the line `refused` with number, expander and phy.
 
 use crate::calls::Calls;
 use crate::compare::{Difference, Lent};
+use crate::generate::WIDEST;
 
 /// The most words that the table call is lent for a trace.
 const MOST_WORDS: usize = 1 << 24;
 
-const USAGE: &str = "judge | wire WORDS | tables WORDS | \
+const USAGE: &str = "[setting EXPANDERS PHYS CHAIN] judge | wire WORDS | tables WORDS | \
                      trace START ARRIVAL ADDRESS [words WORDS] [bytes BYTES]";
 
 pub enum Failed {
@@ -38,14 +40,25 @@ impl From<Difference> for Failed {
 /// The answer to the call that the words state.
 pub fn answer(subject: &dyn Calls, file: &[u8], call: &[&str]) -> Result<String, Failed> {
     match *call {
+        ["setting", expanders, phys, chain, ref call @ ..] => {
+            let limits = [0, number(expanders)?, number(phys)?, number(chain)?];
+            under(subject, u32::from_be_bytes(limits), file, call)
+        }
+        _ => under(subject, WIDEST, file, call),
+    }
+}
+
+/// The same under a setting.
+fn under(subject: &dyn Calls, setting: u32, file: &[u8], call: &[&str]) -> Result<String, Failed> {
+    match *call {
         ["judge"] => {
-            let answer = subject.judge(file);
+            let answer = subject.judge(setting, file);
             Ok(refusal(answer).unwrap_or_else(|| format!("expanders {answer}")))
         }
         ["wire", length] => {
             let mut lent = Lent::new(number(length)?, || 0x7777_7777_7777_7777);
             let before = lent.after(&[]);
-            let answer = subject.wire(file, lent.part());
+            let answer = subject.wire(setting, file, lent.part());
             if let Some(refused) = refusal(answer) {
                 lent.check(|| "wire".into(), &before)?;
                 return Ok(refused);
@@ -56,7 +69,7 @@ pub fn answer(subject: &dyn Calls, file: &[u8], call: &[&str]) -> Result<String,
         ["tables", length] => {
             let mut lent = Lent::new(number(length)?, || 0x7777_7777_7777_7777);
             let before = lent.after(&[]);
-            let answer = subject.tables(file, lent.part());
+            let answer = subject.tables(setting, file, lent.part());
             if let Some(refused) = refusal(answer) {
                 lent.check(|| "tables".into(), &before)?;
                 return Ok(refused);
@@ -72,7 +85,7 @@ pub fn answer(subject: &dyn Calls, file: &[u8], call: &[&str]) -> Result<String,
             let (start, arrival) = (number(start)?, number(arrival)?);
             let address = u64::from_str_radix(address, 16)
                 .map_err(|_| Failed::Usage(format!("not an address: {address}")))?;
-            let given = given_words(subject, file);
+            let given = given_words(subject, setting, file);
             let (mut words, mut bytes) = (given.len(), usize::from(*file.get(1).unwrap_or(&0)));
             for pair in lengths.chunks(2) {
                 match *pair {
@@ -89,6 +102,7 @@ pub fn answer(subject: &dyn Calls, file: &[u8], call: &[&str]) -> Result<String,
             let mut passed = Lent::new(bytes, || 0x77);
             let before = passed.after(&[]);
             let answer = subject.trace(
+                setting,
                 file,
                 table_words.part(),
                 start,
@@ -145,11 +159,11 @@ fn list(words: &[u64]) -> String {
 }
 
 /// The words of the table call; none where it refuses for another cause than 16.
-fn given_words(subject: &dyn Calls, file: &[u8]) -> Vec<u64> {
+fn given_words(subject: &dyn Calls, setting: u32, file: &[u8]) -> Vec<u64> {
     let mut length = 64;
     loop {
         let mut words = vec![0; length];
-        let answer = subject.tables(file, &mut words);
+        let answer = subject.tables(setting, file, &mut words);
         if answer >> 63 == 0 {
             words.truncate((answer & 0xffff_ffff) as usize);
             return words;

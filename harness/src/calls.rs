@@ -3,11 +3,13 @@
 
 pub trait Calls: Sync {
     fn name(&self) -> &'static str;
-    fn wire(&self, file: &[u8], words: &mut [u64]) -> u64;
-    fn judge(&self, file: &[u8]) -> u64;
-    fn tables(&self, file: &[u8], words: &mut [u64]) -> u64;
+    fn wire(&self, setting: u32, file: &[u8], words: &mut [u64]) -> u64;
+    fn judge(&self, setting: u32, file: &[u8]) -> u64;
+    fn tables(&self, setting: u32, file: &[u8], words: &mut [u64]) -> u64;
+    #[allow(clippy::too_many_arguments)]
     fn trace(
         &self,
+        setting: u32,
         file: &[u8],
         words: &[u64],
         start: u8,
@@ -33,20 +35,21 @@ impl Calls for Archive {
         "archive"
     }
 
-    fn wire(&self, file: &[u8], words: &mut [u64]) -> u64 {
-        metzurgo::raw::wire(file, words)
+    fn wire(&self, setting: u32, file: &[u8], words: &mut [u64]) -> u64 {
+        metzurgo::raw::wire(setting, file, words)
     }
 
-    fn judge(&self, file: &[u8]) -> u64 {
-        metzurgo::raw::judge(file)
+    fn judge(&self, setting: u32, file: &[u8]) -> u64 {
+        metzurgo::raw::judge(setting, file)
     }
 
-    fn tables(&self, file: &[u8], words: &mut [u64]) -> u64 {
-        metzurgo::raw::tables(file, words)
+    fn tables(&self, setting: u32, file: &[u8], words: &mut [u64]) -> u64 {
+        metzurgo::raw::tables(setting, file, words)
     }
 
     fn trace(
         &self,
+        setting: u32,
         file: &[u8],
         words: &[u64],
         start: u8,
@@ -54,7 +57,7 @@ impl Calls for Archive {
         address: u64,
         passed: &mut [u8],
     ) -> u64 {
-        metzurgo::raw::trace(file, words, start, arrival, address, passed)
+        metzurgo::raw::trace(setting, file, words, start, arrival, address, passed)
     }
 
     fn write_route(&self, buf: &mut [u8], length: u8, phy: u8, index: u16, entry: u64) -> u64 {

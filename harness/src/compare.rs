@@ -6,7 +6,7 @@ use std::fmt::{Debug, Write};
 use crate::calls::Calls;
 use crate::generate;
 use crate::random::Random;
-use crate::reference::{self, Discover, General, Judged, Outcome, Refusal, Route, Trace};
+use crate::reference::{self, Discover, General, Judged, Outcome, Refusal, Route, Setting, Trace};
 use crate::traces::Traces;
 
 /// Bytes or words kept before and behind each lent buffer.
@@ -21,14 +21,24 @@ pub struct Difference {
     pub got: String,
 }
 
+impl Difference {
+    /// The difference, with the setting of its call.
+    pub fn under(self, setting: u32) -> Difference {
+        Difference {
+            what: format!("setting {setting:08x}h: {}", self.what),
+            ..self
+        }
+    }
+}
+
 /// What a run reached.
 #[derive(Clone, Default)]
 pub struct Counts {
     pub calls: u64,
     /// Refusals by number, in all calls.
-    pub refusals: [u64; 18],
+    pub refusals: [u64; 24],
     /// Files that the judging call refuses, by number.
-    pub refused_files: [u64; 18],
+    pub refused_files: [u64; 24],
     pub accepted_files: u64,
     /// Accepted files by their traces: all requests, a sample, none because the
     /// tables are too long.
@@ -176,9 +186,10 @@ pub fn same(what: impl FnOnce() -> String, expected: u64, got: u64) -> Result<()
     })
 }
 
-/// All calls that take a file.
+/// All calls that take a file, under a setting.
 pub fn check_file(
     subject: &dyn Calls,
+    setting: u32,
     file: &[u8],
     random: &mut Random,
     counts: &mut Counts,
@@ -187,26 +198,59 @@ pub fn check_file(
     let kept = lent.after(&[]);
     let check = Check {
         subject,
+        setting,
         file: lent.read(),
     };
     counts.largest_file = counts.largest_file.max(file.len() as u64);
 
-    let wired = reference::wired(file);
+    let wired = reference::wired(setting, file);
     check.wire(&wired, random, counts)?;
-    let judged = wired.and_then(|domain| domain.judge());
+    let judged = wired.and_then(|domain| domain.judge(Setting::read(setting)?));
     check.judge(&judged, counts)?;
     match &judged {
         Err(refusal) => check.refused(*refusal, random, counts)?,
         Ok(judged) => {
             check.tables(judged, random, counts)?;
-            Traces::of(subject, lent.read(), judged, random).check(random, counts)?;
+            Traces::of(subject, setting, lent.read(), judged, random).check(random, counts)?;
         }
     }
     lent.check(|| "the file".into(), &kept)
 }
 
+/// The calls under another setting, without traces of an accepted file.
+pub fn check_other(
+    subject: &dyn Calls,
+    setting: u32,
+    file: &[u8],
+    random: &mut Random,
+    counts: &mut Counts,
+) -> Result<(), Difference> {
+    // Files are counted under one setting only.
+    let mut other = Counts::default();
+    let check = Check {
+        subject,
+        setting,
+        file,
+    };
+    let wired = reference::wired(setting, file);
+    check.wire(&wired, random, &mut other)?;
+    let judged = wired.and_then(|domain| domain.judge(Setting::read(setting)?));
+    check.judge(&judged, &mut other)?;
+    match &judged {
+        Err(refusal) => check.refused(*refusal, random, &mut other)?,
+        Ok(judged) if judged.needed < 10_000 => check.tables(judged, random, &mut other)?,
+        Ok(_) => (),
+    }
+    counts.calls += other.calls;
+    for (sum, more) in counts.refusals.iter_mut().zip(other.refusals) {
+        *sum += more;
+    }
+    Ok(())
+}
+
 struct Check<'a> {
     subject: &'a dyn Calls,
+    setting: u32,
     file: &'a [u8],
 }
 
@@ -240,7 +284,7 @@ impl Check<'_> {
                 Ok(_) if length < needed => (refused(16), words.after(&[])),
                 Ok(_) => (bits, words.after(&neighbours)),
             };
-            let got = self.subject.wire(self.file, words.part());
+            let got = self.subject.wire(self.setting, self.file, words.part());
             counts.answer(expected);
             same(|| format!("wire, {length} words"), expected, got)?;
             words.check(|| "wire".into(), &after)?;
@@ -262,7 +306,8 @@ impl Check<'_> {
             Err(refusal) => counts.refused_files[usize::from(refusal.number)] += 1,
         }
         counts.answer(expected);
-        same(|| "judge".into(), expected, self.subject.judge(self.file))
+        let got = self.subject.judge(self.setting, self.file);
+        same(|| "judge".into(), expected, got)
     }
 
     /// The table and trace calls on a file that is refused.
@@ -276,7 +321,7 @@ impl Check<'_> {
         let mut words = Lent::new(length, || random.next());
         let after = words.after(&[]);
         let expected = refusal.answer();
-        let got = self.subject.tables(self.file, words.part());
+        let got = self.subject.tables(self.setting, self.file, words.part());
         counts.answer(expected);
         same(|| format!("tables, {length} words"), expected, got)?;
         words.check(|| "tables".into(), &after)?;
@@ -287,6 +332,7 @@ impl Check<'_> {
         let mut passed = Lent::new(random.pick(&[0, 1, 3, 64, 70]), || random.byte());
         let kept = passed.after(&[]);
         let got = self.subject.trace(
+            self.setting,
             self.file,
             words.part(),
             start,
@@ -331,7 +377,7 @@ impl Check<'_> {
                 true => (refused(16), lent.after(&[])),
                 false => (judged.table_answer(), lent.after(&words)),
             };
-            let got = self.subject.tables(self.file, lent.part());
+            let got = self.subject.tables(self.setting, self.file, lent.part());
             counts.answer(expected);
             same(|| format!("tables, {length} words"), expected, got)?;
             lent.check(|| "tables".into(), &after)?;

@@ -69,8 +69,15 @@ impl Domain {
         self.first[phy.device as usize] + phy.attached_phy as usize
     }
 
-    /// Causes 1 to 6.
-    fn read(file: &[u8]) -> Result<Domain, u64> {
+    /// Causes 22 and 1 to 6.
+    fn read(setting: u32, file: &[u8]) -> Result<Domain, u64> {
+        let most = setting >> 16;
+        let most_phys = (setting >> 8 & 0xff) as usize;
+        let chain = setting & 0xff;
+        // A bit above the 24 makes `most` too large.
+        if most == 0 || most > 64 || most_phys == 0 || most_phys > 128 || chain == 0 || chain > 64 {
+            return Err(refusal(22, 0, 0));
+        }
         if file.len() < 2 {
             return Err(refusal(1, 0, 0));
         }
@@ -78,7 +85,7 @@ impl Domain {
             return Err(refusal(2, 0, 0));
         }
         let count = file[1] as usize;
-        if count == 0 || count > 64 {
+        if count == 0 || count > most as usize {
             return Err(refusal(3, 0, 0));
         }
         let mut domain = Domain {
@@ -109,7 +116,7 @@ impl Domain {
                 return Err(refusal(2, i, 0));
             }
             let phys = unit[17] as usize;
-            if phys == 0 || phys > 128 {
+            if phys == 0 || phys > most_phys {
                 return Err(refusal(3, i, 0));
             }
             let address = be64(unit, 0);
@@ -177,8 +184,8 @@ impl Domain {
     }
 
     /// Causes 7 to 10; numbers the devices and fills the neighbour words.
-    fn wire(file: &[u8]) -> Result<Domain, u64> {
-        let mut domain = Domain::read(file)?;
+    fn wire(setting: u32, file: &[u8]) -> Result<Domain, u64> {
+        let mut domain = Domain::read(setting, file)?;
         let count = domain.count;
 
         let mut by_address = [(0u64, 0u32); 64];
@@ -289,8 +296,12 @@ impl Domain {
 
     /// Causes 11 to 14. Each level list is handed to `take` with the numbers of
     /// its expander and of the expander attached.
-    fn judge(file: &[u8], mut take: impl FnMut(usize, usize, &[u64])) -> Result<Domain, u64> {
-        let domain = Domain::wire(file)?;
+    fn judge(
+        setting: u32,
+        file: &[u8],
+        mut take: impl FnMut(usize, usize, &[u64]),
+    ) -> Result<Domain, u64> {
+        let domain = Domain::wire(setting, file)?;
         let count = domain.count;
 
         // 11: more links than a forest has
@@ -328,6 +339,11 @@ impl Domain {
         if cut_off < count {
             return Err(refusal(12, cut_off, 0));
         }
+        // 23: the longest chain starts at an expander farthest from any other
+        let (_, end) = domain.farthest(0);
+        if domain.farthest(end).0 > (setting & 0xff) as usize {
+            return Err(refusal(23, 0, 0));
+        }
         // 14
         let mut stamps = vec![0u32; domain.devices];
         let mut stamp = 0;
@@ -356,6 +372,25 @@ impl Domain {
     /// Of a table phy attached to an expander: is its far end a table phy?
     fn is_table_to_table(&self, phy: &Phy) -> bool {
         self.phys[self.far(phy)].attribute == TABLE
+    }
+
+    /// The expanders of the longest chain from `start` in a tree, and its end.
+    fn farthest(&self, start: usize) -> (usize, usize) {
+        let mut reached = 1u64 << start;
+        let mut edge = reached;
+        let (mut length, mut end) = (0, start);
+        while edge != 0 {
+            length += 1;
+            end = edge.trailing_zeros() as usize;
+            let mut next = 0;
+            while edge != 0 {
+                next |= self.neighbours[edge.trailing_zeros() as usize];
+                edge &= edge - 1;
+            }
+            edge = next & !reached;
+            reached |= edge;
+        }
+        (length, end)
     }
 
     fn level_list(&self, x: usize, n: usize, stamps: &mut [u32], stamp: u32, list: &mut Vec<u64>) {
@@ -425,8 +460,8 @@ impl Calls for Fast {
         "fast version"
     }
 
-    fn wire(&self, file: &[u8], words: &mut [u64]) -> u64 {
-        match Domain::wire(file) {
+    fn wire(&self, setting: u32, file: &[u8], words: &mut [u64]) -> u64 {
+        match Domain::wire(setting, file) {
             Err(refused) => refused,
             Ok(domain) if words.len() < domain.count => refusal(16, 0, 0),
             Ok(domain) => {
@@ -440,17 +475,17 @@ impl Calls for Fast {
         }
     }
 
-    fn judge(&self, file: &[u8]) -> u64 {
-        match Domain::judge(file, |_, _, _| ()) {
+    fn judge(&self, setting: u32, file: &[u8]) -> u64 {
+        match Domain::judge(setting, file, |_, _, _| ()) {
             Err(refused) => refused,
             Ok(domain) => domain.count as u64,
         }
     }
 
-    fn tables(&self, file: &[u8], words: &mut [u64]) -> u64 {
+    fn tables(&self, setting: u32, file: &[u8], words: &mut [u64]) -> u64 {
         let mut kept: Vec<u64> = Vec::new();
         let mut lists: Vec<(u8, u8, usize, usize)> = Vec::new();
-        let domain = match Domain::judge(file, |x, n, list| {
+        let domain = match Domain::judge(setting, file, |x, n, list| {
             lists.push((x as u8, n as u8, kept.len(), list.len()));
             kept.extend_from_slice(list);
         }) {
@@ -491,6 +526,7 @@ impl Calls for Fast {
 
     fn trace(
         &self,
+        setting: u32,
         file: &[u8],
         words: &[u64],
         start: u8,
@@ -498,7 +534,7 @@ impl Calls for Fast {
         address: u64,
         passed: &mut [u8],
     ) -> u64 {
-        let domain = match Domain::judge(file, |_, _, _| ()) {
+        let domain = match Domain::judge(setting, file, |_, _, _| ()) {
             Err(refused) => return refused,
             Ok(domain) => domain,
         };

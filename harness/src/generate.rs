@@ -12,6 +12,58 @@ use crate::random::{Random, ROUND};
 use crate::reference;
 
 /// A file and the name of the way it was made.
+/// The widest setting, as the calls take it.
+pub const WIDEST: u32 = 64 << 16 | 128 << 8 | 64;
+
+/// A setting for a file: often one that allows it, at times one of whose limits
+/// is just too small, or out of range.
+pub fn setting(file: &[u8], random: &mut Random) -> u32 {
+    let (expanders, phys, chain) = needs(file);
+    let packed = |limits: [usize; 3]| {
+        limits
+            .iter()
+            .fold(0, |sum, &limit| sum << 8 | limit as u32 & 0xff)
+    };
+    let needed = [(expanders, 64), (phys, 128), (chain, 64)];
+    match random.below(16) {
+        0..=2 => WIDEST,
+        3 => {
+            let mut limits = needed.map(|(need, most)| random.between(need.min(most), most));
+            let place = random.below(3);
+            limits[place] = random.pick(&[0, needed[place].1 + 1, 129, 255]);
+            packed(limits)
+        }
+        4 => packed(needed.map(|(need, most)| need.min(most))) | 1 << random.between(24, 31),
+        5 => random.next() as u32,
+        6..=8 => packed(needed.map(|(need, most)| {
+            let most_near = (need + 2).min(most);
+            random.between(need.saturating_sub(1).clamp(1, most_near), most_near)
+        })),
+        _ => packed(needed.map(|(need, most)| random.between(need.min(most), most))),
+    }
+}
+
+/// The limits that a file needs, as far as it can be read: expanders, phys and
+/// chain.
+fn needs(file: &[u8]) -> (usize, usize, usize) {
+    match reference::Domain::read(reference::Setting::WIDEST, file) {
+        Ok(domain) => (
+            domain.expanders.len(),
+            domain
+                .expanders
+                .values()
+                .map(|expander| usize::from(expander.count))
+                .max()
+                .unwrap_or(1),
+            match domain.test_shape() {
+                Ok(()) => domain.longest_chain(),
+                Err(_) => domain.expanders.len().div_ceil(2),
+            },
+        ),
+        Err(_) => (usize::from(*file.get(1).unwrap_or(&1)).clamp(1, 64), 16, 4),
+    }
+}
+
 pub struct Made {
     pub file: Vec<u8>,
     pub way: &'static str,
@@ -675,7 +727,7 @@ fn set_route_indexes(plan: &mut DomainFile, random: &mut Random, short: bool) {
     for expander in &mut plan.expanders {
         expander.route_indexes = 65535;
     }
-    let longest = match reference::judged(&plan.bytes()) {
+    let longest = match reference::judged(WIDEST, &plan.bytes()) {
         Ok(judged) => judged.longest_lists(),
         Err(refusal) => panic!("a tree was refused: {refusal:?}"),
     };

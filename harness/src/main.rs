@@ -1,4 +1,4 @@
-//! Compares the archive with the reference implementation of document 01.
+//! Compares the archive with the reference implementation of documents 01 and 02.
 //!
 //!     harness [files] [seed]      vectors, then random files (20000, seed 1)
 //!     harness one <file seed>     one file of such a run again
@@ -41,6 +41,8 @@ use reference::Reference;
 
 const THREADS: usize = 2;
 const FRAMES_PER_FILE: usize = 6;
+/// Settings under which a file is judged besides the one under which it is traced.
+const OTHER_SETTINGS: usize = 3;
 /// A file that takes longer than this is taken for a hang.
 const HANG: Duration = Duration::from_secs(300);
 
@@ -135,8 +137,15 @@ fn numbers(words: &[&str]) -> (u64, u64) {
 fn check(subject: &dyn Calls, seed: u64, counts: &mut Counts) -> Result<&'static str, Failure> {
     let mut random = Random::new(seed);
     let made = generate::make(seed, &mut random);
-    compare::check_file(subject, &made.file, &mut random, counts)
+    let setting = generate::setting(&made.file, &mut random);
+    compare::check_file(subject, setting, &made.file, &mut random, counts)
+        .map_err(|difference| difference.under(setting))
         .and_then(|()| {
+            for _ in 0..OTHER_SETTINGS {
+                let setting = generate::setting(&made.file, &mut random);
+                compare::check_other(subject, setting, &made.file, &mut random, counts)
+                    .map_err(|difference| difference.under(setting))?;
+            }
             for _ in 0..FRAMES_PER_FILE {
                 compare::check_frame(subject, &mut random, counts)?;
             }
@@ -257,7 +266,7 @@ fn run(subject: &dyn Calls, files: u64, seed: u64) {
         println!("  made as {way}: {count}");
     }
     println!(
-        "  passed 1 to 10: {}, passed 1 to 14: {}, largest file {} bytes, frames {}",
+        "  passed 1 to 10: {}, accepted: {}, largest file {} bytes, frames {}",
         counts.wired_files, counts.accepted_files, counts.largest_file, counts.frames
     );
     println!(
@@ -270,12 +279,12 @@ fn run(subject: &dyn Calls, files: u64, seed: u64) {
     );
     let mut missing = false;
     // 13 is withdrawn.
-    for number in (1..=17).filter(|&number| number != 13) {
+    for number in (1..=12).chain(14..=17).chain(22..=23) {
         let calls = counts.refusals[number];
         let files = counts.refused_files[number];
         match number {
             // Causes of a file.
-            1..=14 => {
+            1..=14 | 22 | 23 => {
                 println!("refusal {number:2}: {calls} calls, {files} files");
                 missing |= files == 0;
             }

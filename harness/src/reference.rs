@@ -58,6 +58,38 @@ fn number(bytes: &[u8]) -> u64 {
         .fold(0, |sum, &byte| sum * 256 + u64::from(byte))
 }
 
+// ---------------------------------------------------------------- settings
+
+/// A course's setting: most expanders, most phys, and longest chain in expanders.
+#[derive(Clone, Copy, Debug, PartialEq, Eq)]
+pub struct Setting {
+    pub expanders: u8,
+    pub phys: u8,
+    pub chain: u8,
+}
+
+impl Setting {
+    pub const WIDEST: Setting = Setting {
+        expanders: 64,
+        phys: 128,
+        chain: 64,
+    };
+
+    /// A setting as the calls take it, or cause 22.
+    pub fn read(packed: u32) -> Result<Setting, Refusal> {
+        let [above, expanders, phys, chain] = packed.to_be_bytes();
+        refuse(above != 0, 22, NOWHERE)?;
+        for (limit, most) in [(expanders, 64), (phys, 128), (chain, 64)] {
+            refuse(limit == 0 || limit > most, 22, NOWHERE)?;
+        }
+        Ok(Setting {
+            expanders,
+            phys,
+            chain,
+        })
+    }
+}
+
 // ---------------------------------------------------------------- frames
 
 /// A response by its byte 3, RESPONSE LENGTH, and its bytes: short, and long.
@@ -280,6 +312,8 @@ pub struct Expander {
     pub address: u64,
     pub route_indexes: u16,
     pub configurable: bool,
+    /// How many phys there are, vacant ones too.
+    pub count: u8,
     /// The non-vacant phys by number.
     pub phys: BTreeMap<u8, Phy>,
 }
@@ -320,25 +354,31 @@ impl<'a> Reader<'a> {
 
 impl Domain {
     /// Causes 1 to 6.
-    pub fn read(file: &[u8]) -> Result<Domain, Refusal> {
+    pub fn read(setting: Setting, file: &[u8]) -> Result<Domain, Refusal> {
         let mut reader = Reader { rest: file };
         let header = reader.unit(2, NOWHERE)?;
         refuse(header[0] != 0x10, 2, NOWHERE)?;
-        refuse(!(1..=64).contains(&header[1]), 3, NOWHERE)?;
+        refuse(!(1..=setting.expanders).contains(&header[1]), 3, NOWHERE)?;
         let mut domain = Domain::default();
-        domain.read_expanders(&mut reader, 0, header[1])?;
+        domain.read_expanders(setting, &mut reader, 0, header[1])?;
         refuse(!reader.rest.is_empty(), 1, (header[1], 0))?;
         Ok(domain)
     }
 
-    fn read_expanders(&mut self, reader: &mut Reader, next: u8, end: u8) -> Result<(), Refusal> {
+    fn read_expanders(
+        &mut self,
+        setting: Setting,
+        reader: &mut Reader,
+        next: u8,
+        end: u8,
+    ) -> Result<(), Refusal> {
         if next == end {
             return Ok(());
         }
         let place = (next, 0);
         let (address, general) = reader.response(8, GENERAL, place)?;
         let general = General::read(general).map_err(|cause| Refusal::of(cause, place))?;
-        refuse(!(1..=128).contains(&general.phys), 3, place)?;
+        refuse(!(1..=setting.phys).contains(&general.phys), 3, place)?;
         let address = number(address);
         refuse(
             address == 0 || self.numbers.contains_key(&address),
@@ -350,6 +390,7 @@ impl Domain {
             address,
             route_indexes: general.route_indexes,
             configurable: general.configurable,
+            count: general.phys,
             phys: BTreeMap::new(),
         };
         for phy in 0..general.phys {
@@ -359,7 +400,7 @@ impl Domain {
             }
         }
         self.expanders.insert(next, expander);
-        self.read_expanders(reader, next + 1, end)
+        self.read_expanders(setting, reader, next + 1, end)
     }
 
     /// Nothing for a vacant phy.
@@ -521,6 +562,16 @@ impl Domain {
         )
     }
 
+    /// How many expanders the longest chain has, where there is no loop.
+    pub fn longest_chain(&self) -> usize {
+        let neighbours = self.neighbours();
+        self.expanders
+            .keys()
+            .map(|&number| longest_from(&neighbours, number, None))
+            .max()
+            .unwrap_or(0)
+    }
+
     /// A table phy whose far end is a table phy: levels end there.
     fn is_table_to_table(&self, phy: &Phy) -> bool {
         phy.attribute == Attribute::Table
@@ -620,9 +671,14 @@ impl Domain {
         self.take_levels(next, list);
     }
 
-    /// Causes 11, 12 and 14 on a domain that passed 1 to 10.
-    pub fn judge(self) -> Result<Judged, Refusal> {
+    /// Causes 11, 12, 23 and 14 on a domain that passed 1 to 10.
+    pub fn judge(self, setting: Setting) -> Result<Judged, Refusal> {
         self.test_shape()?;
+        refuse(
+            self.longest_chain() > usize::from(setting.chain),
+            23,
+            NOWHERE,
+        )?;
         let mut lists = HashMap::new();
         for (place, _, phy) in self.phys() {
             if phy.attribute == Attribute::Table {
@@ -693,6 +749,16 @@ fn finds_loop(
     neighbours[&at].iter().any(|&next| {
         next == at || (Some(next) != from && finds_loop(neighbours, next, Some(at), seen))
     })
+}
+
+/// How many expanders the longest chain from `at` has that does not go to `from`,
+/// where there is no loop.
+fn longest_from(neighbours: &BTreeMap<u8, BTreeSet<u8>>, at: u8, from: Option<u8>) -> usize {
+    let beyond = neighbours[&at]
+        .iter()
+        .filter(|&&next| Some(next) != from)
+        .map(|&next| longest_from(neighbours, next, Some(at)));
+    1 + beyond.max().unwrap_or(0)
 }
 
 /// Collects the expanders joined to `at` by a chain.
@@ -982,16 +1048,16 @@ impl Judged {
 
 // ---------------------------------------------------------------- calls
 
-/// A domain that passed 1 to 10.
-pub fn wired(file: &[u8]) -> Result<Domain, Refusal> {
-    let domain = Domain::read(file)?;
+/// A domain that passed 22 and 1 to 10.
+pub fn wired(setting: u32, file: &[u8]) -> Result<Domain, Refusal> {
+    let domain = Domain::read(Setting::read(setting)?, file)?;
     domain.test_wiring()?;
     Ok(domain)
 }
 
-/// A domain that passed 1 to 14.
-pub fn judged(file: &[u8]) -> Result<Judged, Refusal> {
-    wired(file)?.judge()
+/// A domain that passed 22, 1 to 12, 23 and 14.
+pub fn judged(setting: u32, file: &[u8]) -> Result<Judged, Refusal> {
+    wired(setting, file)?.judge(Setting::read(setting)?)
 }
 
 fn answer(result: Result<u64, Refusal>) -> u64 {
@@ -1006,8 +1072,8 @@ impl Calls for Reference {
         "reference"
     }
 
-    fn wire(&self, file: &[u8], words: &mut [u64]) -> u64 {
-        answer(wired(file).and_then(|domain| {
+    fn wire(&self, setting: u32, file: &[u8], words: &mut [u64]) -> u64 {
+        answer(wired(setting, file).and_then(|domain| {
             let (neighbours, bits) = domain.neighbour_words();
             refuse(words.len() < neighbours.len(), 16, NOWHERE)?;
             words[..neighbours.len()].copy_from_slice(&neighbours);
@@ -1015,12 +1081,12 @@ impl Calls for Reference {
         }))
     }
 
-    fn judge(&self, file: &[u8]) -> u64 {
-        answer(judged(file).map(|judged| judged.expanders() as u64))
+    fn judge(&self, setting: u32, file: &[u8]) -> u64 {
+        answer(judged(setting, file).map(|judged| judged.expanders() as u64))
     }
 
-    fn tables(&self, file: &[u8], words: &mut [u64]) -> u64 {
-        answer(judged(file).and_then(|judged| {
+    fn tables(&self, setting: u32, file: &[u8], words: &mut [u64]) -> u64 {
+        answer(judged(setting, file).and_then(|judged| {
             refuse(words.len() < judged.needed, 16, NOWHERE)?;
             words[..judged.needed].copy_from_slice(&judged.table_words());
             Ok(judged.table_answer())
@@ -1029,6 +1095,7 @@ impl Calls for Reference {
 
     fn trace(
         &self,
+        setting: u32,
         file: &[u8],
         words: &[u64],
         start: u8,
@@ -1036,7 +1103,7 @@ impl Calls for Reference {
         address: u64,
         passed: &mut [u8],
     ) -> u64 {
-        answer(judged(file).and_then(|judged| {
+        answer(judged(setting, file).and_then(|judged| {
             judged.test_request(words.len(), start, arrival, address, passed.len())?;
             let trace = judged.trace(&judged.routes(words), start, arrival, address);
             passed[..trace.passed.len()].copy_from_slice(&trace.passed);

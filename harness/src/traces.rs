@@ -243,6 +243,7 @@ impl Words {
 
 pub struct Traces<'a> {
     subject: &'a dyn Calls,
+    setting: u32,
     file: &'a [u8],
     judged: &'a Judged,
     requests: Requests,
@@ -251,6 +252,7 @@ pub struct Traces<'a> {
 impl<'a> Traces<'a> {
     pub fn of(
         subject: &'a dyn Calls,
+        setting: u32,
         file: &'a [u8],
         judged: &'a Judged,
         random: &mut Random,
@@ -258,6 +260,7 @@ impl<'a> Traces<'a> {
         let requests = Requests::of(judged, random);
         Traces {
             subject,
+            setting,
             file,
             judged,
             requests,
@@ -415,9 +418,15 @@ impl<'a> Traces<'a> {
             Err(refusal) => (refusal.answer(), passed.after(&[])),
         };
         let lent = &words.lent.read()[..length];
-        let got = self
-            .subject
-            .trace(self.file, lent, start, arrival, address, passed.part());
+        let got = self.subject.trace(
+            self.setting,
+            self.file,
+            lent,
+            start,
+            arrival,
+            address,
+            passed.part(),
+        );
         counts.answer(expected);
         let what = || {
             let words = words.text(length);

@@ -3,6 +3,7 @@
 
 use crate::calls::Calls;
 use crate::compare::{same, Difference, Lent};
+use crate::generate::WIDEST;
 use crate::layout::*;
 use metzurgo::codes;
 
@@ -23,6 +24,11 @@ pub const fn e(number: usize) -> u64 {
 /// The address of the end device at a phy in the other files.
 pub const fn d(expander: usize, phy: usize) -> u64 {
     0x6000_0000_0000_0000 + 256 * expander as u64 + phy as u64
+}
+
+/// A setting as the calls take it: most expanders, most phys, longest chain.
+const fn course(expanders: u32, phys: u32, chain: u32) -> u32 {
+    expanders * 65536 + phys * 256 + chain
 }
 
 fn refused(number: u64, expander: u64, phy: u64) -> u64 {
@@ -178,7 +184,11 @@ fn star_of(attribute: u8) -> Vec<Expander> {
 
 /// Runs all vectors; gives the number of answers compared.
 pub fn run(subject: &dyn Calls) -> Result<usize, Difference> {
-    let mut test = Test { subject, count: 0 };
+    let mut test = Test {
+        subject,
+        setting: WIDEST,
+        count: 0,
+    };
     test.headers()?;
     test.cuts()?;
     test.fixed_bytes()?;
@@ -197,6 +207,7 @@ pub fn run(subject: &dyn Calls) -> Result<usize, Difference> {
     test.table_to_table()?;
     test.rows_stars_rings()?;
     test.largest()?;
+    test.settings()?;
     test.pair_rig()?;
     test.level_lists()?;
     test.tables()?;
@@ -209,6 +220,7 @@ pub fn run(subject: &dyn Calls) -> Result<usize, Difference> {
 
 struct Test<'a> {
     subject: &'a dyn Calls,
+    setting: u32,
     count: usize,
 }
 
@@ -222,7 +234,7 @@ impl Test<'_> {
         same(
             || format!("{name}: judge"),
             expected,
-            self.subject.judge(file),
+            self.subject.judge(self.setting, file),
         )
     }
 
@@ -232,14 +244,14 @@ impl Test<'_> {
             self.count += 1;
             let mut lent = Lent::new(words.len() + longer, || 0x7777);
             let after = lent.after(words);
-            let got = self.subject.wire(file, lent.part());
+            let got = self.subject.wire(self.setting, file, lent.part());
             same(|| format!("{name}: wire"), bits, got)?;
             lent.check(|| format!("{name}: wire"), &after)?;
         }
         let mut lent = Lent::new(words.len() - 1, || 0x7777);
         let after = lent.after(&[]);
         self.count += 1;
-        let got = self.subject.wire(file, lent.part());
+        let got = self.subject.wire(self.setting, file, lent.part());
         same(
             || format!("{name}: wire, one word short"),
             refused(16, 0, 0),
@@ -252,7 +264,7 @@ impl Test<'_> {
         self.count += 1;
         let mut lent = Lent::new(64, || 0x7777);
         let after = lent.after(&[]);
-        let got = self.subject.wire(file, lent.part());
+        let got = self.subject.wire(self.setting, file, lent.part());
         same(|| format!("{name}: wire"), expected, got)?;
         lent.check(|| format!("{name}: wire"), &after)
     }
@@ -263,7 +275,7 @@ impl Test<'_> {
         let mut words = Lent::new(9, || 0x7777);
         let after = words.after(&[]);
         self.count += 1;
-        let got = self.subject.tables(file, words.part());
+        let got = self.subject.tables(self.setting, file, words.part());
         same(|| format!("{name}: tables"), expected, got)?;
         words.check(|| format!("{name}: tables"), &after)?;
 
@@ -271,9 +283,15 @@ impl Test<'_> {
         let kept = passed.after(&[]);
         for (start, arrival, address) in [(0, 255, X20), (255, 7, 0)] {
             self.count += 1;
-            let got =
-                self.subject
-                    .trace(file, words.part(), start, arrival, address, passed.part());
+            let got = self.subject.trace(
+                self.setting,
+                file,
+                words.part(),
+                start,
+                arrival,
+                address,
+                passed.part(),
+            );
             same(|| format!("{name}: trace"), expected, got)?;
             words.check(|| format!("{name}: trace"), &after)?;
             passed.check(|| format!("{name}: trace"), &kept)?;
@@ -294,7 +312,7 @@ impl Test<'_> {
             self.count += 1;
             let mut lent = Lent::new(words.len() + longer, || 0x7777);
             let after = lent.after(words);
-            let got = self.subject.tables(file, lent.part());
+            let got = self.subject.tables(self.setting, file, lent.part());
             same(|| format!("{name}: tables"), expected, got)?;
             lent.check(|| format!("{name}: tables"), &after)?;
         }
@@ -302,7 +320,7 @@ impl Test<'_> {
             self.count += 1;
             let mut lent = Lent::new(words.len() - 1, || 0x7777);
             let after = lent.after(&[]);
-            let got = self.subject.tables(file, lent.part());
+            let got = self.subject.tables(self.setting, file, lent.part());
             same(
                 || format!("{name}: tables, one word short"),
                 refused(16, 0, 0),
@@ -327,9 +345,15 @@ impl Test<'_> {
         self.count += 1;
         let mut lent = Lent::new(70, || 0x77);
         let after = lent.after(passed);
-        let got = self
-            .subject
-            .trace(file, words, start, arrival, address, lent.part());
+        let got = self.subject.trace(
+            self.setting,
+            file,
+            words,
+            start,
+            arrival,
+            address,
+            lent.part(),
+        );
         let what = || format!("{name}: trace, start {start}, arrival {arrival}, {address:016x}h");
         same(what, expected, got)?;
         lent.check(what, &after)
@@ -1299,9 +1323,33 @@ impl Test<'_> {
         // Each expander reaches the other, and neither the other's drive.
         let name = "wide table-to-table link";
         let (rig, words) = (wide(0), []);
-        self.trace(name, &rig, &words, (0, 0), e(1), arrived(1, 255, 2), &[0, 1])?;
-        self.trace(name, &rig, &words, (0, 0), d(1, 2), no_destination(0, 1), &[0])?;
-        self.trace(name, &rig, &words, (1, 2), d(0, 0), no_destination(1, 1), &[1])?;
+        self.trace(
+            name,
+            &rig,
+            &words,
+            (0, 0),
+            e(1),
+            arrived(1, 255, 2),
+            &[0, 1],
+        )?;
+        self.trace(
+            name,
+            &rig,
+            &words,
+            (0, 0),
+            d(1, 2),
+            no_destination(0, 1),
+            &[0],
+        )?;
+        self.trace(
+            name,
+            &rig,
+            &words,
+            (1, 2),
+            d(0, 0),
+            no_destination(1, 1),
+            &[1],
+        )?;
         // The link is lower down: the expander beyond is entered, its drive is not.
         let below = |route_indexes| {
             file(vec![
@@ -1322,12 +1370,52 @@ impl Test<'_> {
         let words = [e(2), d(1, 2), 0, 0, 0];
         self.table_words(name, &below(2), 3, &words)?;
         let rig = below(2);
-        self.trace(name, &rig, &words, (0, 255), e(2), arrived(2, 255, 3), &[0, 1, 2])?;
-        self.trace(name, &rig, &words, (0, 255), d(2, 1), no_destination(0, 1), &[0])?;
-        self.trace(name, &rig, &words, (1, 2), d(2, 1), no_destination(0, 2), &[1, 0])?;
+        self.trace(
+            name,
+            &rig,
+            &words,
+            (0, 255),
+            e(2),
+            arrived(2, 255, 3),
+            &[0, 1, 2],
+        )?;
+        self.trace(
+            name,
+            &rig,
+            &words,
+            (0, 255),
+            d(2, 1),
+            no_destination(0, 1),
+            &[0],
+        )?;
+        self.trace(
+            name,
+            &rig,
+            &words,
+            (1, 2),
+            d(2, 1),
+            no_destination(0, 2),
+            &[1, 0],
+        )?;
         self.trace(name, &rig, &words, (2, 1), e(0), no_destination(2, 1), &[2])?;
-        self.trace(name, &rig, &words, (2, 1), e(1), arrived(1, 255, 2), &[2, 1])?;
-        self.trace(name, &rig, &words, (0, 255), d(1, 2), arrived(1, 2, 2), &[0, 1])
+        self.trace(
+            name,
+            &rig,
+            &words,
+            (2, 1),
+            e(1),
+            arrived(1, 255, 2),
+            &[2, 1],
+        )?;
+        self.trace(
+            name,
+            &rig,
+            &words,
+            (0, 255),
+            d(1, 2),
+            arrived(1, 2, 2),
+            &[0, 1],
+        )
     }
 
     // ------------------------------------------------------------ many expanders
@@ -1472,6 +1560,89 @@ impl Test<'_> {
     }
 
     // ------------------------------------------------------------ the pair rig
+
+    /// Courses with other limits.
+    fn settings(&mut self) -> Done {
+        let rig = pair_rig();
+        // Out of range, or a bit above the 24: before everything else, in every call.
+        for setting in [
+            0,
+            course(0, 3, 2),
+            course(2, 0, 2),
+            course(2, 3, 0),
+            course(65, 3, 2),
+            course(2, 129, 2),
+            course(2, 3, 65),
+            course(255, 255, 255),
+            course(2, 3, 2) | 1 << 24,
+            course(2, 3, 2) | 1 << 31,
+            WIDEST | 1 << 24,
+            u32::MAX,
+        ] {
+            self.setting = setting;
+            self.refuses("no setting in range", &rig, 22, 0, 0)?;
+            self.refuses("no setting in range, no file", &[], 22, 0, 0)?;
+        }
+
+        // The narrowest course that accepts the pair rig, and narrower ones.
+        self.setting = course(2, 3, 2);
+        self.judge("pair rig, 2 3 2", &rig, 2)?;
+        self.wire("pair rig, 2 3 2", &rig, 2, &[0b10, 0b01])?;
+        self.table_words("pair rig, 2 3 2", &rig, 1, &[B1, 0, 0, 0])?;
+        self.trace(
+            "pair rig, 2 3 2",
+            &rig,
+            &[B1, 0, 0, 0],
+            (0, 255),
+            B1,
+            arrived(1, 1, 2),
+            &[0, 1],
+        )?;
+        self.setting = course(1, 128, 64);
+        self.refuses("pair rig, one expander", &rig, 3, 0, 0)?;
+        self.setting = course(64, 2, 64);
+        self.refuses("pair rig, two phys", &rig, 3, 1, 0)?;
+        self.setting = course(64, 1, 64);
+        self.refuses("pair rig, one phy", &rig, 3, 0, 0)?;
+        self.setting = course(64, 128, 1);
+        self.wire("pair rig, chains of one", &rig, 2, &[0b10, 0b01])?;
+        self.judge_refused("pair rig, chains of one", &rig, refused(23, 0, 0))?;
+
+        // 23 comes before 14, and after 11 and 12.
+        let long = pair_bytes(|file| file[17] = 1);
+        self.judge_refused("23 and 14", &long, refused(23, 0, 0))?;
+        let pair = |island: bool| {
+            let mut expanders = vec![
+                Expander::new(e(0), 4, true).link(TABLE, e(1), 0),
+                Expander::new(e(1), 0, false).link(SUBTRACTIVE, e(0), 0),
+            ];
+            if island {
+                expanders.push(Expander::new(e(2), 0, false).empty(DIRECT));
+            }
+            file(expanders)
+        };
+        self.judge_refused("23", &pair(false), refused(23, 0, 0))?;
+        self.judge_refused("12 and 23", &pair(true), refused(12, 2, 0))?;
+
+        // A row: a chain as long as the setting is allowed, odd or even.
+        let row = row(|i| 63 - i as u16);
+        for (chain, expected) in [(64, 64), (63, refused(23, 0, 0)), (1, refused(23, 0, 0))] {
+            self.setting = course(64, 2, chain);
+            self.judge("row of 64", &row, expected)?;
+        }
+        // A star: three expanders at most.
+        let star = full_star(DIRECT);
+        for (chain, expected) in [(4, 64), (3, 64), (2, refused(23, 0, 0))] {
+            self.setting = course(64, 128, chain);
+            self.judge("star of 64", &star, expected)?;
+        }
+        self.setting = course(63, 128, 64);
+        self.judge("star of 64, 63 expanders", &star, refused(3, 0, 0))?;
+        self.setting = course(64, 127, 64);
+        self.judge("star of 64, 127 phys", &star, refused(3, 0, 0))?;
+        self.setting = WIDEST;
+        Ok(())
+    }
 
     fn pair_rig(&mut self) -> Done {
         let rig = pair_rig();
@@ -2027,6 +2198,7 @@ impl Test<'_> {
             let mut passed = Lent::new(room, || 0x77);
             let after = passed.after(&[]);
             let got = self.subject.trace(
+                self.setting,
                 file,
                 &words[..length],
                 start,
@@ -2041,7 +2213,9 @@ impl Test<'_> {
         self.count += 1;
         let mut passed = Lent::new(2, || 0x77);
         let after = passed.after(&[1, 0]);
-        let got = self.subject.trace(&rig, &words, 1, 1, A1, passed.part());
+        let got = self
+            .subject
+            .trace(self.setting, &rig, &words, 1, 1, A1, passed.part());
         same(|| "two bytes".into(), arrived(0, 1, 2), got)?;
         passed.check(|| "two bytes".into(), &after)
     }
@@ -2465,7 +2639,8 @@ fn star(hub: usize, route_indexes: u16) -> Vec<u8> {
 /// The typed answers of the Rust binding.
 pub fn typed() -> Done {
     use metzurgo::{
-        Discover, General, GeneralSas2, LongGeneral, Outcome, Refusal, Route, Tables, Trace,
+        Discover, General, GeneralSas2, LongGeneral, Outcome, Refusal, Route, Setting, Tables,
+        Trace,
     };
 
     fn equal<T: PartialEq + std::fmt::Debug>(what: &str, expected: T, got: T) -> Done {
@@ -2487,21 +2662,44 @@ pub fn typed() -> Done {
     }
 
     let rig = pair_rig();
+    let widest = Setting::WIDEST;
     let mut words = [7; 5];
-    equal("wire", Ok(2), metzurgo::wire(&rig, &mut words))?;
+    equal("wire", Ok(2), metzurgo::wire(widest, &rig, &mut words))?;
     equal("wire", [2, 1, 7, 7, 7], words)?;
     equal(
         "wire",
         Err(refusal(16, 0, 0)),
-        metzurgo::wire(&rig, &mut words[..1]),
+        metzurgo::wire(widest, &rig, &mut words[..1]),
     )?;
-    equal("judge", Ok(2), metzurgo::judge(&rig))?;
-    equal("judge", Err(refusal(1, 1, 2)), metzurgo::judge(&rig[..333]))?;
+    equal("judge", Ok(2), metzurgo::judge(widest, &rig))?;
+    for (limits, expected) in [
+        ((2, 3, 2), Ok(2)),
+        ((1, 3, 2), Err(refusal(3, 0, 0))),
+        ((2, 2, 2), Err(refusal(3, 1, 0))),
+        ((2, 3, 1), Err(refusal(23, 0, 0))),
+        ((0, 3, 2), Err(refusal(22, 0, 0))),
+        ((2, 129, 2), Err(refusal(22, 0, 0))),
+        ((2, 3, 65), Err(refusal(22, 0, 0))),
+    ] {
+        let setting = Setting::new(limits.0, limits.1, limits.2);
+        let got = setting.and_then(|setting| metzurgo::judge(setting, &rig));
+        equal("judge", expected, got)?;
+    }
+    equal("the widest setting", Ok(widest), Setting::new(64, 128, 64))?;
+    equal(
+        "judge",
+        Err(refusal(1, 1, 2)),
+        metzurgo::judge(widest, &rig[..333]),
+    )?;
     let written = Tables {
         tables: 1,
         words: 4,
     };
-    equal("tables", Ok(written), metzurgo::tables(&rig, &mut words))?;
+    equal(
+        "tables",
+        Ok(written),
+        metzurgo::tables(widest, &rig, &mut words),
+    )?;
     equal("tables", [B1, 0, 0, 0, 7], words)?;
     let mut passed = [7; 3];
     for (start, arrival, address, outcome, last, phy, count) in [
@@ -2517,14 +2715,14 @@ pub fn typed() -> Done {
             phy,
             count,
         };
-        let got = metzurgo::trace(&rig, &words, start, arrival, address, &mut passed);
+        let got = metzurgo::trace(widest, &rig, &words, start, arrival, address, &mut passed);
         equal("trace", Ok(expected), got)?;
     }
     equal("trace", [1, 0, 7], passed)?;
     equal(
         "trace",
         Err(refusal(17, 0, 0)),
-        metzurgo::trace(&rig, &words, 0, 255, 0, &mut passed),
+        metzurgo::trace(widest, &rig, &words, 0, 255, 0, &mut passed),
     )?;
     let mut buf = [7; 50];
     let route = Route {

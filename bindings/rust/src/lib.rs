@@ -48,21 +48,36 @@ pub mod raw {
     #[cfg(feature = "stub")]
     use super::stub as calls;
 
-    pub fn wire(file: &[u8], words: &mut [u64]) -> u64 {
-        unsafe { calls::metzurgo_wire(file.as_ptr(), file.len(), words.as_mut_ptr(), words.len()) }
-    }
-
-    pub fn judge(file: &[u8]) -> u64 {
-        unsafe { calls::metzurgo_judge(file.as_ptr(), file.len()) }
-    }
-
-    pub fn tables(file: &[u8], words: &mut [u64]) -> u64 {
+    pub fn wire(setting: u32, file: &[u8], words: &mut [u64]) -> u64 {
         unsafe {
-            calls::metzurgo_tables(file.as_ptr(), file.len(), words.as_mut_ptr(), words.len())
+            calls::metzurgo_wire(
+                setting,
+                file.as_ptr(),
+                file.len(),
+                words.as_mut_ptr(),
+                words.len(),
+            )
+        }
+    }
+
+    pub fn judge(setting: u32, file: &[u8]) -> u64 {
+        unsafe { calls::metzurgo_judge(setting, file.as_ptr(), file.len()) }
+    }
+
+    pub fn tables(setting: u32, file: &[u8], words: &mut [u64]) -> u64 {
+        unsafe {
+            calls::metzurgo_tables(
+                setting,
+                file.as_ptr(),
+                file.len(),
+                words.as_mut_ptr(),
+                words.len(),
+            )
         }
     }
 
     pub fn trace(
+        setting: u32,
         file: &[u8],
         words: &[u64],
         start: u8,
@@ -72,6 +87,7 @@ pub mod raw {
     ) -> u64 {
         unsafe {
             calls::metzurgo_trace(
+                setting,
                 file.as_ptr(),
                 file.len(),
                 words.as_ptr(),
@@ -124,19 +140,22 @@ pub mod raw {
 mod linked {
     extern "C" {
         pub fn metzurgo_wire(
+            setting: u32,
             file: *const u8,
             file_len: usize,
             words: *mut u64,
             words_len: usize,
         ) -> u64;
-        pub fn metzurgo_judge(file: *const u8, file_len: usize) -> u64;
+        pub fn metzurgo_judge(setting: u32, file: *const u8, file_len: usize) -> u64;
         pub fn metzurgo_tables(
+            setting: u32,
             file: *const u8,
             file_len: usize,
             words: *mut u64,
             words_len: usize,
         ) -> u64;
         pub fn metzurgo_trace(
+            setting: u32,
             file: *const u8,
             file_len: usize,
             words: *const u64,
@@ -171,17 +190,18 @@ mod linked {
 mod stub {
     const NOTHING: u64 = 1 << 63;
 
-    pub unsafe fn metzurgo_wire(_: *const u8, _: usize, _: *mut u64, _: usize) -> u64 {
+    pub unsafe fn metzurgo_wire(_: u32, _: *const u8, _: usize, _: *mut u64, _: usize) -> u64 {
         NOTHING
     }
-    pub unsafe fn metzurgo_judge(_: *const u8, _: usize) -> u64 {
+    pub unsafe fn metzurgo_judge(_: u32, _: *const u8, _: usize) -> u64 {
         NOTHING
     }
-    pub unsafe fn metzurgo_tables(_: *const u8, _: usize, _: *mut u64, _: usize) -> u64 {
+    pub unsafe fn metzurgo_tables(_: u32, _: *const u8, _: usize, _: *mut u64, _: usize) -> u64 {
         NOTHING
     }
     #[allow(clippy::too_many_arguments)]
     pub unsafe fn metzurgo_trace(
+        _: u32,
         _: *const u8,
         _: usize,
         _: *const u64,
@@ -235,6 +255,66 @@ impl fmt::Display for Refusal {
 }
 
 impl std::error::Error for Refusal {}
+
+/// A course's setting: the most expanders of a domain, the most phys of an
+/// expander, and the longest chain in expanders.
+#[derive(Clone, Copy, Debug, PartialEq, Eq, Hash)]
+pub struct Setting {
+    expanders: u8,
+    phys: u8,
+    chain: u8,
+}
+
+impl Setting {
+    /// The limits of a domain file: 64 expanders, 128 phys, chains of 64.
+    pub const WIDEST: Setting = Setting {
+        expanders: 64,
+        phys: 128,
+        chain: 64,
+    };
+
+    /// A setting within its range: 1 to 64 expanders, 1 to 128 phys, chains of 1
+    /// to 64 expanders. Any other is refused with 22, as by the calls.
+    pub fn new(expanders: u8, phys: u8, chain: u8) -> Result<Setting, Refusal> {
+        let widest = Setting::WIDEST;
+        if (1..=widest.expanders).contains(&expanders)
+            && (1..=widest.phys).contains(&phys)
+            && (1..=widest.chain).contains(&chain)
+        {
+            Ok(Setting {
+                expanders,
+                phys,
+                chain,
+            })
+        } else {
+            Err(Refusal {
+                number: 22,
+                expander: 0,
+                phy: 0,
+            })
+        }
+    }
+
+    /// The most expanders of a domain.
+    pub fn expanders(self) -> u8 {
+        self.expanders
+    }
+
+    /// The most phys of an expander.
+    pub fn phys(self) -> u8 {
+        self.phys
+    }
+
+    /// The longest chain in expanders.
+    pub fn chain(self) -> u8 {
+        self.chain
+    }
+
+    /// The setting as the calls of [`raw`] take it.
+    pub fn packed(self) -> u32 {
+        u32::from(self.expanders) << 16 | u32::from(self.phys) << 8 | u32::from(self.chain)
+    }
+}
 
 /// What the table call wrote.
 #[derive(Clone, Copy, Debug, PartialEq, Eq, Hash)]
@@ -323,18 +403,18 @@ fn accepted(answer: u64) -> Result<u64, Refusal> {
 }
 
 /// Writes one word of neighbours for each expander; gives the bits set in all.
-pub fn wire(file: &[u8], words: &mut [u64]) -> Result<u64, Refusal> {
-    accepted(raw::wire(file, words))
+pub fn wire(setting: Setting, file: &[u8], words: &mut [u64]) -> Result<u64, Refusal> {
+    accepted(raw::wire(setting.packed(), file, words))
 }
 
 /// Judges the file; gives the number of expanders.
-pub fn judge(file: &[u8]) -> Result<u64, Refusal> {
-    accepted(raw::judge(file))
+pub fn judge(setting: Setting, file: &[u8]) -> Result<u64, Refusal> {
+    accepted(raw::judge(setting.packed(), file))
 }
 
 /// Writes the route tables, by expander and then phy.
-pub fn tables(file: &[u8], words: &mut [u64]) -> Result<Tables, Refusal> {
-    accepted(raw::tables(file, words)).map(|answer| Tables {
+pub fn tables(setting: Setting, file: &[u8], words: &mut [u64]) -> Result<Tables, Refusal> {
+    accepted(raw::tables(setting.packed(), file, words)).map(|answer| Tables {
         tables: (answer >> 32) as u32,
         words: answer as u32,
     })
@@ -344,6 +424,7 @@ pub fn tables(file: &[u8], words: &mut [u64]) -> Result<Tables, Refusal> {
 /// `arrival`, or comes from the expander itself ([`EXPANDER_ITSELF`]). The
 /// expanders passed fill the first bytes of `passed`.
 pub fn trace(
+    setting: Setting,
     file: &[u8],
     words: &[u64],
     start: u8,
@@ -351,7 +432,11 @@ pub fn trace(
     address: u64,
     passed: &mut [u8],
 ) -> Result<Trace, Refusal> {
-    accepted(raw::trace(file, words, start, arrival, address, passed)).map(|answer| Trace {
+    let course = setting.packed();
+    accepted(raw::trace(
+        course, file, words, start, arrival, address, passed,
+    ))
+    .map(|answer| Trace {
         outcome: match answer >> 24 {
             0 => Outcome::Arrived,
             1 => Outcome::NoDestination,
