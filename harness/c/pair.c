@@ -10,6 +10,8 @@
 
 #include "../../include/metzurgo.h"
 
+#define WIDEST METZURGO_WIDEST
+
 static const uint8_t pair_rig[334] = {
     /* header */
     [0] = 0x10, [1] = 2,
@@ -56,16 +58,20 @@ static void empty_slices(void)
     uint64_t words[4] = { 0 };
     uint8_t passed[2];
 
-    expect("wire, no file", cut, metzurgo_wire(NULL, 0, NULL, 0));
-    expect("wire, no words", room, metzurgo_wire(pair_rig, size, NULL, 0));
-    expect("tables, no file", cut, metzurgo_tables(NULL, 0, NULL, 0));
-    expect("tables, no words", room, metzurgo_tables(pair_rig, size, NULL, 0));
+    expect("wire, no file", cut, metzurgo_wire(WIDEST, NULL, 0, NULL, 0));
+    expect("wire, no words", room,
+           metzurgo_wire(WIDEST, pair_rig, size, NULL, 0));
+    expect("tables, no file", cut, metzurgo_tables(WIDEST, NULL, 0, NULL, 0));
+    expect("tables, no words", room,
+           metzurgo_tables(WIDEST, pair_rig, size, NULL, 0));
     expect("trace, no file", cut,
-           metzurgo_trace(NULL, 0, NULL, 0, 0, 255, A1, NULL, 0));
+           metzurgo_trace(WIDEST, NULL, 0, NULL, 0, 0, 255, A1, NULL, 0));
     expect("trace, no words", room,
-           metzurgo_trace(pair_rig, size, NULL, 0, 0, 255, A1, passed, 2));
+           metzurgo_trace(WIDEST, pair_rig, size, NULL, 0, 0, 255, A1, passed,
+                          2));
     expect("trace, no bytes", room,
-           metzurgo_trace(pair_rig, size, words, 4, 0, 255, A1, NULL, 0));
+           metzurgo_trace(WIDEST, pair_rig, size, words, 4, 0, 255, A1, NULL,
+                          0));
     expect("write_route, no bytes", room,
            metzurgo_write_route(NULL, 0, 0, 0, 0, A1));
     expect("read_route, no frame", cut, metzurgo_read_route(NULL, 0));
@@ -84,28 +90,48 @@ static void empty_slices(void)
         [20] = 1, [38] = 0x41, [39] = 0x10, [54] = 0x50, [61] = 0x10, [82] = 2,
     };
     expect("tables of no words", UINT64_C(1) << 32,
-           metzurgo_tables(wordless, sizeof wordless, NULL, 0));
+           metzurgo_tables(WIDEST, wordless, sizeof wordless, NULL, 0));
     expect("trace over no words", (1 << 24) + 255 * 256 + 1,
-           metzurgo_trace(wordless, sizeof wordless, NULL, 0, 0, 255, A1,
+           metzurgo_trace(WIDEST, wordless, sizeof wordless, NULL, 0, 0, 255,
+                          A1,
                           passed, 1));
 }
 
 int main(void)
 {
     uint64_t words[5] = { 7, 7, 7, 7, 7 };
-    uint64_t answer = metzurgo_wire(pair_rig, sizeof pair_rig, words, 5);
+    uint64_t answer = metzurgo_wire(WIDEST, pair_rig, sizeof pair_rig, words,
+                                    5);
     expect("wire", 2, answer);
     expect("neighbours of expander 0", 2, words[0]);
     expect("neighbours of expander 1", 1, words[1]);
     expect("word after the neighbours", 7, words[2]);
 
-    expect("judge", 2, metzurgo_judge(pair_rig, sizeof pair_rig));
+    expect("judge", 2, metzurgo_judge(WIDEST, pair_rig, sizeof pair_rig));
     expect("judge, empty file", METZURGO_REFUSED + 1 * 65536,
-           metzurgo_judge(NULL, 0));
+           metzurgo_judge(WIDEST, NULL, 0));
+
+    /* Courses with other limits: 2 expanders, 3 phys, chains of 2 are enough. */
+    expect("judge, 2 3 2", 2,
+           metzurgo_judge(METZURGO_SETTING(2, 3, 2), pair_rig,
+                          sizeof pair_rig));
+    expect("judge, 1 3 2", METZURGO_REFUSED + 3 * 65536,
+           metzurgo_judge(METZURGO_SETTING(1, 3, 2), pair_rig,
+                          sizeof pair_rig));
+    expect("judge, 2 3 1", METZURGO_REFUSED + 23 * 65536,
+           metzurgo_judge(METZURGO_SETTING(2, 3, 1), pair_rig,
+                          sizeof pair_rig));
+    expect("judge, 0 3 2", METZURGO_REFUSED + 22 * 65536,
+           metzurgo_judge(METZURGO_SETTING(0, 3, 2), NULL, 0));
+    expect("judge, a bit above the 24", METZURGO_REFUSED + 22 * 65536,
+           metzurgo_judge(METZURGO_WIDEST | UINT32_C(1) << 24, pair_rig,
+                          sizeof pair_rig));
+    expect("a setting with a limit above 255", 0, METZURGO_SETTING(2, 259, 2));
+    expect("the widest setting", 64 * 65536 + 128 * 256 + 64, METZURGO_WIDEST);
 
     expect("tables, 3 words", METZURGO_REFUSED + 16 * 65536,
-           metzurgo_tables(pair_rig, sizeof pair_rig, words, 3));
-    answer = metzurgo_tables(pair_rig, sizeof pair_rig, words, 5);
+           metzurgo_tables(WIDEST, pair_rig, sizeof pair_rig, words, 3));
+    answer = metzurgo_tables(WIDEST, pair_rig, sizeof pair_rig, words, 5);
     expect("tables", (UINT64_C(1) << 32) + 4, answer);
     expect("entry 0", B1, words[0]);
     expect("entry 1", 0, words[1]);
@@ -119,7 +145,8 @@ int main(void)
 
     /* B1h's phy (expander 1 phy 1) to A1h (expander 0 phy 1). */
     uint8_t passed[3] = { 9, 9, 9 };
-    answer = metzurgo_trace(pair_rig, sizeof pair_rig, words, 5, 1, 1, A1,
+    answer = metzurgo_trace(WIDEST, pair_rig, sizeof pair_rig, words, 5, 1, 1,
+                            A1,
                             passed, 3);
     expect("trace", 0 * 65536 + 1 * 256 + 2, answer);
     expect("first expander passed", 1, passed[0]);

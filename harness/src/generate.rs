@@ -25,17 +25,17 @@ pub fn setting(file: &[u8], random: &mut Random) -> u32 {
             .fold(0, |sum, &limit| sum << 8 | limit as u32 & 0xff)
     };
     let needed = [(expanders, 64), (phys, 128), (chain, 64)];
-    match random.below(16) {
-        0..=2 => WIDEST,
-        3 => {
+    match random.below(32) {
+        0..=5 => WIDEST,
+        6 => {
             let mut limits = needed.map(|(need, most)| random.between(need.min(most), most));
             let place = random.below(3);
             limits[place] = random.pick(&[0, needed[place].1 + 1, 129, 255]);
             packed(limits)
         }
-        4 => packed(needed.map(|(need, most)| need.min(most))) | 1 << random.between(24, 31),
-        5 => random.next() as u32,
-        6..=8 => packed(needed.map(|(need, most)| {
+        7 => packed(needed.map(|(need, most)| need.min(most))) | 1 << random.between(24, 31),
+        8 => random.next() as u32,
+        9..=13 => packed(needed.map(|(need, most)| {
             let most_near = (need + 2).min(most);
             random.between(need.saturating_sub(1).clamp(1, most_near), most_near)
         })),

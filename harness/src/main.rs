@@ -137,7 +137,11 @@ fn numbers(words: &[&str]) -> (u64, u64) {
 fn check(subject: &dyn Calls, seed: u64, counts: &mut Counts) -> Result<&'static str, Failure> {
     let mut random = Random::new(seed);
     let made = generate::make(seed, &mut random);
-    let setting = generate::setting(&made.file, &mut random);
+    // The largest files are traced in every run.
+    let setting = match made.way.starts_with("64 x 128") {
+        true => generate::WIDEST,
+        false => generate::setting(&made.file, &mut random),
+    };
     compare::check_file(subject, setting, &made.file, &mut random, counts)
         .map_err(|difference| difference.under(setting))
         .and_then(|()| {

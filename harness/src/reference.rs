@@ -609,11 +609,16 @@ impl Domain {
 
     /// The expander that bears each address, or at which an end device does.
     fn homes(&self) -> HashMap<u64, u8> {
-        let devices = self.phys().filter_map(|(place, _, phy)| match phy.attached {
-            Attached::EndDevice(address) => Some((address, place.0)),
-            _ => None,
-        });
-        let own = self.expanders.iter().map(|(&number, e)| (e.address, number));
+        let devices = self
+            .phys()
+            .filter_map(|(place, _, phy)| match phy.attached {
+                Attached::EndDevice(address) => Some((address, place.0)),
+                _ => None,
+            });
+        let own = self
+            .expanders
+            .iter()
+            .map(|(&number, e)| (e.address, number));
         devices.chain(own).collect()
     }
 
