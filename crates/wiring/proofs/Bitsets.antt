@@ -1,5 +1,5 @@
 -- Rounds over sets: the words that the code holds are the lists of the definitions.
-use Prim.Native.Nat.{ℕ, zero, suc, _+_, _-_, _/_, _%_, _^_, _≤_, _<_}
+use Prim.Native.Nat.{ℕ, zero, suc, _+_, _-_, _/_, _^_, _≤_, _<_}
 use mathlib.Core.Path.{_≡_, refl, sym, _∙_, ap, ap₂}
 use mathlib.Core.Bool.{Bool, true, false, cond, _||_, _&&_}
 use mathlib.Core.List.{List, [], _∷_}
@@ -17,7 +17,6 @@ use Rattle.wiring.specs.Graph.{two, isNil, stays, strip, loopfree, near,
 use Rattle.wiring.specs.Neighbours.{neighbours, setOf, neighbourWord}
 use Rattle.frames.specs.Refusals.{Result, refused, good, refusal}
 use Rattle.wiring.specs.Links.{joined, joinedIn}
-use Rattle.wiring.specs.Chains.{chainsWithin}
 use Rattle.wiring.specs.Rounds.{RoundsRun, hasBit, members, SetBelow, roundTest, nextTest, nextSet, rounds}
 use Rattle.wiring.proofs.Members.{any-same, keep-keep, keep-same, isIn-keep, isIn-of, in-upTo, numbers-below, same-test, is-true}
 use Rattle.wiring.proofs.Sets.{wordBelow, bitOf, set-word, ones-word, and-word, word-bit, neighbour-word}
@@ -183,11 +182,10 @@ pub members-count : (n w : ℕ) → SetBelow n w → ones w ≡ length (members 
 unfolding members
 members-count n w s = ap ones (word-of n w s) ∙ ones-word (hasBit w) n
 
--- cause 23 decided by a word
-pub within-word : (d : Domain) (most after : ℕ) → RoundsRun d 11 (most / 2) (setOf (upTo (length d))) after → leb (ones after) (most % 2) ≡ chainsWithin most d
-unfolding chainsWithin
-within-word d most after r =
-    ap (λ (m : ℕ). leb m (most % 2)) (members-count (length d) after (r .below) ∙ ap length (left-members d (most / 2) after r))
+-- how many are left, for cause 23
+pub left-count : (d : Domain) (count after : ℕ) → RoundsRun d 11 count (setOf (upTo (length d))) after
+    → ones after ≡ length (strip (length d) (neighbours d) count (upTo (length d)))
+left-count d count after r = members-count (length d) after (r .below) ∙ ap length (left-members d count after r)
 
 -- the set of expander 0
 first-only : (n : ℕ) → 0 < n → keep (λ v. eqb v 0) (upTo n) ≡ 0 ∷ []

@@ -1,13 +1,13 @@
 -- The outcomes of the checks in order, and of the wiring call.
-use Prim.Native.Nat.{ℕ, _*_, _≤_, _<_}
+use Prim.Native.Nat.{ℕ, _*_, _/_, _%_, _≤_, _<_}
 use mathlib.Core.Path.{_≡_, refl, sym, _∙_, ap}
-use mathlib.Core.Bool.{Bool, true, false, _&&_}
+use mathlib.Core.Bool.{true, false, _&&_}
 use mathlib.Core.List.{List, _++_}
 use native.Mathlib.Omega.{arith}
 use lib.ListN.{length, drop}
 use lib.Dec.{leb, leb→le}
 use borrow.Author.Tests.{le-leb, lt-leb}
-use Rattle.frames.specs.Refusals.{Result, refused, good, unless, then, refusal}
+use Rattle.frames.specs.Refusals.{Result, refused, good, then, refusal}
 use Rattle.frames.specs.declared.Refusal.{Refusal}
 use Rattle.wiring.specs.declared.Setting.{Setting}
 use Rattle.wiring.specs.declared.Check.{Check}
@@ -17,7 +17,7 @@ use Rattle.wiring.specs.declared.Wiring.the-variants.{Refused, Bits}
 use Rattle.wiring.specs.Lists.{upTo}
 use Rattle.wiring.specs.Domain.{Domain}
 use Rattle.wiring.specs.Causes.{wiredDomain}
-use Rattle.wiring.specs.Graph.{loopfree}
+use Rattle.wiring.specs.Graph.{strip, loopfree}
 use Rattle.wiring.specs.Neighbours.{neighbours, neighbourWord, neighbourWords, bitsIn, wordsFor, wiringCall, WiringDone}
 use Rattle.wiring.specs.File.{domainRead}
 use Rattle.wiring.specs.Links.{unlooped, joinedIn, linkedDomain, checkedDomain}
@@ -47,10 +47,19 @@ module _ (chain : ℕ) (d : Domain) where
   unfolding linkedDomain unlooped
   links-joined x q e = rw (q, e)
 
-  -- cause 23, by what its test answers
-  pub long-by : {b : Bool} → chainsWithin chain d ≡ b → unlong chain d ≡ unless b (refusal 23 0 0) (good d)
-  unfolding unlong
-  long-by q = rw q
+  -- cause 23, where n are left after the rounds
+  pub chains-few : length d ≤ chain → unlong chain d ≡ good d
+  unfolding unlong chainsWithin
+  chains-few h = rw (le-leb (length d) chain h)
+
+  module _ (n : ℕ) (e : n ≡ length (strip (length d) (neighbours d) (chain / 2) (upTo (length d)))) (h : chain < length d) where
+    pub chains-long : chain % 2 < n → unlong chain d ≡ refused (refusal 23 0 0)
+    unfolding unlong chainsWithin
+    chains-long k = rw (lt-leb (length d) chain h, ← e, lt-leb n (chain % 2) k)
+
+    pub chains-short : n ≤ chain % 2 → unlong chain d ≡ good d
+    unfolding unlong chainsWithin
+    chains-short k = rw (lt-leb (length d) chain h, ← e, le-leb n (chain % 2) k)
 
   -- causes 7 to 12 and 23
   pub checked-by : (x : Result Domain) → wiredDomain d ≡ x → checkedDomain chain d ≡ then x (λ _. linkedDomain chain d)

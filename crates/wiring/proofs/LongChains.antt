@@ -14,7 +14,7 @@ use Rattle.wiring.specs.Domain.{Domain}
 use Rattle.wiring.specs.Neighbours.{neighbours}
 use Rattle.wiring.specs.Chains.{chainsWithin, LongChain, ShortChains}
 use Rattle.wiring.specs.Devices.{LoopIn, ChainIn}
-use Rattle.wiring.proofs.Members.{all-cons, keeps, kept, keep-distinct, fits, at-most, in-upTo, numbers-below, numbers-distinct, not-not}
+use Rattle.wiring.proofs.Members.{or-cases, or-right, all-cons, keeps, kept, keep-distinct, fits, at-most, in-upTo, numbers-below, numbers-distinct, not-not}
 use Rattle.wiring.proofs.Walks.{Skip, NoBack, Apart, turn, noback, repeats-nothing, rest-of}
 use Rattle.wiring.proofs.Loops.{Fork, stays-fork, fork-stays, next}
 use Rattle.wiring.proofs.Reach.{Joined, single, prepend}
@@ -209,12 +209,16 @@ module _ (d : Domain) (chained : (i : ℕ) → i < length d → (l : List ℕ) �
       go (x ∷ p) [] a b = absurd b
       go (x ∷ p) (y ∷ q) a b = turned (length d) (neighbours d) (adj-symmetric d) x i j p (a .1) (q, subst (λ v. Tail (length d) (neighbours d) v j q) (b .0 ∙ sym (a .0)) (b .1))
 
+-- a chain has no more expanders than its domain, so with as many allowed as there are cause 23 never holds
+pub never-long : (most : ℕ) (d : Domain) → length d ≤ most → ShortChains most d
+never-long most d h i j [] c = absurd c
+never-long most d h i j (x ∷ l) c = omega (arith, at-most (length d) (x ∷ l) (c .1 .below) (c .1 .diff))
+
 module _ (most : ℕ) (d : Domain) where
-  -- what is left of every chain is little
-  within-short : T (chainsWithin most d) → ShortChains most d
-  unfolding chainsWithin
-  within-short t i j [] c = absurd c
-  within-short t i j (x ∷ l) c =
+  -- where what is left is little, so is every chain
+  left-short : T (leb (length (strip (length d) (neighbours d) (most / 2) (upTo (length d)))) (most % 2)) → ShortChains most d
+  left-short t i j [] c = absurd c
+  left-short t i j (x ∷ l) c =
       let n = length d in
       let left = strip n (neighbours d) (most / 2) (upTo n) in
       omega (
@@ -223,11 +227,17 @@ module _ (most : ℕ) (d : Domain) where
         shrinks n (neighbours d) (adj-symmetric d) (most / 2) (upTo n) (x ∷ l) (c .1 .steps) (c .1 .diff) (λ w h. in-upTo n w (c .1 .below w h)),
       )
 
+  within-short : T (chainsWithin most d) → ShortChains most d
+  unfolding chainsWithin
+  within-short t =
+      ⊎-elim (λ u. never-long most d (leb→le (length d) most u)) left-short
+      (or-cases (leb (length d) most) (leb (length (strip (length d) (neighbours d) (most / 2) (upTo (length d)))) (most % 2)) t)
+
   module _ (noLoop : ¬ (LoopIn d)) (chained : (i : ℕ) → i < length d → (l : List ℕ) × ChainIn d 0 i l) where
     -- where more is left, a chain grows from it
     long : ¬ (T (chainsWithin most d)) → LongChain most d
     unfolding chainsWithin
-    long f = go left (λ v h. h) (strip-distinct n adj (most / 2) (upTo n) (numbers-distinct 0 n)) (λ h. f (le→leb (length left) (most % 2) h))
+    long f = go left (λ v h. h) (strip-distinct n adj (most / 2) (upTo n) (numbers-distinct 0 n)) (λ h. f (or-right (leb (length d) most) (leb (length left) (most % 2)) (le→leb (length left) (most % 2) h)))
       where
         n : ℕ
         n = length d
@@ -268,8 +278,3 @@ module _ (most : ℕ) (d : Domain) where
 
     pub within-iff : T (chainsWithin most d) ↔ ShortChains most d
     within-iff = (within-short, λ s. not-not (chainsWithin most d) (λ u. let c = long (T-not (chainsWithin most d) u) in omega (arith, c .more, s (c .from) (c .to) (c .list) (c .chain))))
-
--- a chain has no more expanders than its domain, so with as many allowed as there are cause 23 never holds
-pub never-long : (most : ℕ) (d : Domain) → length d ≤ most → ShortChains most d
-never-long most d h i j [] c = absurd c
-never-long most d h i j (x ∷ l) c = omega (arith, at-most (length d) (x ∷ l) (c .1 .below) (c .1 .diff))
