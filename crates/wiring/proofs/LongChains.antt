@@ -7,12 +7,16 @@ use mathlib.Core.Bool.{Bool}
 use Prim.Native.Nat.{ℕ, zero, suc, _+_, _*_, _/_, _%_, _≤_, _<_}
 use native.Mathlib.Omega.{arith}
 use lib.ListN.{length}
+use borrow.Author.Tests.{le-leb}
 use lib.Dec.{T, leb, leb→le, le→leb, T-not}
 use Rattle.wiring.specs.Lists.{upTo, keep, In, Distinct, Below, last}
 use Rattle.wiring.specs.Graph.{Steps, Symmetric, Loop, self, Tail, Chain, stays, strip}
+use Rattle.frames.specs.Refusals.{good}
+use Rattle.wiring.specs.declared.Setting.{Setting}
 use Rattle.wiring.specs.Domain.{Domain}
 use Rattle.wiring.specs.Neighbours.{neighbours}
-use Rattle.wiring.specs.Chains.{chainsWithin, LongChain, ShortChains}
+use Rattle.wiring.specs.Read.{Read}
+use Rattle.wiring.specs.Chains.{chainsWithin, unlong, LongChain, ShortChains}
 use Rattle.wiring.specs.Devices.{LoopIn, ChainIn}
 use Rattle.wiring.proofs.Members.{or-cases, or-right, all-cons, keeps, kept, keep-distinct, fits, at-most, in-upTo, numbers-below, numbers-distinct, not-not}
 use Rattle.wiring.proofs.Walks.{Skip, NoBack, Apart, turn, noback, repeats-nothing, rest-of}
@@ -209,10 +213,15 @@ module _ (d : Domain) (chained : (i : ℕ) → i < length d → (l : List ℕ) �
       go (x ∷ p) [] a b = absurd b
       go (x ∷ p) (y ∷ q) a b = turned (length d) (neighbours d) (adj-symmetric d) x i j p (a .1) (q, subst (λ v. Tail (length d) (neighbours d) v j q) (b .0 ∙ sym (a .0)) (b .1))
 
--- a chain has no more expanders than its domain, so with as many allowed as there are cause 23 never holds
+-- a chain has no more expanders than its domain
 pub never-long : (most : ℕ) (d : Domain) → length d ≤ most → ShortChains most d
 never-long most d h i j [] c = absurd c
 never-long most d h i j (x ∷ l) c = omega (arith, at-most (length d) (x ∷ l) (c .1 .below) (c .1 .diff))
+
+-- so with longest chain 64, as in the widest setting, cause 23 never holds
+pub never-refused : (setting : Setting) (d : Domain) → Read setting d → setting .chain ≡ 64 → unlong (setting .chain) d ≡ good d
+unfolding unlong chainsWithin
+never-refused setting d g e = rw (le-leb (length d) (setting .chain) (omega (arith, g .few, g .range .expanders .1)))
 
 module _ (most : ℕ) (d : Domain) where
   -- where what is left is little, so is every chain
