@@ -5,7 +5,6 @@ use mathlib.Core.Bool.{Bool, false, cond}
 use native.Mathlib.Omega.{arith}
 use lib.Dec.{leb}
 use borrow.Author.Tests.{le-leb, lt-leb}
-use Rattle.wiring.specs.declared.Setting.{Setting}
 use Rattle.wiring.specs.Settings.{inRange}
 use Rattle.exports.specs.Packing.{settingOf}
 

@@ -1,10 +1,9 @@
 -- Own lists one after the other are the level lists, on every domain that is read and passes causes 7 to 12: cause 14
 -- and the tables by own lists are cause 14 and the tables.
-use Prim.Native.Nat.{ℕ, _≤_}
+use Prim.Native.Nat.{ℕ}
 use mathlib.Core.Path.{_≡_, refl, sym, _∙_, ap, subst}
 use mathlib.Core.Bool.{Bool, cond, _&&_}
 use mathlib.Core.List.{List, [], _∷_, _++_, flatMap}
-use native.Mathlib.Omega.{arith}
 use lib.ListN.{length, drop}
 use lib.Dec.{ltb}
 use Rattle.wiring.specs.Frames.{Result, refused, good, then, refusal}

@@ -1,7 +1,7 @@
 -- A file accepted under one setting is accepted under any setting in range and no smaller in all three, with the same wiring, tables and
 -- traces; and the pair rig under five settings.
 use mathlib.Core.Path.{_≡_, refl, sym, ap, _∙_}
-use mathlib.Core.List.{List, [], _∷_, flatMap}
+use mathlib.Core.List.{List, [], flatMap}
 use Prim.Native.Nat.{ℕ}
 use Rattle.tables.specs.Wiring.{refused, good, then, refusal, Setting, InRange, NoSmaller, Domain}
 use Rattle.tables.specs.Levels.{once, belowPhys, below, nextLevel, levelsFrom, levels}
