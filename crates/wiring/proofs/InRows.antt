@@ -12,7 +12,7 @@ use borrow.Author.Tests.{eq-eqb, ne-eqb}
 use mathlib.Core.Bool.{Bool, true, false, cond}
 use Rattle.wiring.specs.declared.Phy.the-variants.{Vacant}
 use Rattle.wiring.specs.Domain.{Domain, Expander, noExpander, expanderAt, phyAt, numberOf}
-use Rattle.wiring.specs.Rows.{phyIn, physIn, rowIn, rowsIn, domainIn}
+use Rattle.wiring.specs.Rows.{phyIn, phyHeld, physIn, rowIn, rowsIn, domainIn}
 use Rattle.wiring.specs.Checks.{HeadIn}
 use Rattle.wiring.proofs.Wires.{expander-range}
 
@@ -99,6 +99,10 @@ module _ (ws : List ℕ) (i : ℕ) where
 pub phy-at-in : (ws : List ℕ) (i p : ℕ) → p < length (expanderAt (domainIn ws) i .phys)
     → phyAt (domainIn ws) i p ≡ phyIn (getD ws (258 * i + 2 + 2 * p) 0) (getD ws (258 * i + 2 + 2 * p + 1) 0)
 phy-at-in ws i p h = phy-of-row ws i p (expander-range (domainIn ws) i p h) h
+
+pub phy-held : (ws : List ℕ) (i p : ℕ) → p < length (expanderAt (domainIn ws) i .phys) → phyHeld ws i p ≡ phyAt (domainIn ws) i p
+unfolding phyHeld
+phy-held ws i p h = sym (phy-at-in ws i p h)
 
 -- the search for an address
 cons-at : (d : Domain) (i : ℕ) → i < length d → drop i d ≡ expanderAt d i ∷ drop (i + 1) d

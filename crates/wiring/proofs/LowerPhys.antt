@@ -7,19 +7,20 @@ use mathlib.Core.Bool.{Bool, true, false, not, _&&_}
 use mathlib.Core.List.{List}
 use native.Mathlib.Decide.{ℕ-discrete, decLt}
 use native.Mathlib.Omega.{arith}
-use lib.ListN.{length, take}
+use lib.ListN.{take}
 use lib.Dec.{T, eqb, eqb→eq, not-T, T-not}
 use borrow.Author.Tests.{eq-eqb, ne-eqb}
 use Rattle.wiring.specs.declared.Phy.{Phy}
 use Rattle.wiring.specs.declared.Phy.the-variants.{Vacant}
 use Rattle.wiring.specs.Lists.{any}
 use Rattle.wiring.specs.Domain.{Domain, expanderAt, phyAt, typeOf, addressOf, attributeOf, attached, routes}
-use Rattle.wiring.specs.Rows.{domainIn}
+use Rattle.wiring.specs.Rows.{phyHeld, domainIn}
 use Rattle.wiring.specs.Causes.{clash, clashing}
 use Rattle.wiring.specs.Checks.{causeOf, Testable}
 use Rattle.wiring.specs.Clashes.{subtractive, leadsElsewhere}
 use Rattle.wiring.specs.Addresses.{LowestPhy, IndexedLow, lowestPhy}
 use Rattle.wiring.proofs.Members.{tests, and-right, and-both, eq→eqb, any-of, of-any, in-take, take-in, is-true, is-false, was-false, same-test, not-not}
+use Rattle.wiring.proofs.InRows.{phy-held}
 use Rattle.wiring.proofs.Wires.{type-attached, type-none}
 use Rattle.wiring.proofs.EndDevices.{short-in}
 use Rattle.wiring.proofs.Entries.{low-told}
@@ -114,16 +115,18 @@ module _ (d : Domain) (i p : ℕ) (can : Testable 9 d i p) where
         (o .2)))
 
 -- what the code sees: f is phy p, and t its type; g is phy q, the lowest with its address
-module _ (ws : List ℕ) (i p : ℕ) (can : Testable 9 (domainIn ws) i p) (f : Phy)
-    (ef : p < length (expanderAt (domainIn ws) i .phys) → f ≡ phyAt (domainIn ws) i p) (t : ℕ) (et : t ≡ typeOf f) where
+module _ (ws : List ℕ) (i p : ℕ) (can : Testable 9 (domainIn ws) i p) (f : Phy) (ef : f ≡ phyHeld ws i p) (t : ℕ) (et : t ≡ typeOf f) where
+  phy-is : f ≡ phyAt (domainIn ws) i p
+  phy-is = ef ∙ phy-held ws i p (can .within)
+
   type-is : t ≡ typeOf (phyAt (domainIn ws) i p)
-  type-is = et ∙ ap typeOf (ef (can .within))
+  type-is = et ∙ ap typeOf phy-is
 
   pub none-clash : t ≡ 0 → false ≡ clashing (domainIn ws) i p
   none-clash z = clash-not (domainIn ws) i p can (type-none (phyAt (domainIn ws) i p) (sym type-is ∙ z))
 
   module _ (n : t ≢ 0) (low : List ℕ) (index : IndexedLow (domainIn ws) low) (q : ℕ) (eq : q ≡ lowestPhy low i p) (g : Phy)
-      (eg : q < length (expanderAt (domainIn ws) i .phys) → g ≡ phyAt (domainIn ws) i q) (a b : ℕ) (ea : a ≡ attributeOf f) (eb : b ≡ attributeOf g) where
+      (eg : g ≡ phyHeld ws i q) (a b : ℕ) (ea : a ≡ attributeOf f) (eb : b ≡ attributeOf g) where
     here : T (attached (phyAt (domainIn ws) i p))
     here = type-attached (phyAt (domainIn ws) i p) (λ z. n (type-is ∙ z))
 
@@ -131,10 +134,10 @@ module _ (ws : List ℕ) (i p : ℕ) (can : Testable 9 (domainIn ws) i p) (f : P
     least = rw eq (low-told (domainIn ws) i p (omega (arith, can .within, short-in ws i)) low index here)
 
     attribute-is : a ≡ attributeOf (phyAt (domainIn ws) i p)
-    attribute-is = ea ∙ ap attributeOf (ef (can .within))
+    attribute-is = ea ∙ ap attributeOf phy-is
 
     lowest-is : b ≡ attributeOf (phyAt (domainIn ws) i q)
-    lowest-is = eb ∙ ap attributeOf (eg (omega (arith, can .within, least .low)))
+    lowest-is = eb ∙ ap attributeOf (eg ∙ phy-held ws i q (omega (arith, can .within, least .low)))
 
     pub other-clash : b ≢ a → true ≡ clashing (domainIn ws) i p
     other-clash m = clash-low (domainIn ws) i p can here q least (λ z. m (lowest-is ∙ z ∙ sym attribute-is))
@@ -149,5 +152,5 @@ module _ (ws : List ℕ) (i p : ℕ) (can : Testable 9 (domainIn ws) i p) (f : P
 
       pub way-clash : a ≡ 1 → (r : Bool) (s : ℕ) → r ≡ any (leadsElsewhere s) (take p (expanderAt (domainIn ws) i .phys)) → s ≡ addressOf f → r ≡ clashing (domainIn ws) i p
       way-clash m r s er es =
-          er ∙ ap (λ (x : ℕ). any (leadsElsewhere x) (take p (expanderAt (domainIn ws) i .phys))) (es ∙ ap addressOf (ef (can .within)))
+          er ∙ ap (λ (x : ℕ). any (leadsElsewhere x) (take p (expanderAt (domainIn ws) i .phys))) (es ∙ ap addressOf phy-is)
           ∙ (rw (eq-eqb (attributeOf (phyAt (domainIn ws) i p)) 1 (sym attribute-is ∙ m)) at by-way)

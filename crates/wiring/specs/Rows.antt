@@ -43,6 +43,10 @@ phyIn address w =
     cond (eqb (w % 2) 0) (Vacant (w / 2 % 256))
     (Present (record { device = w / 2 % 4; attribute = w / 8 % 4; address = address; far = record { 0 = w / 32 % 256 } }))
 
+-- the phy that the two words of phy p of expander i hold, whether the expander has so many phys or not; words past the end are 0
+unfoldable pub phyHeld : List ℕ → ℕ → ℕ → Phy
+phyHeld ws i p = phyIn (getD ws (258 * i + 2 + 2 * p) 0) (getD ws (258 * i + 2 + 2 * p + 1) 0)
+
 unfoldable pub physIn : ℕ → List ℕ → List Phy
 physIn zero ws = []
 physIn (suc count) ws = phyIn (getD ws 0 0) (getD ws 1 0) ∷ physIn count (drop 2 ws)

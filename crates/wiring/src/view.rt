@@ -7,7 +7,7 @@ ghost use mathlib.Core.Path.{_≡_};
 ghost use Prim.Native.Nat.{_≤_, _<_};
 ghost use lib.ListN.{length, getD};
 ghost use Rattle.wiring.specs.Domain.{expanderAt, phyAt, typeOf, attributeOf, addressOf, farOf};
-ghost use Rattle.wiring.specs.Rows.{phyIn, domainIn};
+ghost use Rattle.wiring.specs.Rows.{phyIn, phyHeld, domainIn};
 ghost use Rattle.wiring.specs.Checks.{HeadIn};
 
 // The attached device type; 0 where the phy is vacant.
@@ -131,21 +131,21 @@ fn phy_from(address: u64, w: u64) -> Phy
     })
 }
 
+// The phy that the two words of phy p of expander i hold: phy p of expander i, where there is such a phy. The
+// number of phys is not looked at.
+pub fn phy_below(rows: &[u64], i: ExpanderNumber, p: PhyId) -> Phy
+    ensures { λ r. ⌜ r ≡ phyHeld (now (rows .entry)) (i .0) (p .0) ⌝ }
+{
+    let k = 258 * (i.0 as usize) + 2 + 2 * (p.0 as usize);
+    phy_from(word_at(rows, k), word_at(rows, k + 1))
+}
+
 // Phy p of expander i; a vacant phy with result 0 where there is no such phy.
 pub fn phy_at(rows: &[u64], i: ExpanderNumber, p: PhyId) -> Phy
     ensures { λ r. ⌜ r ≡ phyAt (domainIn (now (rows .entry))) (i .0) (p .0) ⌝ }
 {
     if p.0 < phy_count(rows, i) {
-        let k = 258 * (i.0 as usize) + 2 + 2 * (p.0 as usize);
-        return phy_from(word_at(rows, k), word_at(rows, k + 1));
+        return phy_below(rows, i, p);
     }
     Phy::Vacant(0)
-}
-
-// Phy p of expander i, where the expander has so many phys: their number is not looked at.
-pub fn phy_below(rows: &[u64], i: ExpanderNumber, p: PhyId) -> Phy
-    ensures { λ r. ⌜ (p .0 < length (expanderAt (domainIn (now (rows .entry))) (i .0) .phys) → r ≡ phyAt (domainIn (now (rows .entry))) (i .0) (p .0)) ⌝ }
-{
-    let k = 258 * (i.0 as usize) + 2 + 2 * (p.0 as usize);
-    phy_from(word_at(rows, k), word_at(rows, k + 1))
 }

@@ -5,6 +5,7 @@ use mathlib.Core.Path.{_≡_, refl, sym, _∙_, ap}
 use native.Mathlib.Omega.{arith}
 use lib.ListN.{length, List·getD-eq-default}
 use lib.Seq.{length-take-le}
+use Rattle.wiring.proofs.InRows.{phy-held}
 use Rattle.wiring.specs.declared.Phy.the-variants.{Vacant}
 use Rattle.wiring.specs.Domain.{Domain, expanderAt, phyAt}
 use Rattle.wiring.specs.Causes.{Place, place, phyPlaces}
@@ -50,7 +51,7 @@ phy-below-requires : tie.Need-phy-below-requires Inv-loop μ-loop
 phy-below-requires c κs = search needs
 
 order-for-requires : tie.Need-order-for-requires Inv-loop μ-loop
-order-for-requires c κs = ((record { index = (c .before .before .before .before .before .before .before .before .before .before .before .pre) .0; phy = (c .before .phy-below) .ensures (omega arith) }, (c .before .before .before .loop) .inv .1 .1 .0 .0), ((c .before .before .before .before .before .before .before .before .before .before .before .pre) .1 .1 .0, (omega (arith, (c .before .before .before .before .before .before .before .before .before .before .before .pre) .1 .1 .1 .0), (c .before .before .before .loop) .inv .1 .1 .0 .1)))
+order-for-requires c κs = ((record { index = (c .before .before .before .before .before .before .before .before .before .before .before .pre) .0; phy = (c .before .phy-below) .ensures ∙ phy-held _ _ _ (omega arith) }, (c .before .before .before .loop) .inv .1 .1 .0 .0), ((c .before .before .before .before .before .before .before .before .before .before .before .pre) .1 .1 .0, (omega (arith, (c .before .before .before .before .before .before .before .before .before .before .before .pre) .1 .1 .1 .0), (c .before .before .before .loop) .inv .1 .1 .0 .1)))
 
 slice-reshare-prefix-put-table : tie.Need-slice-reshare-prefix-put-table Inv-loop μ-loop
 slice-reshare-prefix-put-table c = omega (arith, (c .before .before .order-for) .ensures .same, (c .before .before .order-for) .ensures .fits)
@@ -60,7 +61,7 @@ slice-aggregate-put-table c = sym (length-take-le ((c .before .before .before .o
 
 put-table-requires : tie.Need-put-table-requires Inv-loop μ-loop
 put-table-requires c κs =
-    let q = (c .before .before .before .before .order-for) .ensures .whole ∙ ap (orderOf (domainIn ((c .before .before .before .before .before .before .before .before .before .before .before .before .before .before .before .before .args) .rows .now))) ((c .before .before .before .before .before .before .phy-below) .ensures (omega arith)) in
+    let q = (c .before .before .before .before .order-for) .ensures .whole ∙ ap (orderOf (domainIn ((c .before .before .before .before .before .before .before .before .before .before .before .before .before .before .before .before .args) .rows .now))) ((c .before .before .before .before .before .before .phy-below) .ensures ∙ phy-held _ _ _ (omega arith)) in
     ((c .before .before .before .before .before .before .before .before .before .before .before .before .before .before .before .before .pre) .1 .0, (q, ((c .before .before .before .before .before .before .before .before .before .before .before .before .before .before .before .before .pre) .1 .1 .1 .1 .0, omega (arith, phys-sizes (domainIn ((c .before .before .before .before .before .before .before .before .before .before .before .before .before .before .before .before .args) .rows .now)) ((c .before .before .before .before .before .before .before .before .before .before .before .before .before .before .before .before .args) .i .0) ((c .before .before .before .before .before .before .before .before .before .phy-count) .result) ((c .before .before .before .before .before .before .before .before .loop) .p) (omega arith)))))
 
 add-p : tie.Need-add-p Inv-loop μ-loop
@@ -84,7 +85,7 @@ loop-again c =
     let v = l .inv .1 .1 .1 in
     let s = put-long d (l .to) rest piece _ (u .next) e ∙ v .1 .0 in
     let g = put-go d (l .words) (l .to) rest (v .1 .1) piece _ u e (omega (arith, (c .before .before .before .before .before .before .before .before .before .before .before .before .before .before .before .before .before .before .before .pre) .1 .1 .1 .1 .1, v .0, v .1 .0)) in
-    (omega arith, (o .same ∙ l .inv .1 .0, ((f .ensures (omega arith), grown-again o), (u .same ∙ v .0, (s, g)))))
+    (omega arith, (o .same ∙ l .inv .1 .0, ((f .ensures ∙ phy-held _ _ _ (omega arith), grown-again o), (u .same ∙ v .0, (s, g)))))
 
 same-length : tie.Need-same-length Inv-loop μ-loop
 same-length c = search needs

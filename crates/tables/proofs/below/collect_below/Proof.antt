@@ -4,7 +4,7 @@ use mathlib.Core.Logic.{⊎-elim}
 use mathlib.Core.Path.{_≡_, refl, sym, _∙_}
 use Rattle.wiring.specs.Domain.{Domain}
 use Rattle.wiring.specs.Rows.{domainIn}
-use Rattle.wiring.proofs.InRows.{domain-few}
+use Rattle.wiring.proofs.InRows.{phy-held, domain-few}
 use Rattle.tables.proofs.Collecting.{Collected, collect-start, collect-go, collect-skip, collect-end}
 use borrow.Author.Needs.{needs}
 use native.Mathlib.Omega.{arith}
@@ -29,10 +29,10 @@ phy-below-requires c κs = search needs
 lower-phy-requires : tie.Need-lower-phy-requires Inv-loop μ-loop
 lower-phy-requires c κs =
     let n = (c .before .before .before .phy-count) .ensures .0 in
-    (record { index = (c .before .before .before .before .before .before .before .before .pre) .0; phy = (c .phy-below) .ensures (omega arith) }, omega arith)
+    (record { index = (c .before .before .before .before .before .before .before .before .pre) .0; phy = (c .phy-below) .ensures ∙ phy-held _ _ _ (omega arith) }, omega arith)
 
 add-phy-requires : tie.Need-add-phy-requires Inv-loop μ-loop
-add-phy-requires c κs = ((c .before .before .before .before .before .before .before .before .before .before .before .before .pre) .0, ((c .before .before .before .before .phy-below) .ensures (omega (arith, (c .before .before .before .before .before .before .before .phy-count) .ensures .0)), omega (arith, (c .before .before .before .before .before .before .loop) .inv .1 .fits, (c .before .before .before .before .before .before .loop) .inv .1 .room)))
+add-phy-requires c κs = ((c .before .before .before .before .before .before .before .before .before .before .before .before .pre) .0, ((c .before .before .before .before .phy-below) .ensures ∙ phy-held _ _ _ (omega (arith, (c .before .before .before .before .before .before .before .phy-count) .ensures .0)), omega (arith, (c .before .before .before .before .before .before .loop) .inv .1 .fits, (c .before .before .before .before .before .before .loop) .inv .1 .room)))
 
 add-p : tie.Need-add-p Inv-loop μ-loop
 add-p c = omega arith
@@ -48,7 +48,7 @@ loop-again c =
     let n = (c .before .before .before .before .before .before .phy-count) .ensures in
     let d : Domain = domainIn (a .rows .now) in
     let r = (c .before .before .lower-phy) in
-    let got : Collected d (a .i .0) (l .p + 1) (c .if1 .m) (c .if1 .part) = ⊎-elim (λ w. rw (w .5, w .6) (collect-go d (a .i .0) (l .p) (l .inv .1) (f .result) (f .ensures (omega arith)) (w .2 .ensures) (omega arith))) (λ w. rw (w .1, w .2) (let low : r .result .0 < l .p = omega (arith, w .0) in collect-skip d (a .i .0) (l .p) (l .inv .1) (r .result .0) low (r .ensures low) (omega arith))) (c .if1 .came) in
+    let got : Collected d (a .i .0) (l .p + 1) (c .if1 .m) (c .if1 .part) = ⊎-elim (λ w. rw (w .5, w .6) (collect-go d (a .i .0) (l .p) (l .inv .1) (f .result) (f .ensures ∙ phy-held _ _ _ (omega arith)) (w .2 .ensures) (omega arith))) (λ w. rw (w .1, w .2) (let low : r .result .0 < l .p = omega (arith, w .0) in collect-skip d (a .i .0) (l .p) (l .inv .1) (r .result .0) low (r .ensures low) (omega arith))) (c .if1 .came) in
     (omega arith, got)
 
 same-length : tie.Need-same-length Inv-loop μ-loop

@@ -4,6 +4,7 @@ use mathlib.Core.Bool.{false}
 use mathlib.Core.Path.{_≡_, refl, sym, _∙_, ap}
 use native.Mathlib.Nat.{sub-zero}
 use lib.ListN.{length}
+use Rattle.wiring.proofs.InRows.{phy-held}
 use Rattle.wiring.specs.Domain.{Domain}
 use Rattle.wiring.specs.Causes.{phyPlaces, firstIn}
 use Rattle.wiring.specs.Rows.{domainIn}
@@ -38,10 +39,10 @@ phy-below-requires c κs = search needs
 lower-phy-requires : tie.Need-lower-phy-requires Inv-loop μ-loop
 lower-phy-requires c κs =
     let n = (c .before .before .before .phy-count) .ensures .0 in
-    (record { index = (c .before .before .before .before .before .before .before .before .before .before .pre) .0; phy = (c .phy-below) .ensures (omega arith) }, omega arith)
+    (record { index = (c .before .before .before .before .before .before .before .before .before .before .pre) .0; phy = (c .phy-below) .ensures ∙ phy-held _ _ _ (omega arith) }, omega arith)
 
 is-overlong-requires : tie.Need-is-overlong-requires Inv-loop μ-loop
-is-overlong-requires c κs = ((c .before .before .before .before .before .before .before .before .before .before .before .before .pre) .0, ((c .before .before .before .before .before .before .before .before .before .before .before .before .pre) .1 .0, ((c .before .before .before .before .before .before .before .before .before .before .before .before .pre) .1 .1 .0, ((omega (arith, (c .before .before .before .before .loop) .inv .1 .0, (c .before .before .before .before .before .before .before .before .before .before .before .before .pre) .1 .1 .1 .0), omega (arith, (c .before .before .before .before .loop) .inv .1 .0, (c .before .before .before .before .before .before .before .before .before .before .before .before .pre) .1 .1 .1 .1)), ((c .before .before .phy-below) .ensures (omega (arith, (c .before .before .before .before .before .phy-count) .ensures .0)), ((c .before .lower-phy) .ensures, (c .before .before .before .before .loop) .inv .1 .1 .0))))))
+is-overlong-requires c κs = ((c .before .before .before .before .before .before .before .before .before .before .before .before .pre) .0, ((c .before .before .before .before .before .before .before .before .before .before .before .before .pre) .1 .0, ((c .before .before .before .before .before .before .before .before .before .before .before .before .pre) .1 .1 .0, ((omega (arith, (c .before .before .before .before .loop) .inv .1 .0, (c .before .before .before .before .before .before .before .before .before .before .before .before .pre) .1 .1 .1 .0), omega (arith, (c .before .before .before .before .loop) .inv .1 .0, (c .before .before .before .before .before .before .before .before .before .before .before .before .pre) .1 .1 .1 .1)), ((c .before .before .phy-below) .ensures ∙ phy-held _ _ _ (omega (arith, (c .before .before .before .before .before .phy-count) .ensures .0)), ((c .before .lower-phy) .ensures, (c .before .before .before .before .loop) .inv .1 .1 .0))))))
 
 same-length : tie.Need-same-length Inv-loop μ-loop
 same-length c = (c .before .before .before .is-overlong) .kept .1 .1 .1 .1 .1 .1 .1 .1 .0 ∙ (c .before .before .before .before .before .before .before .before .loop) .inv .1 .0

@@ -3,6 +3,7 @@ use Prim.Native.Nat.{_-_, _≤_}
 use mathlib.Core.List.{List, _++_}
 use mathlib.Core.Path.{_≡_, refl, _∙_}
 use lib.ListN.{length, take, drop}
+use Rattle.wiring.proofs.InRows.{phy-held}
 use Rattle.wiring.specs.declared.Phy.{Phy}
 use Rattle.wiring.specs.Domain.{expanderAt}
 use Rattle.wiring.specs.Rows.{domainIn}
@@ -50,8 +51,8 @@ loop-again c =
     let n = (c .before .before .before .before .before .before .before .before .phy-count) .ensures in
     let g = (c .before .before .put-word) .ensures in
     let most = put-most (l .m) ((c .before .before .before .before .is-own) .result) (word (f .result)) g in
-    let o = (c .before .before .before .before .is-own) .ensures ∙ owns-low (domainIn (a .rows .now)) (a .i .0) (l .p) (a .low .now) (f .result) (f .ensures (omega arith)) (omega arith) ((c .before .before .before .before .before .before .before .before .before .before .before .before .pre) .0) in
-    (omega arith, (g .same ∙ l .inv .1 .0, (omega arith, own-go φs (l .p) (take (l .m) (l .part)) (l .inv .1 .1 .1) (f .result) (f .ensures (omega arith)) o (g .whole) (omega arith))))
+    let o = (c .before .before .before .before .is-own) .ensures ∙ owns-low (domainIn (a .rows .now)) (a .i .0) (l .p) (a .low .now) (f .result) (f .ensures ∙ phy-held _ _ _ (omega arith)) (omega arith) ((c .before .before .before .before .before .before .before .before .before .before .before .before .pre) .0) in
+    (omega arith, (g .same ∙ l .inv .1 .0, (omega arith, own-go φs (l .p) (take (l .m) (l .part)) (l .inv .1 .1 .1) (f .result) (f .ensures ∙ phy-held _ _ _ (omega arith)) o (g .whole) (omega arith))))
 
 same-length : tie.Need-same-length Inv-loop μ-loop
 same-length c = search needs

@@ -3,6 +3,7 @@ use Prim.Native.Nat.{_+_, _-_, _≤_}
 use mathlib.Core.List.{List, []}
 use mathlib.Core.Path.{_≡_, refl, _∙_, ap}
 use lib.ListN.{length, drop}
+use Rattle.wiring.proofs.InRows.{phy-held}
 use Rattle.wiring.specs.declared.Phy.{Phy}
 use Rattle.wiring.specs.Domain.{expanderAt}
 use Rattle.wiring.specs.Rows.{domainIn}
@@ -49,8 +50,8 @@ loop-again c =
     let n = (c .before .before .before .before .before .phy-count) .ensures in
     let e = (c .counted) .ensures in
     let most = one-most ((c .before .is-own) .result) in
-    let o = (c .before .is-own) .ensures ∙ owns-low (domainIn (a .rows .now)) (a .i .0) (l .p) (a .low .now) (f .result) (f .ensures (omega arith)) (omega arith) ((c .before .before .before .before .before .before .before .before .pre)) in
-    (omega arith, (omega arith, count-go φs (l .p) [] refl (f .result) (l .m) (f .ensures (omega arith)) o e (omega arith) (l .inv .1 .1)))
+    let o = (c .before .is-own) .ensures ∙ owns-low (domainIn (a .rows .now)) (a .i .0) (l .p) (a .low .now) (f .result) (f .ensures ∙ phy-held _ _ _ (omega arith)) (omega arith) ((c .before .before .before .before .before .before .before .before .pre)) in
+    (omega arith, (omega arith, count-go φs (l .p) [] refl (f .result) (l .m) (f .ensures ∙ phy-held _ _ _ (omega arith)) o e (omega arith) (l .inv .1 .1)))
 
 returns : tie.Need-returns Inv-loop μ-loop
 returns c = count-end (expanderAt (domainIn ((c .before .before .before .before .before .args) .rows .now)) ((c .before .before .before .before .before .args) .i .0) .phys) ((c .before .loop) .p) [] refl ((c .before .loop) .m) (omega (arith, (c .before .before .phy-count) .ensures .0)) ((c .before .loop) .inv .1 .1)

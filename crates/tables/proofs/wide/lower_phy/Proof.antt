@@ -1,5 +1,7 @@
 -- lower_phy meets its contract: the lowest phy with the address is told where it is lower and on the same link.
+use mathlib.Core.Path.{_∙_}
 use Rattle.wiring.specs.Rows.{domainIn}
+use Rattle.wiring.proofs.InRows.{phy-held}
 use Rattle.wiring.specs.Domain.{phyAt}
 use Rattle.tables.proofs.Linked.{linked-at}
 use borrow.Author.Needs.{needs}
@@ -17,11 +19,11 @@ phy-below-requires : tie.Need-phy-below-requires
 phy-below-requires c κs = search needs
 
 are-one-link-requires : tie.Need-are-one-link-requires
-are-one-link-requires c κs = ((c .before .before .before .before .before .before .before .before .pre) .0, record { index = (c .before .before .before .before .before .before .before .before .pre) .0 .index; phy = (c .phy-below) .ensures (omega (arith, (c .before .before .before .before .before .before .before .before .pre) .1)) })
+are-one-link-requires c κs = ((c .before .before .before .before .before .before .before .before .pre) .0, record { index = (c .before .before .before .before .before .before .before .before .pre) .0 .index; phy = (c .phy-below) .ensures ∙ phy-held _ _ _ (omega (arith, (c .before .before .before .before .before .before .before .before .pre) .1)) })
 
 returns-2 : tie.Need-returns-2
 returns-2 c =
-    λ h. linked-at (domainIn ((c .before .before .before .before .before .before .before .before .before .before .args) .rows .now)) ((c .before .before .before .before .before .before .before .before .before .before .pre) .0 .phy) ((c .before .before .phy-below) .ensures (omega (arith, (c .before .before .before .before .before .before .before .before .before .before .pre) .1))) ((c .before .are-one-link) .ensures) ((c .if2) .taken)
+    λ h. linked-at (domainIn ((c .before .before .before .before .before .before .before .before .before .before .args) .rows .now)) ((c .before .before .before .before .before .before .before .before .before .before .pre) .0 .phy) ((c .before .before .phy-below) .ensures ∙ phy-held _ _ _ (omega (arith, (c .before .before .before .before .before .before .before .before .before .before .pre) .1))) ((c .before .are-one-link) .ensures) ((c .if2) .taken)
 
 returns-3 : tie.Need-returns-3
 returns-3 c = λ h. absurd (omega (arith, h))

@@ -2,6 +2,7 @@
 use Prim.Native.Nat.{_+_, _-_, _≤_}
 use mathlib.Core.Path.{_≡_, refl, _∙_}
 use lib.ListN.{length}
+use Rattle.wiring.proofs.InRows.{phy-held}
 use Rattle.wiring.specs.Rows.{domainIn}
 use Rattle.wiring.specs.Addresses.{slotOf, FirstsTo}
 use Rattle.wiring.proofs.Indexing.{firsts-start, phys-end}
@@ -26,7 +27,7 @@ phy-below-requires : tie.Need-phy-below-requires Inv-loop μ-loop
 phy-below-requires c κs = search needs
 
 add-first-requires : tie.Need-add-first-requires Inv-loop μ-loop
-add-first-requires c κs = ((c .before .before .before .before .loop) .inv .1 .1 .1, ((c .before .before .phy-below) .ensures (omega (arith, (c .before .before .before .before .before .phy-count) .ensures .0)), omega (arith, (c .before .before .before .before .before .phy-count) .ensures .0)))
+add-first-requires c κs = ((c .before .before .before .before .loop) .inv .1 .1 .1, ((c .before .before .phy-below) .ensures ∙ phy-held _ _ _ (omega (arith, (c .before .before .before .before .before .phy-count) .ensures .0)), omega (arith, (c .before .before .before .before .before .phy-count) .ensures .0)))
 
 add-p : tie.Need-add-p Inv-loop μ-loop
 add-p c = omega arith

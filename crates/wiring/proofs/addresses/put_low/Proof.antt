@@ -2,6 +2,7 @@
 use Prim.Native.Nat.{_+_, _-_, _≤_}
 use mathlib.Core.Path.{_≡_, refl, _∙_}
 use lib.ListN.{length, length-replicate}
+use Rattle.wiring.proofs.InRows.{phy-held}
 use Rattle.wiring.specs.Rows.{domainIn}
 use Rattle.wiring.specs.Addresses.{LowsTo}
 use Rattle.wiring.proofs.Indexing.{lows-start, lows-end}
@@ -29,7 +30,7 @@ slice-aggregate-add-low : tie.Need-slice-aggregate-add-low Inv-loop μ-loop
 slice-aggregate-add-low c = search (needs, (c .before .before .before .loop) .inv .1 .0)
 
 add-low-requires : tie.Need-add-low-requires Inv-loop μ-loop
-add-low-requires c κs = ((c .before .before .before .before .loop) .inv .1 .1 .1, ((c .before .before .phy-below) .ensures (omega (arith, (c .before .before .before .before .before .phy-count) .ensures .0)), omega (arith, (c .before .before .before .before .before .phy-count) .ensures .0)))
+add-low-requires c κs = ((c .before .before .before .before .loop) .inv .1 .1 .1, ((c .before .before .phy-below) .ensures ∙ phy-held _ _ _ (omega (arith, (c .before .before .before .before .before .phy-count) .ensures .0)), omega (arith, (c .before .before .before .before .before .phy-count) .ensures .0)))
 
 add-p : tie.Need-add-p Inv-loop μ-loop
 add-p c = omega arith

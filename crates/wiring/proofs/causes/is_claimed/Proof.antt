@@ -2,6 +2,7 @@
 use Prim.Native.Nat.{_+_, _*_}
 use mathlib.Core.Path.{_∙_, ap}
 use borrow.Author.Tests.{eq-eqb, ne-eqb}
+use Rattle.wiring.proofs.InRows.{phy-held}
 use Rattle.wiring.specs.Causes.{claimed}
 use Rattle.wiring.specs.Domain.{phyAt, typeOf}
 use Rattle.wiring.specs.Rows.{domainIn}
@@ -24,7 +25,7 @@ returns : tie.Need-returns
 unfolding claimed
 returns c =
     let a = c .before .before .before .before .before .args in
-    let e = c .before .phy-type .ensures ∙ ap typeOf (c .before .before .phy-below .ensures (c .before .before .before .before .before .pre .1)) in
+    let e = c .before .phy-type .ensures ∙ ap typeOf (c .before .before .phy-below .ensures ∙ phy-held _ _ _ (c .before .before .before .before .before .pre .1)) in
     simp (ne-eqb (typeOf (phyAt (domainIn (a .rows .now)) (a .i .0) (a .p .0))) 1 (λ x. omega arith))
 
 cast-from : tie.Need-cast-from
@@ -62,7 +63,7 @@ returns-2 c =
     let pre = c .before .before .before .before .before .before .before .before .pre in
     let a = c .before .before .before .before .before .before .before .before .args in
     let φ = phyAt (domainIn (a .rows .now)) (a .i .0) (a .p .0) in
-    let e = c .before .before .before .before .phy-type .ensures ∙ ap typeOf (c .before .before .before .before .before .phy-below .ensures (pre .1)) in
+    let e = c .before .before .before .before .phy-type .ensures ∙ ap typeOf (c .before .before .before .before .before .phy-below .ensures ∙ phy-held _ _ _ (pre .1)) in
     simp (eq-eqb (typeOf φ) 1 (omega arith))
     (taken-told _ (a .i .0) (a .p .0) (omega (arith, pre .1, short-in (a .rows .now) (a .i .0))) (a .first .now) (pre .0) (eq→eqb (typeOf φ) 1 (omega arith)))
 

@@ -1,6 +1,7 @@
 -- is_fixed meets its contract: the attribute and the configurable bit tell.
 use mathlib.Core.Path.{_∙_, ap}
 use borrow.Author.Tests.{eq-eqb, ne-eqb}
+use Rattle.wiring.proofs.InRows.{phy-held}
 use Rattle.wiring.specs.Causes.{fixed}
 use Rattle.wiring.specs.Domain.{attributeOf, phyAt}
 use Rattle.wiring.specs.Rows.{domainIn}
@@ -19,7 +20,7 @@ returns : tie.Need-returns
 unfolding fixed
 returns c =
     let a = c .before .before .before .before .args in
-    let e = c .before .phy-attribute .ensures ∙ ap attributeOf (c .before .before .phy-below .ensures (c .before .before .before .before .pre)) in
+    let e = c .before .phy-attribute .ensures ∙ ap attributeOf (c .before .before .phy-below .ensures ∙ phy-held _ _ _ (c .before .before .before .before .pre)) in
     simp (ne-eqb (attributeOf (phyAt (domainIn (a .rows .now)) (a .i .0) (a .p .0))) 2 (λ x. omega arith))
 
 configurable-bit-requires : tie.Need-configurable-bit-requires
@@ -29,7 +30,7 @@ returns-2 : tie.Need-returns-2
 unfolding fixed
 returns-2 c =
     let a = c .before .before .before .before .before .args in
-    let e = c .before .before .phy-attribute .ensures ∙ ap attributeOf (c .before .before .before .phy-below .ensures (c .before .before .before .before .before .pre)) in
+    let e = c .before .before .phy-attribute .ensures ∙ ap attributeOf (c .before .before .before .phy-below .ensures ∙ phy-held _ _ _ (c .before .before .before .before .before .pre)) in
     simp (eq-eqb (attributeOf (phyAt (domainIn (a .rows .now)) (a .i .0) (a .p .0))) 2 (omega arith), c .configurable-bit .ensures)
 
 pub is-fixed-spec : {M : Type 1} → statement M

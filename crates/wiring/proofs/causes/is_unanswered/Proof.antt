@@ -3,6 +3,7 @@ use mathlib.Core.Bool.{not}
 use mathlib.Core.Path.{_∙_, ap}
 use lib.Dec.{le→leb}
 use borrow.Author.Tests.{eq-eqb, ne-eqb, le-leb, lt-leb}
+use Rattle.wiring.proofs.InRows.{phy-held}
 use Rattle.wiring.specs.Causes.{farPhy, unanswered}
 use Rattle.wiring.specs.Domain.{typeOf, attributeOf, phyAt}
 use Rattle.wiring.specs.Rows.{domainIn}
@@ -22,7 +23,7 @@ returns : tie.Need-returns
 unfolding unanswered
 returns c =
     let a = c .before .before .before .before .before .args in
-    let e = c .before .phy-type .ensures ∙ ap typeOf (c .before .before .phy-below .ensures (c .before .before .before .before .before .pre .1)) in
+    let e = c .before .phy-type .ensures ∙ ap typeOf (c .before .before .phy-below .ensures ∙ phy-held _ _ _ (c .before .before .before .before .before .pre .1)) in
     simp (lt-leb 2 (typeOf (phyAt (domainIn (a .rows .now)) (a .i .0) (a .p .0))) (omega arith))
 
 phy-attribute-requires : tie.Need-phy-attribute-requires
@@ -32,7 +33,7 @@ returns-2 : tie.Need-returns-2
 unfolding unanswered
 returns-2 c =
     let a = c .before .before .before .before .before .before .before .args in
-    let f = c .before .before .before .before .phy-below .ensures (c .before .before .before .before .before .before .before .pre .1) in
+    let f = c .before .before .before .before .phy-below .ensures ∙ phy-held _ _ _ (c .before .before .before .before .before .before .before .pre .1) in
     let φ = phyAt (domainIn (a .rows .now)) (a .i .0) (a .p .0) in
     let e = c .before .before .before .phy-type .ensures ∙ ap typeOf f in
     let g = c .before .phy-attribute .ensures ∙ ap attributeOf f in
@@ -43,7 +44,7 @@ far-phy-requires c κs =
     let pre = c .before .before .before .before .before .before .before .pre in
     let phy-below = c .before .before .before .before .phy-below in
     let a = c .before .before .before .before .before .before .before .args in
-    (pre .0, (phy-below .ensures (pre .1), (le→leb 2 (typeOf (phy-below .result)) (omega arith), omega (arith, pre .1, short-in (a .rows .now) (a .i .0)))))
+    (pre .0, (phy-below .ensures ∙ phy-held _ _ _ (pre .1), (le→leb 2 (typeOf (phy-below .result)) (omega arith), omega (arith, pre .1, short-in (a .rows .now) (a .i .0)))))
 
 expander-address-requires : tie.Need-expander-address-requires
 expander-address-requires c κs = search needs
@@ -56,7 +57,7 @@ unfolding unanswered
 returns-3 c =
     let a = c .before .before .before .before .before .before .before .before .before .before .args in
     let d = domainIn (a .rows .now) in
-    let f = c .before .before .before .before .before .before .before .phy-below .ensures (c .before .before .before .before .before .before .before .before .before .before .pre .1) in
+    let f = c .before .before .before .before .before .before .before .phy-below .ensures ∙ phy-held _ _ _ (c .before .before .before .before .before .before .before .before .before .before .pre .1) in
     let φ = phyAt d (a .i .0) (a .p .0) in
     let e = c .before .before .before .before .before .before .phy-type .ensures ∙ ap typeOf f in
     let g = c .before .before .before .before .phy-attribute .ensures ∙ ap attributeOf f in

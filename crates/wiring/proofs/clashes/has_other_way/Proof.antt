@@ -6,6 +6,7 @@ use mathlib.Core.Logic.{by-cases}
 use mathlib.Core.Bool.{false, not}
 use native.Mathlib.Decide.{ℕ-discrete}
 use lib.Dec.{eqb}
+use Rattle.wiring.proofs.InRows.{phy-held}
 use Rattle.wiring.specs.Domain.{phyAt, addressOf}
 use Rattle.wiring.specs.Rows.{domainIn}
 use Rattle.wiring.specs.Clashes.{subtractive}
@@ -44,7 +45,7 @@ returns c =
     let l = c .before .before .before .before .before .loop in
     let d = domainIn (a .rows .now) in
     let w = pre .within in
-    let e = c .before .before .before .phy-below .ensures (omega arith) in
+    let e = c .before .before .before .phy-below .ensures ∙ phy-held _ _ _ (omega arith) in
     ap (λ (x : ℕ). not (eqb x (a .s))) (c .phy-address .ensures ∙ ap addressOf e)
     ∙ way-found d (a .i .0) (a .p .0) pre (a .s) (l .q - 1) (omega arith)
     (was-true _ (sym (c .before .before .is-subtractive .ensures ∙ ap subtractive e) ∙ c .before .if1 .taken)) (λ r h k. l .inv .1 r (omega arith) k)
@@ -58,7 +59,7 @@ loop-again c =
     let l = c .before .before .before .before .loop in
     let d = domainIn (a .rows .now) in
     let w = c .before .before .before .before .before .before .pre .within in
-    let e = c .before .before .phy-below .ensures (omega arith) in (
+    let e = c .before .before .phy-below .ensures ∙ phy-held _ _ _ (omega arith) in (
       omega arith,
       λ r h k. by-cases (ℕ-discrete r (l .q - 1))
           (λ z. ap (λ (x : ℕ). subtractive (phyAt d (a .i .0) x)) z ∙ sym (c .before .is-subtractive .ensures ∙ ap subtractive e) ∙ c .if1 .left)

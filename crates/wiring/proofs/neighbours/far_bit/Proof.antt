@@ -2,6 +2,7 @@
 use mathlib.Core.Path.{_∙_, ap}
 use lib.Dec.{le→leb}
 use borrow.Author.Tests.{le-leb}
+use Rattle.wiring.proofs.InRows.{phy-held}
 use Rattle.wiring.specs.Domain.{typeOf, phyAt}
 use Rattle.wiring.specs.Rows.{domainIn}
 use Rattle.wiring.proofs.Entries.{far-in}
@@ -19,7 +20,7 @@ phy-type-requires c κs = search needs
 
 returns : tie.Need-returns
 returns c =
-    let e = c .before .phy-type .ensures ∙ ap typeOf (c .before .before .phy-below .ensures (c .before .before .before .before .before .pre .1)) in
+    let e = c .before .phy-type .ensures ∙ ap typeOf (c .before .before .phy-below .ensures ∙ phy-held _ _ _ (c .before .before .before .before .before .pre .1)) in
     far-no _ _ (omega arith)
 
 far-number-requires : tie.Need-far-number-requires
@@ -30,7 +31,7 @@ returns-2 c =
     let pre = c .before .before .before .before .before .before .before .pre in
     let a = c .before .before .before .before .before .before .before .args in
     let φ = phyAt (domainIn (a .rows .now)) (a .i .0) (a .p .0) in
-    let e = c .before .before .before .phy-type .ensures ∙ ap typeOf (c .before .before .before .before .phy-below .ensures (pre .1)) in
+    let e = c .before .before .before .phy-type .ensures ∙ ap typeOf (c .before .before .before .before .phy-below .ensures ∙ phy-held _ _ _ (pre .1)) in
     let n = c .before .far-number .ensures ∙ far-in (a .rows .now) (a .first .now) (a .i .0) (a .p .0) (pre .0) (le→leb 2 (typeOf φ) (omega arith)) in
     far-high _ φ (le-leb 2 (typeOf φ) (omega arith)) _ n (omega arith)
 
@@ -45,7 +46,7 @@ returns-3 c =
     let pre = c .before .before .before .before .before .before .before .pre in
     let a = c .before .before .before .before .before .before .before .args in
     let φ = phyAt (domainIn (a .rows .now)) (a .i .0) (a .p .0) in
-    let e = c .before .before .before .phy-type .ensures ∙ ap typeOf (c .before .before .before .before .phy-below .ensures (pre .1)) in
+    let e = c .before .before .before .phy-type .ensures ∙ ap typeOf (c .before .before .before .before .phy-below .ensures ∙ phy-held _ _ _ (pre .1)) in
     let n = c .before .far-number .ensures ∙ far-in (a .rows .now) (a .first .now) (a .i .0) (a .p .0) (pre .0) (le→leb 2 (typeOf φ) (omega arith)) in
     far-one _ φ (le-leb 2 (typeOf φ) (omega arith)) _ n (omega arith)
 

@@ -1,52 +1,22 @@
-use mathlib.Core.Path.{sym, _∙_, ap₂}
-use Rattle.wiring.specs.Rows.{phyIn}
+-- phy_at meets its contract: below the number of phys, the two words of phy p hold phy p.
+use mathlib.Core.Path.{sym, _∙_}
 use native.Mathlib.Omega.{arith}
+use Rattle.wiring.proofs.InRows.{no-phy, phy-held}
 use borrow.Author.Needs.{needs}
-use Rattle.wiring.proofs.InRows.{no-phy, phy-at-in}
 use Rattle.wiring.proofs.view.phy_at.Statement.{statement}
 use Rattle.wiring.proofs.view.phy_at.Tie as tie
 
 phy-count-requires : tie.Need-phy-count-requires
 phy-count-requires c κs = search needs
 
-cast-k : tie.Need-cast-k
-cast-k c = search needs
-
-mul-k : tie.Need-mul-k
-mul-k c = search needs
-
-add-k : tie.Need-add-k
-add-k c = search needs
-
-cast-k-2 : tie.Need-cast-k-2
-cast-k-2 c = search needs
-
-mul-k-2 : tie.Need-mul-k-2
-mul-k-2 c = search needs
-
-add-k-2 : tie.Need-add-k-2
-add-k-2 c = search needs
-
-word-at-requires : tie.Need-word-at-requires
-word-at-requires c κs = search needs
-
-add-word-at : tie.Need-add-word-at
-add-word-at c = search needs
-
-word-at-requires-2 : tie.Need-word-at-requires-2
-word-at-requires-2 c κs = search needs
-
-phy-from-requires : tie.Need-phy-from-requires
-phy-from-requires c κs = search needs
+phy-below-requires : tie.Need-phy-below-requires
+phy-below-requires c κs = search needs
 
 returns : tie.Need-returns
-returns c =
-    let a = c .before .before .before .before .before .before .before .before .before .args in
-    let q = phy-at-in (a .rows .now) (a .i .0) (a .p .0) (omega arith) in
-    c .phy-from .ensures ∙ ap₂ phyIn (c .before .before .word-at .ensures) (c .before .word-at2 .ensures) ∙ sym q
+returns c = c .phy-below .ensures ∙ phy-held _ _ _ (omega arith)
 
 returns-2 : tie.Need-returns-2
 returns-2 c = let a = c .before .before .before .before .args in sym (no-phy (a .rows .now) (a .i .0) (a .p .0) (omega arith))
 
 pub phy-at-spec : {M : Type 1} → statement M
-phy-at-spec = tie.close (tie.spec phy-count-requires cast-k mul-k add-k cast-k-2 mul-k-2 add-k-2 word-at-requires add-word-at word-at-requires-2 phy-from-requires returns returns-2)
+phy-at-spec = tie.close (tie.spec phy-count-requires phy-below-requires returns returns-2)

@@ -1,7 +1,6 @@
--- phy_below meets its contract: below the number of phys, the two words of phy p are those that its phy was written as.
-use mathlib.Core.Path.{sym, _∙_, ap₂}
-use Rattle.wiring.specs.Rows.{phyIn}
-use Rattle.wiring.proofs.InRows.{phy-at-in}
+-- phy_below meets its contract: it is made from the two words of phy p.
+use mathlib.Core.Path.{_∙_, ap₂}
+use Rattle.wiring.specs.Rows.{phyIn, phyHeld}
 use borrow.Author.Needs.{needs}
 use Rattle.wiring.proofs.view.phy_below.Statement.{statement}
 use Rattle.wiring.proofs.view.phy_below.Tie as tie
@@ -37,10 +36,8 @@ phy-from-requires : tie.Need-phy-from-requires
 phy-from-requires c κs = search needs
 
 returns : tie.Need-returns
-returns c h =
-    let a = c .before .before .before .before .before .before .args in
-    let q = phy-at-in (a .rows .now) (a .i .0) (a .p .0) h in
-    c .phy-from .ensures ∙ ap₂ phyIn (c .before .before .word-at .ensures) (c .before .word-at2 .ensures) ∙ sym q
+unfolding phyHeld
+returns c = c .phy-from .ensures ∙ ap₂ phyIn (c .before .before .word-at .ensures) (c .before .word-at2 .ensures)
 
 pub phy-below-spec : {M : Type 1} → statement M
 phy-below-spec = tie.close (tie.spec cast-k mul-k add-k cast-k-2 mul-k-2 add-k-2 word-at-requires add-word-at word-at-requires-2 phy-from-requires returns)
