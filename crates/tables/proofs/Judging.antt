@@ -15,10 +15,12 @@ use Rattle.wiring.specs.File.{domainRead}
 use Rattle.wiring.specs.Causes.{firstOf, wiredDomain}
 use Rattle.wiring.specs.Links.{linkedDomain, checkedDomain}
 use Rattle.wiring.specs.Checks.{checkedIn}
+use Rattle.wiring.specs.Addresses.{IndexRoom}
 use Rattle.wiring.proofs.Members.{tests}
 use Rattle.wiring.proofs.Results.{then-good}
 use Rattle.wiring.proofs.Wires.{routes-range}
 use Rattle.wiring.proofs.Accepted.{firstOf-good}
+use Rattle.wiring.proofs.Calls.{room-checked}
 use Rattle.tables.specs.Tables.{tablePlaces, needed}
 use Rattle.tables.specs.Prepared.{orderList, overOwn, judgedIn, ownTables, OwnDone, Fillable}
 use Rattle.tables.specs.Judge.{overlong, judgedDomain, judged, expandersIn, tablesFor, tableCall, TablesDone}
@@ -50,6 +52,11 @@ module _ (chain first low : ℕ) (d : Domain) where
       let a = then-good (checkedIn chain first low d) _ d j in
       let c = firstOf-good 14 (overOwn d) d d over-range (a .2) in
       λ i p t. by-cases (decLt (expanderAt d i .indexes) (length (orderList d i p))) (λ h. absurd (c .1 i p (search (tests, lt→ltb)))) (λ h. omega arith)
+
+-- and there was room for the entries
+pub judged-room : (chain : ℕ) (d : Domain) (first low : List ℕ) (x : Domain) → judgedIn chain (length first) (length low) d ≡ good x → IndexRoom d first low
+unfolding judgedIn
+judged-room chain d first low x j = let a = then-good (checkedIn chain (length first) (length low) d) _ x j in room-checked chain d first low (a .0) (a .1)
 
 -- the judging call
 pub judge-refused : (setting : Setting) (file : List ℕ) (r : Refusal) → domainRead setting file ≡ refused r → refused r ≡ then (judged setting file) expandersIn

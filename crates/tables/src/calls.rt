@@ -14,16 +14,16 @@ ghost use lib.ListN.{length};
 ghost use Rattle.wiring.specs.Frames.{then};
 ghost use Rattle.wiring.specs.Rows.{domainIn};
 ghost use Rattle.wiring.specs.Checks.{checkAnswer, FileRoom};
-ghost use Rattle.wiring.specs.Addresses.{Indexed};
+ghost use Rattle.wiring.specs.Addresses.{IndexLeft};
 ghost use Rattle.tables.specs.Judge.{judged, judgeAnswer, expandersIn, tablesFor, tableCall, TablesDone};
 ghost use Rattle.tables.specs.Prepared.{judgedIn, OwnDone};
 
 // Causes 7 to 12, 23 and 14 in order, 14 by own lists: on a domain that was read from a file, `judgedDomain`. A chain
-// may have `chain` expanders. `first` and `low` have room for who has which address, and hold it where it passed; 16
-// where there is too little room.
+// may have `chain` expanders. `first` and `low` have room for who has which address, and hold it whatever it
+// answers; 16 where there is too little room.
 pub fn judge_rows(rows: &[u64], first: &mut [u16], low: &mut [u8], chain: u8) -> Check
     ensures { λ r. ⌜ checkAnswer (domainIn (now (rows .entry))) r ≡ judgedIn chain (length (now (first .entry))) (length (now (low .entry))) (domainIn (now (rows .entry))) ⌝ }
-    ensures { λ r. ⌜ (r ≡ Check.Passed → Indexed (domainIn (now (rows .entry))) (now (first .exit)) (now (low .exit))) ⌝ }
+    ensures { λ r. ⌜ IndexLeft (domainIn (now (rows .entry))) (now (first .entry)) (now (low .entry)) (now (first .exit)) (now (low .exit)) ⌝ }
 {
     let checked = wiring::check_domain(rows, first, low, chain);
     match checked {
@@ -81,7 +81,8 @@ pub fn judge(setting: Setting, file: &[u8]) -> Judgement
 }
 
 // Causes 7 to 12, 23 and 14 as `judge_rows` has them, then 16, then all tables by own lists: on a domain that was read from a
-// file, the tables of the table call. The words after stay, and all of them where it is refused.
+// file, the tables of the table call. The words after stay, and all of them where it is refused. `first` and `low`
+// are left as `judge_rows` leaves them.
 pub fn give_rows(
     rows: &[u64],
     first: &mut [u16],
@@ -91,6 +92,7 @@ pub fn give_rows(
 ) -> TablesGiven
     ensures { λ r. ⌜ OwnDone (then (judgedIn chain (length (now (first .entry))) (length (now (low .entry))) (domainIn (now (rows .entry)))) (tablesFor (length (now (words .entry)))))
         r (now (words .entry)) (now (words .exit)) ⌝ }
+    ensures { λ r. ⌜ IndexLeft (domainIn (now (rows .entry))) (now (first .entry)) (now (low .entry)) (now (first .exit)) (now (low .exit)) ⌝ }
 {
     let verdict = judge_rows(rows, first, low, chain);
     match verdict {

@@ -3,15 +3,12 @@ use Prim.Native.Nat.{ℕ, _*_, _/_, _%_, _≤_, _<_}
 use mathlib.Core.Path.{_≡_, refl, sym, _∙_, ap}
 use mathlib.Core.Bool.{true, false, _&&_}
 use mathlib.Core.List.{List, _++_}
-use native.Mathlib.Omega.{arith}
 use lib.ListN.{length, drop}
 use lib.Dec.{leb, leb→le}
 use borrow.Author.Tests.{le-leb, lt-leb}
 use Rattle.frames.specs.Refusals.{Result, refused, good, then, refusal}
 use Rattle.frames.specs.declared.Refusal.{Refusal}
 use Rattle.wiring.specs.declared.Setting.{Setting}
-use Rattle.wiring.specs.declared.Check.{Check}
-use Rattle.wiring.specs.declared.Check.the-variants.{Refused as Check·Refused, Passed}
 use Rattle.wiring.specs.declared.Wiring.{Wiring}
 use Rattle.wiring.specs.declared.Wiring.the-variants.{Refused, Bits}
 use Rattle.wiring.specs.Lists.{upTo}
@@ -22,10 +19,11 @@ use Rattle.wiring.specs.Neighbours.{neighbours, neighbourWord, neighbour
 use Rattle.wiring.specs.File.{domainRead}
 use Rattle.wiring.specs.Links.{unlooped, joinedIn, linkedDomain, checkedDomain}
 use Rattle.wiring.specs.Chains.{chainsWithin, unlong}
-use Rattle.wiring.specs.Addresses.{slotsBefore}
+use Rattle.wiring.specs.Addresses.{slotsBefore, IndexRoom}
 use Rattle.wiring.specs.Checks.{checkedIn}
 use Rattle.wiring.specs.Rounds.{Held}
 use Rattle.wiring.proofs.Members.{tests, is-false}
+use Rattle.wiring.proofs.Results.{unless-good}
 use Rattle.wiring.proofs.NeighbourWords.{length-words, each-held}
 
 -- the neighbour words at the front of lent words
@@ -76,6 +74,12 @@ module _ (chain : ℕ) (d : Domain) where
   unfolding checkedIn
   checked-room first low a b = rw (le-leb (slotsBefore (length d)) first a, le-leb (128 * length d) low b)
 
+  pub room-checked : (first low : List ℕ) (x : Domain) → checkedIn chain (length first) (length low) d ≡ good x → IndexRoom d first low
+  unfolding checkedIn
+  room-checked first low x e =
+      let t = unless-good (leb (slotsBefore (length d)) (length first) && leb (128 * length d) (length low)) _ _ x e .0 in
+      record { slots = leb→le (slotsBefore (length d)) (length first) (search tests); phys = leb→le (128 * length d) (length low) (search tests) }
+
 -- the wiring call past causes 1 to 6
 module _ (d : Domain) where
   module _ (room : ℕ) (before : List ℕ) where
@@ -87,10 +91,6 @@ module _ (d : Domain) where
     wiring-done x n after e h q w =
         rw (e, le-leb (length d) room h)
         (record { answers = ap good q; words = w ∙ ap (λ (m : ℕ). neighbourWords d ++ drop m before) (sym (length-words d)) })
-
--- nothing is both refused and passed
-pub not-passed : {A : Type 0} {c : Check} (r : Refusal) → c ≡ Check·Refused r → c ≡ Passed → A
-not-passed r e q = let z : _≡_ {A = ℕ} 0 1 = cc in absurd (omega arith)
 
 -- the wiring call on a file
 pub wire-refused : (setting : Setting) (file before : List ℕ) (r : Refusal) → domainRead setting file ≡ refused r → WiringDone (wiringCall setting file (length before)) (Refused r) before before

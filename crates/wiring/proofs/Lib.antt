@@ -24,6 +24,7 @@ pub mod NeighbourWords
 pub mod Bitsets
 pub mod EndDevices
 pub mod Indexing
+pub mod Kept
 pub mod Entries
 pub mod LowerPhys
 pub mod Cables

@@ -75,9 +75,13 @@ pub record LowestPhy (d : Domain) (i p q : ℕ) : Type 0 where
 abbrev pub Firsts : Domain → ℕ → List ℕ → Type 0
 Firsts d at first = (t : ℕ) → t < at → FirstOf d t (getD first t 0)
 
+-- the attached phys, by the place of their entry
+abbrev pub attachedAt : Domain → ℕ → Bool
+attachedAt d k = attached (phyAt d (k / 128) (k % 128))
+
 -- the first `at` entries, one for each phy
 abbrev pub Lows : Domain → ℕ → List ℕ → Type 0
-Lows d at low = (k : ℕ) → k < at → T (attached (phyAt d (k / 128) (k % 128))) → LowestPhy d (k / 128) (k % 128) (getD low k 0)
+Lows d at low = (k : ℕ) → k < at → T (attachedAt d k) → LowestPhy d (k / 128) (k % 128) (getD low k 0)
 
 -- who has the attached address of phy p of expander i, as the entries tell: an expander, or the count of expanders
 abbrev pub farNumber : Domain → List ℕ → ℕ → ℕ → ℕ
@@ -106,6 +110,26 @@ pub record IndexedLow (d : Domain) (low : List ℕ) : Type 0 where
 pub record Indexed (d : Domain) (first low : List ℕ) : Type 0 where
   pub firsts : IndexedFirst d first
   pub lows : IndexedLow d low
+
+-- the slots of which an entry tells something: expanders, and attached phys
+unfoldable pub tells : Domain → ℕ → Bool
+tells d t = cond (ltb t 64) (ltb t (length d)) (attached (slotPhy d t))
+
+-- entries at which the test fails are as before, also past the last slot or phy
+pub record KeptBut (test : ℕ → Bool) (before after : List ℕ) : Type 0 where
+  pub same : (t : ℕ) → test t ≡ false → getD after t 0 ≡ getD before t 0
+
+-- the entries before and after they are written: all that tell nothing are as before. Where no expander has a phy's attached address, the number
+-- of its entry is given as far as `FirstOf` says: it is the slot of an end device, or 65535, and no function tells these apart
+pub record IndexPut (d : Domain) (first low first' low' : List ℕ) : Type 0 where
+  pub index : Indexed d first' low'
+  pub firsts : KeptBut (tells d) first first'
+  pub lows : KeptBut (attachedAt d) low low'
+
+-- what becomes of lent entries, whatever a check of the domain answers: they are written where there is room for all of them, and stay where there is not
+pub record IndexLeft (d : Domain) (first low first' low' : List ℕ) : Type 0 where
+  pub written : IndexRoom d first low → IndexPut d first low first' low'
+  pub short : ¬ (IndexRoom d first low) → (first' ≡ first) × (low' ≡ low)
 
 -- the tree of some of the slots from `from` on
 pub record Searchable (d : Domain) (from size : ℕ) (cells : List ℕ) : Type 0 where

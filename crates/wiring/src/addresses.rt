@@ -11,7 +11,7 @@ ghost use lib.ListN.{length, getD};
 ghost use Rattle.wiring.specs.Domain.{expanderAt, phyAt, numberOf};
 ghost use Rattle.wiring.specs.Rows.{domainIn};
 ghost use Rattle.wiring.specs.SearchTree.{keyIn, WalkTo};
-ghost use Rattle.wiring.specs.Addresses.{slotsBefore, slotOf, slotWord, addressFrom, numberIn, farNumber, lowestPhy, IndexRoom, Indexed};
+ghost use Rattle.wiring.specs.Addresses.{slotsBefore, slotOf, slotWord, addressFrom, numberIn, farNumber, lowestPhy, tells, attachedAt, KeptBut, IndexRoom, IndexPut};
 ghost use Rattle.wiring.specs.Addresses.{Searchable, Addable, AddedTo, FirstsTo, LowsBefore, LowsTo};
 
 // The key of an address among `size` roots.
@@ -73,7 +73,7 @@ fn add(rows: &[u64], from: usize, cells: &mut [u16], size: usize, t: usize, s: u
 // its address. Nothing is done where nothing is attached.
 fn add_low(rows: &[u64], cells: &mut [u16], i: ExpanderNumber, p: PhyId, f: Phy, low: &mut [u8])
     requires { ⌜ LowsTo (domainIn (now rows)) (i .0) (p .0) (now cells) (now low) × ((f ≡ phyAt (domainIn (now rows)) (i .0) (p .0)) × (p .0 < length (expanderAt (domainIn (now rows)) (i .0) .phys))) ⌝ }
-    ensures { λ _. ⌜ LowsTo (domainIn (now (rows .entry))) (i .0) (p .0 + 1) (now (cells .exit)) (now (low .exit)) ⌝ }
+    ensures { λ _. ⌜ LowsTo (domainIn (now (rows .entry))) (i .0) (p .0 + 1) (now (cells .exit)) (now (low .exit)) × KeptBut (attachedAt (domainIn (now (rows .entry)))) (now (low .entry)) (now (low .exit)) ⌝ }
 {
     if view::phy_type(f) == 0 {
         return;
@@ -88,7 +88,7 @@ fn add_low(rows: &[u64], cells: &mut [u16], i: ExpanderNumber, p: PhyId, f: Phy,
 // The same of each phy of expander i.
 fn put_low(rows: &[u64], i: ExpanderNumber, low: &mut [u8])
     requires { ⌜ LowsBefore (domainIn (now rows)) (i .0) (now low) ⌝ }
-    ensures { λ _. ⌜ LowsBefore (domainIn (now (rows .entry))) (i .0 + 1) (now (low .exit)) ⌝ }
+    ensures { λ _. ⌜ LowsBefore (domainIn (now (rows .entry))) (i .0 + 1) (now (low .exit)) × KeptBut (attachedAt (domainIn (now (rows .entry)))) (now (low .entry)) (now (low .exit)) ⌝ }
 {
     let n = view::phy_count(rows, i);
     let mut cells = [0u16; 384];
@@ -103,7 +103,7 @@ fn put_low(rows: &[u64], i: ExpanderNumber, low: &mut [u8])
 // Adds all expanders to the tree of devices, and writes for each the first with its address.
 fn put_expanders(rows: &[u64], cells: &mut [u16], size: usize, first: &mut [u16])
     requires { ⌜ FirstsTo (domainIn (now rows)) 0 size (now cells) (now first) ⌝ }
-    ensures { λ _. ⌜ FirstsTo (domainIn (now (rows .entry))) 64 size (now (cells .exit)) (now (first .exit)) ⌝ }
+    ensures { λ _. ⌜ FirstsTo (domainIn (now (rows .entry))) 64 size (now (cells .exit)) (now (first .exit)) × KeptBut (tells (domainIn (now (rows .entry)))) (now (first .entry)) (now (first .exit)) ⌝ }
 {
     let n = view::expander_count(rows);
     let mut j: u8 = 0;
@@ -140,7 +140,7 @@ fn add_first(
     first: &mut [u16],
 )
     requires { ⌜ FirstsTo (domainIn (now rows)) (slotOf (i .0) (p .0)) size (now cells) (now first) × ((f ≡ phyAt (domainIn (now rows)) (i .0) (p .0)) × (p .0 < length (expanderAt (domainIn (now rows)) (i .0) .phys))) ⌝ }
-    ensures { λ _. ⌜ FirstsTo (domainIn (now (rows .entry))) (slotOf (i .0) (p .0 + 1)) size (now (cells .exit)) (now (first .exit)) ⌝ }
+    ensures { λ _. ⌜ FirstsTo (domainIn (now (rows .entry))) (slotOf (i .0) (p .0 + 1)) size (now (cells .exit)) (now (first .exit)) × KeptBut (tells (domainIn (now (rows .entry)))) (now (first .entry)) (now (first .exit)) ⌝ }
 {
     let device = view::phy_type(f);
     if device == 0 {
@@ -158,7 +158,7 @@ fn add_first(
 // The same of each phy of expander i.
 fn put_first(rows: &[u64], cells: &mut [u16], size: usize, i: ExpanderNumber, first: &mut [u16])
     requires { ⌜ FirstsTo (domainIn (now rows)) (slotsBefore (i .0)) size (now cells) (now first) × (i .0 < length (domainIn (now rows))) ⌝ }
-    ensures { λ _. ⌜ FirstsTo (domainIn (now (rows .entry))) (slotsBefore (i .0 + 1)) size (now (cells .exit)) (now (first .exit)) ⌝ }
+    ensures { λ _. ⌜ FirstsTo (domainIn (now (rows .entry))) (slotsBefore (i .0 + 1)) size (now (cells .exit)) (now (first .exit)) × KeptBut (tells (domainIn (now (rows .entry)))) (now (first .entry)) (now (first .exit)) ⌝ }
 {
     let n = view::phy_count(rows, i);
     let mut p: u8 = 0;
@@ -172,7 +172,7 @@ fn put_first(rows: &[u64], cells: &mut [u16], size: usize, i: ExpanderNumber, fi
 // Writes both answers for all slots, with a tree that has room for them.
 fn put_all(rows: &[u64], cells: &mut [u16], size: usize, first: &mut [u16], low: &mut [u8])
     requires { ⌜ FirstsTo (domainIn (now rows)) 0 size (now cells) (now first) × LowsBefore (domainIn (now rows)) 0 (now low) ⌝ }
-    ensures { λ _. ⌜ Indexed (domainIn (now (rows .entry))) (now (first .exit)) (now (low .exit)) ⌝ }
+    ensures { λ _. ⌜ IndexPut (domainIn (now (rows .entry))) (now (first .entry)) (now (low .entry)) (now (first .exit)) (now (low .exit)) ⌝ }
 {
     put_expanders(rows, cells, size, first);
     let n = view::expander_count(rows);
@@ -188,7 +188,7 @@ fn put_all(rows: &[u64], cells: &mut [u16], size: usize, first: &mut [u16], low:
 // its expander with its address (`low`). Few expanders need a small tree.
 pub(crate) fn put_index(rows: &[u64], first: &mut [u16], low: &mut [u8])
     requires { ⌜ IndexRoom (domainIn (now rows)) (now first) (now low) ⌝ }
-    ensures { λ _. ⌜ Indexed (domainIn (now (rows .entry))) (now (first .exit)) (now (low .exit)) ⌝ }
+    ensures { λ _. ⌜ IndexPut (domainIn (now (rows .entry))) (now (first .entry)) (now (low .entry)) (now (first .exit)) (now (low .exit)) ⌝ }
 {
     let n = view::expander_count(rows);
     if n <= 2 {

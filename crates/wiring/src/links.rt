@@ -17,7 +17,7 @@ ghost use Rattle.wiring.specs.Graph.{loopfree};
 ghost use Rattle.wiring.specs.Neighbours.{neighbours};
 ghost use Rattle.wiring.specs.Links.{joinedIn, linkedDomain, checkedDomain};
 ghost use Rattle.wiring.specs.Checks.{checkAnswer, checkedIn};
-ghost use Rattle.wiring.specs.Addresses.{IndexedFirst, Indexed};
+ghost use Rattle.wiring.specs.Addresses.{IndexedFirst, Indexed, IndexLeft};
 ghost use Rattle.wiring.specs.Rounds.{Held};
 
 // Whether cause 11 does not hold: in as many rounds as there are expanders, each round takes away those
@@ -81,10 +81,10 @@ fn check_indexed(rows: &[u64], first: &[u16], low: &[u8], chain: u8) -> Check
 }
 
 // Causes 7 to 12 and 23 in order, with entries for all slots in `first` and for all phys in `low`, which hold who has
-// their addresses where it passed. 16 where there is too little room for them.
+// their addresses, whatever it answers. 16 where there is too little room for them.
 pub fn check_domain(rows: &[u64], first: &mut [u16], low: &mut [u8], chain: u8) -> Check
     ensures { λ r. ⌜ checkAnswer (domainIn (now (rows .entry))) r ≡ checkedIn chain (length (now (first .entry))) (length (now (low .entry))) (domainIn (now (rows .entry))) ⌝ }
-    ensures { λ r. ⌜ (r ≡ Check.Passed → Indexed (domainIn (now (rows .entry))) (now (first .exit)) (now (low .exit))) ⌝ }
+    ensures { λ r. ⌜ IndexLeft (domainIn (now (rows .entry))) (now (first .entry)) (now (low .entry)) (now (first .exit)) (now (low .exit)) ⌝ }
 {
     let n = view::expander_count(rows) as usize;
     if first.len() < 64 + 128 * n {

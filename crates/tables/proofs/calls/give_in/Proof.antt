@@ -55,7 +55,7 @@ same-length-5 c = search needs
 returns-2 : tie.Need-returns-2
 returns-2 c =
     let o = opened-as _ _ _ _ _ _ ((c .before .before .before .before .before .before .before .before .before .before .before .before .before .before .before .before .before .before .before .before .before .before .before .pre) .rows) ((c .before .before .before .before .before .before .before .before .before .before .before .before .before .before .before .before .read-domain) .ensures) ((c .before .before .before .before .before .before .before .before .before .before .before .before .read2) .given .1) in
-    call-done _ _ _ _ _ _ _ (o .0) (judged-own _ _ _ _ _ (o .0) ((c .before .before .before .before .before .before .before .before .before .before .before .before .before .before .before .before .before .before .before .before .before .before .before .pre) .index _ (o .0))) ((c .before .before .before .before .before .before .give-rows) .ensures)
+    call-done _ _ _ _ _ _ _ (o .0) (judged-own _ _ _ _ _ (o .0) ((c .before .before .before .before .before .before .before .before .before .before .before .before .before .before .before .before .before .before .before .before .before .before .before .pre) .index _ (o .0))) ((c .before .before .before .before .before .before .give-rows) .ensures .0)
 
 pub give-in-spec : {M : Type 1} → statement M
 give-in-spec = tie.close (tie.spec read-domain-requires enum-known-read enum-known-read-2 cast-e mul-e slice-reshare-prefix-give-rows slice-aggregate-give-rows give-rows-requires same-length returns same-length-2 same-length-3 same-length-4 same-length-5 returns-2)

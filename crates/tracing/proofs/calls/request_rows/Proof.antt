@@ -1,6 +1,7 @@
 -- request_rows meets its contract: the judging call's causes by own lists, and the request past them.
 use mathlib.Core.Path.{sym, _∙_, ap}
 use Rattle.tables.specs.Wiring.{checkAnswer}
+use Rattle.tables.proofs.Judging.{judged-room}
 use Rattle.tracing.proofs.Asked.{rows-refused, rows-done}
 use borrow.Author.Needs.{needs}
 use Rattle.tracing.proofs.calls.request_rows.Statement.{statement}
@@ -16,7 +17,7 @@ enum-told : tie.Need-enum-told
 enum-told c = search needs
 
 trace-rows-requires : tie.Need-trace-rows-requires
-trace-rows-requires c κs = (c .before .before .before .before .before .before .before .before .judge-rows) .ensures .1 ((c .before .before .enum-told) .given .1) .firsts
+trace-rows-requires c κs = (c .before .before .before .before .before .before .before .before .judge-rows) .ensures .1 .written (judged-room _ _ _ _ _ (sym ((c .before .before .before .before .before .before .before .before .judge-rows) .ensures .0) ∙ ap (checkAnswer _) ((c .before .before .enum-told) .given .1))) .index .firsts
 
 same-length : tie.Need-same-length
 same-length c = search needs

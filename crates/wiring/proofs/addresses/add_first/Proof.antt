@@ -2,6 +2,7 @@
 use mathlib.Core.Path.{sym, _∙_, ap}
 use Rattle.wiring.specs.Domain.{numberOf}
 use Rattle.wiring.proofs.Indexing.{phy-few, here-few, first-nothing, first-can, first-device, first-look, first-other}
+use Rattle.wiring.proofs.Kept.{kept-none, first-kept}
 use borrow.Author.Needs.{needs}
 use native.Mathlib.Omega.{arith}
 use Rattle.wiring.proofs.addresses.add_first.Statement.{statement}
@@ -11,7 +12,7 @@ phy-type-requires : tie.Need-phy-type-requires
 phy-type-requires c κs = search needs
 
 returns : tie.Need-returns
-returns c = first-nothing _ _ _ _ ((c .before .before .before .before .before .pre) .1 .0) ((c .before .before .before .before .before .pre) .1 .1) _ _ _ ((c .before .before .before .before .before .pre) .0) (sym ((c .before .phy-type) .ensures) ∙ (c .if1) .taken)
+returns c = (first-nothing _ _ _ _ ((c .before .before .before .before .before .pre) .1 .0) ((c .before .before .before .before .before .pre) .1 .1) _ _ _ ((c .before .before .before .before .before .pre) .0) (sym ((c .before .phy-type) .ensures) ∙ (c .if1) .taken), kept-none _)
 
 cast-t : tie.Need-cast-t
 cast-t c = search needs
@@ -50,7 +51,7 @@ same-length-2 : tie.Need-same-length-2
 same-length-2 c = search needs
 
 returns-2 : tie.Need-returns-2
-returns-2 c = first-device _ _ _ _ ((c .before .before .before .before .before .before .before .before .before .before .before .before .before .pre) .1 .0) ((c .before .before .before .before .before .before .before .before .before .before .before .before .before .pre) .1 .1) _ _ _ ((c .before .before .before .before .before .before .before .before .before .before .before .before .before .pre) .0) (sym ((c .before .before .before .before .before .before .before .before .before .phy-type) .ensures) ∙ (c .before .before .before .before .if2) .taken) _ _ (rw ((c .before .before .before .before .before .phy-address) .ensures) at ((c .before .before .add) .ensures))
+returns-2 c = (first-device _ _ _ _ ((c .before .before .before .before .before .before .before .before .before .before .before .before .before .pre) .1 .0) ((c .before .before .before .before .before .before .before .before .before .before .before .before .before .pre) .1 .1) _ _ _ ((c .before .before .before .before .before .before .before .before .before .before .before .before .before .pre) .0) (sym ((c .before .before .before .before .before .before .before .before .before .phy-type) .ensures) ∙ (c .before .before .before .before .if2) .taken) _ _ (rw ((c .before .before .before .before .before .phy-address) .ensures) at ((c .before .before .add) .ensures)), first-kept _ _ _ _ ((c .before .before .before .before .before .before .before .before .before .before .before .before .before .pre) .1 .0) ((c .before .before .before .before .before .before .before .before .before .before .before .before .before .pre) .1 .1) (λ z. (c .before .before .before .before .before .before .before .before .if1) .left ((c .before .before .before .before .before .before .before .before .before .phy-type) .ensures ∙ z)) _ _)
 
 look-up-requires : tie.Need-look-up-requires
 look-up-requires c κs = first-look _ _ _ _ ((c .before .before .before .before .before .before .before .before .before .before .pre) .1 .0) ((c .before .before .before .before .before .before .before .before .before .before .pre) .1 .1) _ _ _ ((c .before .before .before .before .before .before .before .before .before .before .pre) .0)
@@ -68,7 +69,7 @@ same-length-4 : tie.Need-same-length-4
 same-length-4 c = search needs
 
 returns-3 : tie.Need-returns-3
-returns-3 c = first-other _ _ _ _ ((c .before .before .before .before .before .before .before .before .before .before .before .pre) .1 .0) ((c .before .before .before .before .before .before .before .before .before .before .before .pre) .1 .1) _ _ _ ((c .before .before .before .before .before .before .before .before .before .before .before .pre) .0) (omega (arith, (c .before .before .before .before .before .before .before .phy-type) .ensures, (c .before .before .before .before .before .before .if1) .left, (c .before .before .if2) .left)) _ ((c .look-up) .ensures ∙ ap (numberOf _) ((c .before .before .before .phy-address) .ensures))
+returns-3 c = (first-other _ _ _ _ ((c .before .before .before .before .before .before .before .before .before .before .before .pre) .1 .0) ((c .before .before .before .before .before .before .before .before .before .before .before .pre) .1 .1) _ _ _ ((c .before .before .before .before .before .before .before .before .before .before .before .pre) .0) (omega (arith, (c .before .before .before .before .before .before .before .phy-type) .ensures, (c .before .before .before .before .before .before .if1) .left, (c .before .before .if2) .left)) _ ((c .look-up) .ensures ∙ ap (numberOf _) ((c .before .before .before .phy-address) .ensures)), first-kept _ _ _ _ ((c .before .before .before .before .before .before .before .before .before .before .before .pre) .1 .0) ((c .before .before .before .before .before .before .before .before .before .before .before .pre) .1 .1) (λ z. (c .before .before .before .before .before .before .if1) .left ((c .before .before .before .before .before .before .before .phy-type) .ensures ∙ z)) _ _)
 
 pub add-first-spec : {M : Type 1} → statement M
 add-first-spec = tie.close (tie.spec phy-type-requires returns cast-t mul-t add-t cast-t-2 add-t-2 phy-address-requires add-requires cast-first mul-first slice-write-first same-length same-length-2 returns-2 look-up-requires mul-first-2 slice-write-first-2 same-length-3 same-length-4 returns-3)

@@ -1,7 +1,8 @@
 -- add_low meets its contract: an attached phy goes into the tree of its expander, and the lowest with its address is written.
-use mathlib.Core.Path.{sym, _∙_, ap}
+use mathlib.Core.Path.{sym, _∙_}
 use Rattle.wiring.specs.Addresses.{AddedTo}
 use Rattle.wiring.proofs.Indexing.{phy-few, here-few, low-none, low-can, low-next}
+use Rattle.wiring.proofs.Kept.{kept-none, low-kept}
 use borrow.Author.Needs.{needs}
 use native.Mathlib.Omega.{arith}
 use Rattle.wiring.proofs.addresses.add_low.Statement.{statement}
@@ -11,7 +12,7 @@ phy-type-requires : tie.Need-phy-type-requires
 phy-type-requires c κs = search needs
 
 returns : tie.Need-returns
-returns c = low-none _ _ _ _ ((c .before .before .before .before .before .pre) .1 .0) ((c .before .before .before .before .before .pre) .1 .1) _ _ ((c .before .before .before .before .before .pre) .0) (sym ((c .before .phy-type) .ensures) ∙ (c .if1) .taken)
+returns c = (low-none _ _ _ _ ((c .before .before .before .before .before .pre) .1 .0) ((c .before .before .before .before .before .pre) .1 .1) _ _ ((c .before .before .before .before .before .pre) .0) (sym ((c .before .phy-type) .ensures) ∙ (c .if1) .taken), kept-none _)
 
 cast-from : tie.Need-cast-from
 cast-from c = search needs
@@ -62,7 +63,7 @@ same-length-2 : tie.Need-same-length-2
 same-length-2 c = search needs
 
 returns-2 : tie.Need-returns-2
-returns-2 c = low-next _ _ _ _ ((c .before .before .before .before .before .before .before .before .before .before .before .before .before .before .pre) .1 .0) ((c .before .before .before .before .before .before .before .before .before .before .before .before .before .before .pre) .1 .1) _ _ ((c .before .before .before .before .before .before .before .before .before .before .before .before .before .before .pre) .0) _ _ (rw ((c .before .before .before .before .before .phy-address) .ensures) at ((c .before .before .before .before .add) .ensures))
+returns-2 c = (low-next _ _ _ _ ((c .before .before .before .before .before .before .before .before .before .before .before .before .before .before .pre) .1 .0) ((c .before .before .before .before .before .before .before .before .before .before .before .before .before .before .pre) .1 .1) _ _ ((c .before .before .before .before .before .before .before .before .before .before .before .before .before .before .pre) .0) _ _ (rw ((c .before .before .before .before .before .phy-address) .ensures) at ((c .before .before .before .before .add) .ensures)), low-kept _ _ _ _ ((c .before .before .before .before .before .before .before .before .before .before .before .before .before .before .pre) .1 .0) ((c .before .before .before .before .before .before .before .before .before .before .before .before .before .before .pre) .1 .1) (λ z. (c .before .before .before .before .before .before .before .before .before .if1) .left ((c .before .before .before .before .before .before .before .before .before .before .phy-type) .ensures ∙ z)) _ _)
 
 pub add-low-spec : {M : Type 1} → statement M
 add-low-spec = tie.close (tie.spec phy-type-requires returns cast-from mul-from add-from cast-t add-t phy-address-requires add-requires cast-k mul-k cast-k-2 add-k sub-low cast-low slice-write-low same-length same-length-2 returns-2)

@@ -3,15 +3,16 @@ use Prim.Native.Nat.{_+_, _-_, _≤_}
 use mathlib.Core.Path.{_≡_, refl, _∙_}
 use lib.ListN.{length, length-set}
 use Rattle.wiring.specs.Rows.{domainIn}
-use Rattle.wiring.specs.Addresses.{FirstsTo}
+use Rattle.wiring.specs.Addresses.{FirstsTo, tells, KeptBut}
 use Rattle.wiring.proofs.Indexing.{expander-can, expander-next, expanders-end}
+use Rattle.wiring.proofs.Kept.{kept-none, kept-then, expander-kept}
 use borrow.Author.Needs.{needs}
 use native.Mathlib.Omega.{arith}
 use Rattle.wiring.proofs.addresses.put_expanders.Statement.{statement}
 use Rattle.wiring.proofs.addresses.put_expanders.Tie as tie
 
 abbrev Inv-loop : tie.InvT-loop
-Inv-loop rows cells₀ size first₀ n j₀ cells first j = (j ≤ n) × ((length cells ≡ length cells₀) × ((length first ≡ length first₀) × FirstsTo (domainIn rows) j size cells first))
+Inv-loop rows cells₀ size first₀ n j₀ cells first j = (j ≤ n) × ((length cells ≡ length cells₀) × ((length first ≡ length first₀) × (FirstsTo (domainIn rows) j size cells first × KeptBut (tells (domainIn rows)) first₀ first)))
 
 abbrev μ-loop : tie.MeasureT-loop
 μ-loop rows cells₀ size first₀ n j₀ cells first j = n - j
@@ -20,7 +21,7 @@ expander-count-requires : tie.Need-expander-count-requires Inv-loop μ-loop
 expander-count-requires c κs = search needs
 
 loop-holds : tie.Need-loop-holds Inv-loop μ-loop
-loop-holds c = (omega arith, (refl, (refl, (c .before .before .before .before .pre))))
+loop-holds c = (omega arith, (refl, (refl, (c .before .before .before .before .pre, kept-none _))))
 
 cast-t : tie.Need-cast-t Inv-loop μ-loop
 cast-t c = search needs
@@ -29,16 +30,16 @@ expander-address-requires : tie.Need-expander-address-requires Inv-loop μ-loop
 expander-address-requires c κs = search needs
 
 add-requires : tie.Need-add-requires Inv-loop μ-loop
-add-requires c κs = rw ((c .before .expander-address) .ensures) (expander-can _ _ _ _ _ (omega arith) ((c .before .before .before .loop) .inv .1 .1 .1))
+add-requires c κs = rw ((c .before .expander-address) .ensures) (expander-can _ _ _ _ _ (omega arith) ((c .before .before .before .loop) .inv .1 .1 .1 .0))
 
 cast-first : tie.Need-cast-first Inv-loop μ-loop
 cast-first c = omega (arith, (c .before .before .add) .ensures .upto)
 
 mul-first : tie.Need-mul-first Inv-loop μ-loop
-mul-first c = omega (arith, (c .before .before .before .before .before .before .loop) .inv .1 .1 .1 .slots)
+mul-first c = omega (arith, (c .before .before .before .before .before .before .loop) .inv .1 .1 .1 .0 .slots)
 
 slice-write-first : tie.Need-slice-write-first Inv-loop μ-loop
-slice-write-first c = omega (arith, (c .before .before .before .before .before .before .loop) .inv .1 .1 .1 .slots)
+slice-write-first c = omega (arith, (c .before .before .before .before .before .before .loop) .inv .1 .1 .1 .0 .slots)
 
 add-j : tie.Need-add-j Inv-loop μ-loop
 add-j c = omega arith
@@ -47,7 +48,7 @@ loop-less : tie.Need-loop-less Inv-loop μ-loop
 loop-less c = omega arith
 
 loop-again : tie.Need-loop-again Inv-loop μ-loop
-loop-again c = (omega arith, ((c .before .before .add) .ensures .same ∙ (c .before .before .before .before .before .before .loop) .inv .1 .0, (length-set ((c .before .before .before .before .before .before .loop) .first) ((c .before .before .before .before .before .before .loop) .j) ((c .before .before .add) .result) ∙ (c .before .before .before .before .before .before .loop) .inv .1 .1 .0, expander-next _ _ _ _ _ (omega arith) ((c .before .before .before .before .before .before .loop) .inv .1 .1 .1) _ _ (rw ((c .before .before .before .before .expander-address) .ensures) at ((c .before .before .add) .ensures)))))
+loop-again c = (omega arith, ((c .before .before .add) .ensures .same ∙ (c .before .before .before .before .before .before .loop) .inv .1 .0, (length-set ((c .before .before .before .before .before .before .loop) .first) ((c .before .before .before .before .before .before .loop) .j) ((c .before .before .add) .result) ∙ (c .before .before .before .before .before .before .loop) .inv .1 .1 .0, (expander-next _ _ _ _ _ (omega arith) ((c .before .before .before .before .before .before .loop) .inv .1 .1 .1 .0) _ _ (rw ((c .before .before .before .before .expander-address) .ensures) at ((c .before .before .add) .ensures)), kept-then ((c .before .before .before .before .before .before .loop) .inv .1 .1 .1 .1) (expander-kept _ ((c .before .before .before .before .before .before .loop) .first) ((c .before .before .before .before .before .before .loop) .j) ((c .before .before .add) .result) (omega arith) (omega arith))))))
 
 same-length : tie.Need-same-length Inv-loop μ-loop
 same-length c = (c .before .loop) .inv .1 .0
@@ -56,7 +57,7 @@ same-length-2 : tie.Need-same-length-2 Inv-loop μ-loop
 same-length-2 c = (c .before .loop) .inv .1 .1 .0
 
 returns : tie.Need-returns Inv-loop μ-loop
-returns c = expanders-end _ _ _ _ _ (omega arith) (omega arith) ((c .before .loop) .inv .1 .1 .1)
+returns c = (expanders-end _ _ _ _ _ (omega arith) (omega arith) ((c .before .loop) .inv .1 .1 .1 .0), (c .before .loop) .inv .1 .1 .1 .1)
 
 pub put-expanders-spec : {M : Type 1} → statement M
 put-expanders-spec = tie.close (tie.spec Inv-loop μ-loop expander-count-requires loop-holds cast-t expander-address-requires add-requires cast-first mul-first slice-write-first add-j loop-less loop-again same-length same-length-2 returns)

@@ -4,15 +4,16 @@ use mathlib.Core.Path.{_≡_, refl, _∙_}
 use lib.ListN.{length, length-replicate}
 use Rattle.wiring.proofs.InRows.{phy-held}
 use Rattle.wiring.specs.Rows.{domainIn}
-use Rattle.wiring.specs.Addresses.{LowsTo}
+use Rattle.wiring.specs.Addresses.{LowsTo, attachedAt, KeptBut}
 use Rattle.wiring.proofs.Indexing.{lows-start, lows-end}
+use Rattle.wiring.proofs.Kept.{kept-none, kept-then}
 use borrow.Author.Needs.{needs}
 use native.Mathlib.Omega.{arith}
 use Rattle.wiring.proofs.addresses.put_low.Statement.{statement}
 use Rattle.wiring.proofs.addresses.put_low.Tie as tie
 
 abbrev Inv-loop : tie.InvT-loop
-Inv-loop rows i low₀ n cells₀ p₀ low cells p = (p ≤ n) × ((length cells ≡ 384) × ((length low ≡ length low₀) × LowsTo (domainIn rows) (i .0) p cells low))
+Inv-loop rows i low₀ n cells₀ p₀ low cells p = (p ≤ n) × ((length cells ≡ 384) × ((length low ≡ length low₀) × (LowsTo (domainIn rows) (i .0) p cells low × KeptBut (attachedAt (domainIn rows)) low₀ low)))
 
 abbrev μ-loop : tie.MeasureT-loop
 μ-loop rows i low₀ n cells₀ p₀ low cells p = n - p
@@ -21,7 +22,7 @@ phy-count-requires : tie.Need-phy-count-requires Inv-loop μ-loop
 phy-count-requires c κs = search needs
 
 loop-holds : tie.Need-loop-holds Inv-loop μ-loop
-loop-holds c = (omega arith, (refl, (refl, lows-start _ _ _ ((c .before .before .before .pre)))))
+loop-holds c = (omega arith, (refl, (refl, (lows-start _ _ _ ((c .before .before .before .pre)), kept-none _))))
 
 phy-below-requires : tie.Need-phy-below-requires Inv-loop μ-loop
 phy-below-requires c κs = search needs
@@ -30,7 +31,7 @@ slice-aggregate-add-low : tie.Need-slice-aggregate-add-low Inv-loop μ-loop
 slice-aggregate-add-low c = search (needs, (c .before .before .before .loop) .inv .1 .0)
 
 add-low-requires : tie.Need-add-low-requires Inv-loop μ-loop
-add-low-requires c κs = ((c .before .before .before .before .loop) .inv .1 .1 .1, ((c .before .before .phy-below) .ensures ∙ phy-held _ _ _ (omega (arith, (c .before .before .before .before .before .phy-count) .ensures .0)), omega (arith, (c .before .before .before .before .before .phy-count) .ensures .0)))
+add-low-requires c κs = ((c .before .before .before .before .loop) .inv .1 .1 .1 .0, ((c .before .before .phy-below) .ensures ∙ phy-held _ _ _ (omega (arith, (c .before .before .before .before .before .phy-count) .ensures .0)), omega (arith, (c .before .before .before .before .before .phy-count) .ensures .0)))
 
 add-p : tie.Need-add-p Inv-loop μ-loop
 add-p c = omega arith
@@ -39,13 +40,13 @@ loop-less : tie.Need-loop-less Inv-loop μ-loop
 loop-less c = omega arith
 
 loop-again : tie.Need-loop-again Inv-loop μ-loop
-loop-again c = (omega arith, ((c .before .before .before .add-low) .kept .1 .0 ∙ (c .before .before .before .before .before .before .before .before .loop) .inv .1 .0, ((c .before .before .before .add-low) .kept .1 .1 .1 .1 .1 .0 ∙ (c .before .before .before .before .before .before .before .before .loop) .inv .1 .1 .0, (c .before .before .before .add-low) .ensures)))
+loop-again c = (omega arith, ((c .before .before .before .add-low) .kept .1 .0 ∙ (c .before .before .before .before .before .before .before .before .loop) .inv .1 .0, ((c .before .before .before .add-low) .kept .1 .1 .1 .1 .1 .0 ∙ (c .before .before .before .before .before .before .before .before .loop) .inv .1 .1 .0, ((c .before .before .before .add-low) .ensures .0, kept-then ((c .before .before .before .before .before .before .before .before .loop) .inv .1 .1 .1 .1) ((c .before .before .before .add-low) .ensures .1)))))
 
 same-length : tie.Need-same-length Inv-loop μ-loop
 same-length c = (c .before .loop) .inv .1 .1 .0
 
 returns : tie.Need-returns Inv-loop μ-loop
-returns c = lows-end _ _ _ _ _ ((c .before .loop) .inv .1 .1 .1) (omega (arith, (c .before .before .phy-count) .ensures .1)) (omega (arith, (c .before .before .phy-count) .ensures .0))
+returns c = (lows-end _ _ _ _ _ ((c .before .loop) .inv .1 .1 .1 .0) (omega (arith, (c .before .before .phy-count) .ensures .1)) (omega (arith, (c .before .before .phy-count) .ensures .0)), (c .before .loop) .inv .1 .1 .1 .1)
 
 pub put-low-spec : {M : Type 1} → statement M
 put-low-spec = tie.close (tie.spec Inv-loop μ-loop phy-count-requires loop-holds phy-below-requires slice-aggregate-add-low add-low-requires add-p loop-less loop-again same-length returns)

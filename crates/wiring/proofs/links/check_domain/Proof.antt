@@ -1,7 +1,7 @@
 -- check_domain meets its contract: with room for the entries, they are written and the causes are tested; without, it is 16.
-use mathlib.Core.Path.{sym, _∙_, ap}
+use mathlib.Core.Path.{refl, sym, _∙_, ap}
 use Rattle.wiring.specs.Checks.{checkAnswer}
-use Rattle.wiring.proofs.Calls.{checked-short, checked-room, not-passed}
+use Rattle.wiring.proofs.Calls.{checked-short, checked-room}
 use borrow.Author.Needs.{needs}
 use native.Mathlib.Omega.{arith}
 use Rattle.wiring.proofs.links.check_domain.Statement.{statement}
@@ -25,7 +25,7 @@ check-refused-requires c κs = search needs
 returns : tie.Need-returns
 returns c =
     let n = c .before .before .expander-count .ensures .0 in
-    (ap (checkAnswer _) (c .check-refused .ensures) ∙ sym (checked-short _ _ _ _ (λ a b. omega arith)), not-passed _ (c .check-refused .ensures))
+    (ap (checkAnswer _) (c .check-refused .ensures) ∙ sym (checked-short _ _ _ _ (λ a b. omega arith)), record { written = λ room. absurd (omega (arith, room .slots)); short = λ _. (refl, refl) })
 
 mul-if2 : tie.Need-mul-if2
 mul-if2 c = search needs
@@ -36,7 +36,7 @@ check-refused-requires-2 c κs = search needs
 returns-2 : tie.Need-returns-2
 returns-2 c =
     let n = c .before .before .before .expander-count .ensures .0 in
-    (ap (checkAnswer _) (c .check-refused2 .ensures) ∙ sym (checked-short _ _ _ _ (λ a b. omega arith)), not-passed _ (c .check-refused2 .ensures))
+    (ap (checkAnswer _) (c .check-refused2 .ensures) ∙ sym (checked-short _ _ _ _ (λ a b. omega arith)), record { written = λ room. absurd (omega (arith, room .phys)); short = λ _. (refl, refl) })
 
 put-index-requires : tie.Need-put-index-requires
 put-index-requires c κs = search needs
@@ -53,7 +53,7 @@ same-length-2 c = search needs
 returns-3 : tie.Need-returns-3
 returns-3 c =
     let n = c .before .before .before .before .before .before .before .before .before .before .before .before .expander-count .ensures .0 in
-    (c .check-indexed .ensures ∙ sym (checked-room _ _ _ _ (omega arith) (omega arith)), λ _. c .before .before .before .before .before .before .before .put-index .ensures)
+    (c .check-indexed .ensures ∙ sym (checked-room _ _ _ _ (omega arith) (omega arith)), record { written = λ _. c .before .before .before .before .before .before .before .put-index .ensures; short = λ none. absurd (none (record { slots = omega arith; phys = omega arith })) })
 
 pub check-domain-spec : {M : Type 1} → statement M
 check-domain-spec = tie.close (tie.spec expander-count-requires cast-n mul-if1 add-if1 check-refused-requires returns mul-if2 check-refused-requires-2 returns-2 put-index-requires check-indexed-requires same-length same-length-2 returns-3)
