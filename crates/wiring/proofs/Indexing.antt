@@ -1,25 +1,25 @@
 -- Entries that tell who has an address: slots added to search trees one by one, and what is written for each.
 use Prim.Native.Nat.{ℕ, suc, _+_, _-_, _*_, _/_, _%_, _≤_, _<_}
 use mathlib.Core.Path.{_≡_, refl, sym, _∙_, ap, subst}
-use mathlib.Core.Logic.{_⊎_, inl, inr, _≢_, by-cases}
-use mathlib.Core.Bool.{Bool, not}
+use mathlib.Core.Logic.{inl, inr, _≢_, by-cases}
+use mathlib.Core.Bool.{cond, not}
 use mathlib.Core.List.{List}
-use native.Mathlib.Decide.{decLt}
+use native.Mathlib.Decide.{ℕ-discrete, decLt}
 use native.Mathlib.Omega.{arith}
-use native.Mathlib.Nat.{zero-add, sub-zero}
+use native.Mathlib.Nat.{sub-zero}
 use lib.ListN.{length, getD, set, length-set, replicate, length-replicate}
-use lib.Dec.{T, eqb, ltb, lt→ltb, ltb→lt, le→leb, eqb→eq, not-T}
-use borrow.Author.Tests.{lt-ltb, eq-eqb}
+use lib.Dec.{T, eqb, lt→ltb, ltb→lt, le→leb, eqb→eq, not-T}
+use borrow.Author.Tests.{lt-ltb, le-ltb, eq-eqb, ne-eqb}
 use Rattle.wiring.specs.declared.Phy.{Phy}
 use Rattle.wiring.specs.Domain.{Domain, expanderAt, phyAt, typeOf, addressOf, attached, toEnd, toExpander, numberOf}
-use Rattle.wiring.specs.SearchTree.{WalkTo, Tree, Lowest}
-use Rattle.wiring.specs.Addresses.{slotsBefore, slotOf, slotPhy, slotAddress, listedFrom, addressFrom, TreeFrom, LowestFrom, numberIn, FirstOf, LowestPhy, Firsts, Lows, Searchable, Addable, AddedTo, FirstsTo, LowsBefore, LowsTo, Indexed}
+use Rattle.wiring.specs.SearchTree.{WalkTo}
+use Rattle.wiring.specs.Addresses.{slotsBefore, slotOf, slotPhy, slotAddress, listedFrom, addressFrom, TreeFrom, LowestFrom, numberIn, tells, LowestBelow, found, nobody, FirstOf, LowestPhy, Firsts, Searchable, Addable, AddedTo, FirstsTo, LowsBefore, LowsTo, Indexed}
 use Rattle.wiring.proofs.Members.{eq→eqb, was-false}
 use Rattle.wiring.proofs.InRows.{domain-few}
 use Rattle.wiring.specs.Rows.{domainIn}
 use Rattle.wiring.proofs.Wires.{phy-range, expander-range, end-attached, expander-attached, end-no-expander}
 use Rattle.wiring.proofs.SearchTrees.{none-has, lowest-has, tree-skip, tree-same, tree-put, tree-none}
-use Rattle.wiring.proofs.EndDevices.{short-in, slot-expander, slot-is, slot-address, device-expander, device-phy, attached-at, address-at, lowest-number, no-number, taken-by, lowest-phy, each-set}
+use Rattle.wiring.proofs.EndDevices.{short-in, slot-expander, slot-is, slot-address, device-expander, device-phy, attached-at, lowest-number, no-number, taken-by, lowest-phy, each-set}
 
 module _ (d : Domain) (from size : ℕ) (cells : List ℕ) (t s : ℕ) (can : Addable d from size cells t s) where
   pub can-search : Searchable d from size cells
@@ -68,8 +68,15 @@ module _ (d : Domain) (few : length d ≤ 64) (short : (j : ℕ) → length (exp
   abbrev Silent : ℕ → Type 0
   Silent t = ¬ (t < length d) × (64 ≤ t → ¬ (T (attached (slotPhy d t))))
 
+  not-told : (t : ℕ) → Silent t → ¬ (T (tells d t))
+  unfolding tells
+  not-told t a x = by-cases (decLt t 64)
+      (λ h. a .0 (ltb→lt t (length d) (rw (lt-ltb t 64 h) at x)))
+      (λ h. a .1 (omega arith) (rw (le-ltb t 64 (omega arith)) at x))
+
   first-none : (t v : ℕ) → Silent t → FirstOf d t v
   first-none t v a = record {
+    lowest = λ x. absurd (not-told t a x);
     same = λ h. absurd (a .0 h);
     far = λ h x. absurd (a .1 h (expander-attached (slotPhy d t) x));
     taken = λ h x. absurd (a .1 h (end-attached (slotPhy d t) x));
@@ -82,28 +89,49 @@ module _ (d : Domain) (few : length d ≤ 64) (short : (j : ℕ) → length (exp
 
   pub first-expander : (t v : ℕ) → t < length d → v ≤ t → LowestFrom d 0 (expanderAt d t .address) v → FirstOf d t v
   first-expander t v h l low = record {
+    lowest = λ _. found (subst (λ (s : ℕ). LowestFrom d 0 s v) (sym (slot-expander d t (omega arith))) low) (omega arith);
     same = λ _. (rw (lt-ltb v 64 (omega arith)) at (lowest-number d few (expanderAt d t .address) v low));
     far = λ m x. absurd (omega arith);
     taken = λ m x. absurd (omega arith);
   }
 
-  pub first-far : (t v : ℕ) → 64 ≤ t → T (toExpander (slotPhy d t)) → numberIn d v ≡ numberOf d (addressOf (slotPhy d t)) → FirstOf d t v
-  first-far t v h x e = record {
+  -- the slot that is found for an address: an expander's, where one has it
+  far-number : (n s v : ℕ) → 64 ≤ n → LowestBelow d n s v → numberIn d v ≡ numberOf d s
+  far-number n s v h (found low l) = lowest-number d few s v low
+  far-number n s v h (nobody q none) = rw q (no-number d s few (λ u l. none u (omega arith)))
+
+  -- no device is added
+  far-lowest : (t s v : ℕ) → ¬ (T (listedFrom d 0 t)) → LowestBelow d t s v → LowestBelow d (t + 1) s v
+  far-lowest t s v n (found low l) = found low (omega arith)
+  far-lowest t s v n (nobody q none) = nobody q (λ u l x. by-cases (decLt u t) (λ h. none u h x) (λ h. absurd (n (let e : u ≡ t = omega arith in rw e at x))))
+
+  pub first-far : (t v : ℕ) → 64 ≤ t → T (toExpander (slotPhy d t)) → ¬ (T (listedFrom d 0 t)) → LowestBelow d t (addressOf (slotPhy d t)) v → FirstOf d t v
+  first-far t v h x n e = record {
+    lowest = λ _. far-lowest t (slotAddress d t) v n (subst (λ (s : ℕ). LowestBelow d t s v) (sym (slot-address d t h)) e);
     same = λ l. absurd (omega arith);
-    far = λ _ _. e;
+    far = λ _ _. far-number t (addressOf (slotPhy d t)) v h e;
     taken = λ _ y. absurd (end-no-expander (slotPhy d t) y x);
   }
 
-  pub first-end : (t v : ℕ) → 64 ≤ t → T (toEnd (slotPhy d t)) → LowestFrom d 0 (addressOf (slotPhy d t)) v → FirstOf d t v
-  first-end t v h x low = record {
+  pub first-end : (t v : ℕ) → 64 ≤ t → T (toEnd (slotPhy d t)) → LowestFrom d 0 (addressOf (slotPhy d t)) v → v ≤ t → FirstOf d t v
+  first-end t v h x low l = record {
+    lowest = λ _. found (subst (λ (s : ℕ). LowestFrom d 0 s v) (sym (slot-address d t h)) low) (omega arith);
     same = λ l. absurd (omega arith);
     far = λ _ y. absurd (end-no-expander (slotPhy d t) x y);
     taken = λ _ _. taken-by d few short ((t - 64) / 128) (addressOf (slotPhy d t)) v low;
   }
 
   module _ (at : ℕ) (held : FirstsTo d at size cells first) where
-    pub can-look : at ≤ 8256 → 64 ≤ at → (tree : Searchable d 0 size cells) × (64 ≤ tree .count)
-    can-look h m = (record { count = at; start = inl refl; few = omega arith; tree = held .tree }, m)
+    pub can-look : at ≤ 8256 → Searchable d 0 size cells
+    can-look h = record { count = at; start = inl refl; few = omega arith; tree = held .tree }
+
+    -- the slot in the cell at which the walk for an address ends
+    pub looked : (s e v : ℕ) → WalkTo (addressFrom d 0) size cells s e → v ≡ cond (eqb (getD cells e 0) 0) 65535 (getD cells e 0 - 1) → LowestBelow d at s v
+    looked s e v walk q = by-cases (ℕ-discrete (getD cells e 0) 0)
+        (λ z. nobody (q ∙ rw (eq-eqb (getD cells e 0) 0 z)) (none-has (addressFrom d 0) (listedFrom d 0) size cells at (held .tree) s e walk z))
+        (λ z. let k : v ≡ getD cells e 0 - 1 = q ∙ rw (ne-eqb (getD cells e 0) 0 z) in
+        let c : getD cells e 0 ≡ suc v = omega arith in
+        found (lowest-has (addressFrom d 0) (listedFrom d 0) size cells at (held .tree) s e walk v c) (held .tree .slots e v c .0))
 
     pub can-add : (s : ℕ) → at < slotsBefore (length d) → T (listedFrom d 0 at) → slotAddress d at ≡ s → Addable d 0 size cells at s
     can-add s h l a = record {
@@ -242,11 +270,11 @@ module _ (ws : List ℕ) where
       next-is : next ≡ slotOf i p + 1
       next-is = omega arith
 
-      pub first-look : (tree : Searchable d 0 size cells) × (64 ≤ tree .count)
+      pub first-look : Searchable d 0 size cells
       first-look =
           let a = slot-in in
           let b = here-few .1 in
-          can-look d (here-few .1) (short-in ws) size cells first (slotOf i p) held (omega arith) (omega arith)
+          can-look d (here-few .1) (short-in ws) size cells first (slotOf i p) held (omega arith)
 
       pub first-nothing : typeOf f ≡ 0 → FirstsTo d next size cells first
       first-nothing z = firsts-skip d (here-few .1) (short-in ws) size cells first (slotOf i p) held next (omega arith) (let a = slot-in in omega arith)
@@ -267,14 +295,16 @@ module _ (ws : List ℕ) where
         first-device after r a =
             let low : LowestFrom d 0 (addressOf (slotPhy d (slotOf i p))) r = rw slot-here (rw sub-zero at (a .lowest)) in
             firsts-add d (here-few .1) (short-in ws) size cells first (slotOf i p) held next r next-is slot-in
-            (first-end d (here-few .1) (short-in ws) size cells first (slotOf i p) r (omega arith) is-end low) after (addressOf f) a
+            (first-end d (here-few .1) (short-in ws) size cells first (slotOf i p) r (omega arith) is-end low (a .upto)) after (addressOf f) a
 
-      pub first-other : 2 ≤ typeOf f → (v : ℕ) → numberIn d v ≡ numberOf d (addressOf f) → FirstsTo d next size cells (set first (slotOf i p) v)
-      first-other two v q =
+      pub first-other : 2 ≤ typeOf f → (e v : ℕ) → WalkTo (addressFrom d 0) size cells (addressOf f) e → v ≡ cond (eqb (getD cells e 0) 0) 65535 (getD cells e 0 - 1)
+          → FirstsTo d next size cells (set first (slotOf i p) v)
+      first-other two e v walk q =
           let x : T (toExpander (slotPhy d (slotOf i p))) = rw slot-here (le→leb 2 (typeOf f) two) in
+          let n : ¬ (T (listedFrom d 0 (slotOf i p))) = λ l. end-no-expander (slotPhy d (slotOf i p)) (rw (device-phy d (slotOf i p) (omega arith)) at l) x in
+          let k : LowestBelow d (slotOf i p) (addressOf f) v = looked d (here-few .1) (short-in ws) size cells first (slotOf i p) held (addressOf f) e v walk q in
           firsts-tell d (here-few .1) (short-in ws) size cells first (slotOf i p) held next v next-is slot-in
-          (first-far d (here-few .1) (short-in ws) size cells first (slotOf i p) v (omega arith) x (rw slot-here q))
-          (λ l. end-no-expander (slotPhy d (slotOf i p)) (rw (device-phy d (slotOf i p) (omega arith)) at l) x)
+          (first-far d (here-few .1) (short-in ws) size cells first (slotOf i p) v (omega arith) x n (rw slot-here k)) n
 
   -- all slots: expanders first, then expander by expander
   module _ (size : ℕ) (cells first : List ℕ) where

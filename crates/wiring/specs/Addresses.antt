@@ -1,7 +1,7 @@
 -- Who has an address. Slots number the expanders and phys of a domain: expander i is slot i, phy p of expander i slot 64 + 128 * i + p.
 use Prim.Native.Nat.{ℕ, _+_, _-_, _*_, _/_, _%_, _≤_, _<_}
 use mathlib.Core.Path.{_≡_}
-use mathlib.Core.Logic.{_⊎_}
+use mathlib.Core.Logic.{_⊎_, _≢_}
 use mathlib.Core.Bool.{Bool, false, cond, _||_}
 use mathlib.Core.List.{List}
 use lib.ListN.{length, getD, take}
@@ -58,9 +58,20 @@ numberIn d v = cond (ltb v 64) v (length d)
 abbrev pub isTaken : Domain → ℕ → ℕ → Bool
 isTaken d i s = ltb (numberOf d s) (length d) || any (endAt s) (take i d)
 
--- v tells who has the address of slot t: for an expander, and a phy attached to one, which expander; for a phy attached to an end device, by
--- being below the first slot of its expander, that an expander or an end device at an earlier expander has it
+-- the slots of which an entry tells something: expanders, and attached phys
+unfoldable pub tells : Domain → ℕ → Bool
+tells d t = cond (ltb t 64) (ltb t (length d)) (attached (slotPhy d t))
+
+-- v is the lowest device below slot n with address s; 65535 where there is none
+pub data LowestBelow (d : Domain) (n s v : ℕ) : Type 0 where
+  found : LowestFrom d 0 s v → v < n → LowestBelow d n s v
+  nobody : v ≡ 65535 → ((u : ℕ) → u < n → T (listedFrom d 0 u) → addressFrom d 0 u ≢ s) → LowestBelow d n s v
+
+-- v, the entry of slot t, is the lowest device up to slot t with its address. So it tells who has the address: for an expander, and a phy
+-- attached to one, which expander; for a phy attached to an end device, by being below the first slot of its expander, that an expander or
+-- an end device at an earlier expander has it
 pub record FirstOf (d : Domain) (t v : ℕ) : Type 0 where
+  pub lowest : T (tells d t) → LowestBelow d (t + 1) (slotAddress d t) v
   pub same : t < length d → v ≡ numberOf d (expanderAt d t .address)
   pub far : 64 ≤ t → T (toExpander (slotPhy d t)) → numberIn d v ≡ numberOf d (addressOf (slotPhy d t))
   pub taken : 64 ≤ t → T (toEnd (slotPhy d t)) → ltb v (slotsBefore ((t - 64) / 128)) ≡ isTaken d ((t - 64) / 128) (addressOf (slotPhy d t))
@@ -111,16 +122,11 @@ pub record Indexed (d : Domain) (first low : List ℕ) : Type 0 where
   pub firsts : IndexedFirst d first
   pub lows : IndexedLow d low
 
--- the slots of which an entry tells something: expanders, and attached phys
-unfoldable pub tells : Domain → ℕ → Bool
-tells d t = cond (ltb t 64) (ltb t (length d)) (attached (slotPhy d t))
-
 -- entries at which the test fails are as before, also past the last slot or phy
 pub record KeptBut (test : ℕ → Bool) (before after : List ℕ) : Type 0 where
   pub same : (t : ℕ) → test t ≡ false → getD after t 0 ≡ getD before t 0
 
--- the entries before and after they are written: all that tell nothing are as before. Where no expander has a phy's attached address, the number
--- of its entry is given as far as `FirstOf` says: it is the slot of an end device, or 65535, and no function tells these apart
+-- the entries before and after they are written: all that tell nothing are as before
 pub record IndexPut (d : Domain) (first low first' low' : List ℕ) : Type 0 where
   pub index : Indexed d first' low'
   pub firsts : KeptBut (tells d) first first'

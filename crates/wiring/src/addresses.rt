@@ -6,12 +6,14 @@ use crate::view;
 use frames::ExpanderNumber;
 use frames::PhyId;
 ghost use mathlib.Core.Path.{_≡_};
-ghost use Prim.Native.Nat.{_+_, _*_, _≤_, _<_};
+ghost use mathlib.Core.Bool.{cond};
+ghost use Prim.Native.Nat.{_+_, _-_, _*_, _<_};
+ghost use lib.Dec.{eqb};
 ghost use lib.ListN.{length, getD};
-ghost use Rattle.wiring.specs.Domain.{expanderAt, phyAt, numberOf};
+ghost use Rattle.wiring.specs.Domain.{expanderAt, phyAt};
 ghost use Rattle.wiring.specs.Rows.{domainIn};
 ghost use Rattle.wiring.specs.SearchTree.{keyIn, WalkTo};
-ghost use Rattle.wiring.specs.Addresses.{slotsBefore, slotOf, slotWord, addressFrom, numberIn, farNumber, lowestPhy, tells, attachedAt, KeptBut, IndexRoom, IndexPut};
+ghost use Rattle.wiring.specs.Addresses.{slotsBefore, slotOf, slotWord, addressFrom, farNumber, lowestPhy, tells, attachedAt, KeptBut, IndexRoom, IndexPut};
 ghost use Rattle.wiring.specs.Addresses.{Searchable, Addable, AddedTo, FirstsTo, LowsBefore, LowsTo};
 
 // The key of an address among `size` roots.
@@ -115,17 +117,14 @@ fn put_expanders(rows: &[u64], cells: &mut [u16], size: usize, first: &mut [u16]
     }
 }
 
-// The slot that a tree of devices has for address s, 65535 where there is none: an expander's, where one has it.
-fn look_up(rows: &[u64], cells: &[u16], size: usize, s: u64) -> u16
-    requires { ⌜ ((tree : Searchable (domainIn (now rows)) 0 size (now cells)) × (64 ≤ tree .count)) ⌝ }
-    ensures { λ r. ⌜ numberIn (domainIn (now (rows .entry))) r ≡ numberOf (domainIn (now (rows .entry))) s ⌝ }
+// The slot in a cell of a tree; 65535 where the cell is free.
+fn slot_in(cell: u16) -> u16
+    ensures { λ r. ⌜ r ≡ cond (eqb cell 0) 65535 (cell - 1) ⌝ }
 {
-    let c = find(rows, 0, cells, size, s);
-    let v = cells[c];
-    if v == 0 {
+    if cell == 0 {
         return 65535;
     }
-    v - 1
+    cell - 1
 }
 
 // Writes who has the address of f, phy p of expander i, and adds it to the tree of devices where an end device
@@ -152,7 +151,8 @@ fn add_first(
         first[t] = add(rows, 0, cells, size, t, s) as u16;
         return;
     }
-    first[t] = look_up(rows, cells, size, s);
+    let c = find(rows, 0, cells, size, s);
+    first[t] = slot_in(cells[c]);
 }
 
 // The same of each phy of expander i.

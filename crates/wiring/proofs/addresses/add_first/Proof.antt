@@ -1,6 +1,5 @@
 -- add_first meets its contract: by what is attached, an end device goes into the tree, and who has the address is written.
-use mathlib.Core.Path.{sym, _∙_, ap}
-use Rattle.wiring.specs.Domain.{numberOf}
+use mathlib.Core.Path.{sym, _∙_}
 use Rattle.wiring.proofs.Indexing.{phy-few, here-few, first-nothing, first-can, first-device, first-look, first-other}
 use Rattle.wiring.proofs.Kept.{kept-none, first-kept}
 use borrow.Author.Needs.{needs}
@@ -53,14 +52,23 @@ same-length-2 c = search needs
 returns-2 : tie.Need-returns-2
 returns-2 c = (first-device _ _ _ _ ((c .before .before .before .before .before .before .before .before .before .before .before .before .before .pre) .1 .0) ((c .before .before .before .before .before .before .before .before .before .before .before .before .before .pre) .1 .1) _ _ _ ((c .before .before .before .before .before .before .before .before .before .before .before .before .before .pre) .0) (sym ((c .before .before .before .before .before .before .before .before .before .phy-type) .ensures) ∙ (c .before .before .before .before .if2) .taken) _ _ (rw ((c .before .before .before .before .before .phy-address) .ensures) at ((c .before .before .add) .ensures)), first-kept _ _ _ _ ((c .before .before .before .before .before .before .before .before .before .before .before .before .before .pre) .1 .0) ((c .before .before .before .before .before .before .before .before .before .before .before .before .before .pre) .1 .1) (λ z. (c .before .before .before .before .before .before .before .before .if1) .left ((c .before .before .before .before .before .before .before .before .before .phy-type) .ensures ∙ z)) _ _)
 
-look-up-requires : tie.Need-look-up-requires
-look-up-requires c κs = first-look _ _ _ _ ((c .before .before .before .before .before .before .before .before .before .before .pre) .1 .0) ((c .before .before .before .before .before .before .before .before .before .before .pre) .1 .1) _ _ _ ((c .before .before .before .before .before .before .before .before .before .before .pre) .0)
+find-requires : tie.Need-find-requires
+find-requires c κs = first-look _ _ _ _ ((c .before .before .before .before .before .before .before .before .before .before .pre) .1 .0) ((c .before .before .before .before .before .before .before .before .before .before .pre) .1 .1) _ _ _ ((c .before .before .before .before .before .before .before .before .before .before .pre) .0)
+
+mul-slot-in : tie.Need-mul-slot-in
+mul-slot-in c = search needs
+
+slice-read-slot-in : tie.Need-slice-read-slot-in
+slice-read-slot-in c = search needs
+
+slot-in-requires : tie.Need-slot-in-requires
+slot-in-requires c κs = search needs
 
 mul-first-2 : tie.Need-mul-first-2
 mul-first-2 c = search needs
 
 slice-write-first-2 : tie.Need-slice-write-first-2
-slice-write-first-2 c = omega (arith, (c .before .before .before .before .before .before .before .before .before .before .before .pre) .0 .slots, phy-few _ _ _ _ ((c .before .before .before .before .before .before .before .before .before .before .before .pre) .1 .0) ((c .before .before .before .before .before .before .before .before .before .before .before .pre) .1 .1), here-few _ _ _ _ ((c .before .before .before .before .before .before .before .before .before .before .before .pre) .1 .0) ((c .before .before .before .before .before .before .before .before .before .before .before .pre) .1 .1) .0)
+slice-write-first-2 c = omega (arith, (c .before .before .before .before .before .before .before .before .before .before .before .before .before .pre) .0 .slots, phy-few _ _ _ _ ((c .before .before .before .before .before .before .before .before .before .before .before .before .before .pre) .1 .0) ((c .before .before .before .before .before .before .before .before .before .before .before .before .before .pre) .1 .1), here-few _ _ _ _ ((c .before .before .before .before .before .before .before .before .before .before .before .before .before .pre) .1 .0) ((c .before .before .before .before .before .before .before .before .before .before .before .before .before .pre) .1 .1) .0)
 
 same-length-3 : tie.Need-same-length-3
 same-length-3 c = search needs
@@ -69,7 +77,7 @@ same-length-4 : tie.Need-same-length-4
 same-length-4 c = search needs
 
 returns-3 : tie.Need-returns-3
-returns-3 c = (first-other _ _ _ _ ((c .before .before .before .before .before .before .before .before .before .before .before .pre) .1 .0) ((c .before .before .before .before .before .before .before .before .before .before .before .pre) .1 .1) _ _ _ ((c .before .before .before .before .before .before .before .before .before .before .before .pre) .0) (omega (arith, (c .before .before .before .before .before .before .before .phy-type) .ensures, (c .before .before .before .before .before .before .if1) .left, (c .before .before .if2) .left)) _ ((c .look-up) .ensures ∙ ap (numberOf _) ((c .before .before .before .phy-address) .ensures)), first-kept _ _ _ _ ((c .before .before .before .before .before .before .before .before .before .before .before .pre) .1 .0) ((c .before .before .before .before .before .before .before .before .before .before .before .pre) .1 .1) (λ z. (c .before .before .before .before .before .before .if1) .left ((c .before .before .before .before .before .before .before .phy-type) .ensures ∙ z)) _ _)
+returns-3 c = (first-other _ _ _ _ ((c .before .before .before .before .before .before .before .before .before .before .before .before .before .pre) .1 .0) ((c .before .before .before .before .before .before .before .before .before .before .before .before .before .pre) .1 .1) _ _ _ ((c .before .before .before .before .before .before .before .before .before .before .before .before .before .pre) .0) (omega (arith, (c .before .before .before .before .before .before .before .before .before .phy-type) .ensures, (c .before .before .before .before .before .before .before .before .if1) .left, (c .before .before .before .before .if2) .left)) _ _ (rw ((c .before .before .before .before .before .phy-address) .ensures) at ((c .before .before .find) .ensures .0)) ((c .slot-in) .ensures), first-kept _ _ _ _ ((c .before .before .before .before .before .before .before .before .before .before .before .before .before .pre) .1 .0) ((c .before .before .before .before .before .before .before .before .before .before .before .before .before .pre) .1 .1) (λ z. (c .before .before .before .before .before .before .before .before .if1) .left ((c .before .before .before .before .before .before .before .before .before .phy-type) .ensures ∙ z)) _ _)
 
 pub add-first-spec : {M : Type 1} → statement M
-add-first-spec = tie.close (tie.spec phy-type-requires returns cast-t mul-t add-t cast-t-2 add-t-2 phy-address-requires add-requires cast-first mul-first slice-write-first same-length same-length-2 returns-2 look-up-requires mul-first-2 slice-write-first-2 same-length-3 same-length-4 returns-3)
+add-first-spec = tie.close (tie.spec phy-type-requires returns cast-t mul-t add-t cast-t-2 add-t-2 phy-address-requires add-requires cast-first mul-first slice-write-first same-length same-length-2 returns-2 find-requires mul-slot-in slice-read-slot-in slot-in-requires mul-first-2 slice-write-first-2 same-length-3 same-length-4 returns-3)
