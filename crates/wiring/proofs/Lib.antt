@@ -19,6 +19,7 @@ pub mod LongChains
 pub mod Wires
 pub mod Accepted
 pub mod Opening
+pub mod Excess
 pub mod Sets
 pub mod NeighbourWords
 pub mod Bitsets

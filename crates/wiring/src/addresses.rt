@@ -7,7 +7,7 @@ use frames::ExpanderNumber;
 use frames::PhyId;
 ghost use mathlib.Core.Path.{_≡_};
 ghost use mathlib.Core.Bool.{cond};
-ghost use Prim.Native.Nat.{_+_, _-_, _*_, _<_};
+ghost use Prim.Native.Nat.{_+_, _-_, _*_, _≤_, _<_};
 ghost use lib.Dec.{eqb};
 ghost use lib.ListN.{length, getD};
 ghost use Rattle.wiring.specs.Domain.{expanderAt, phyAt};
@@ -184,25 +184,45 @@ fn put_all(rows: &[u64], cells: &mut [u16], size: usize, first: &mut [u16], low:
     }
 }
 
-// Writes for each slot of a domain who has its address (`first`), and for each attached phy the lowest phy of
-// its expander with its address (`low`). Few expanders need a small tree.
-pub(crate) fn put_index(rows: &[u64], first: &mut [u16], low: &mut [u8])
-    requires { ⌜ IndexRoom (domainIn (now rows)) (now first) (now low) ⌝ }
+// Writes both answers with a tree for few expanders: at most 2, or at most 8.
+fn index_few(rows: &[u64], first: &mut [u16], low: &mut [u8])
+    requires { ⌜ IndexRoom (domainIn (now rows)) (now first) (now low) × (length (domainIn (now rows)) ≤ 8) ⌝ }
     ensures { λ _. ⌜ IndexPut (domainIn (now (rows .entry))) (now (first .entry)) (now (low .entry)) (now (first .exit)) (now (low .exit)) ⌝ }
 {
-    let n = view::expander_count(rows);
-    if n <= 2 {
+    if view::expander_count(rows) <= 2 {
         let mut cells = [0u16; 896];
         put_all(rows, &mut cells[..], 256, first, low);
         return;
     }
-    if n <= 8 {
-        let mut cells = [0u16; 2432];
-        put_all(rows, &mut cells[..], 256, first, low);
-        return;
-    }
+    let mut cells = [0u16; 2432];
+    put_all(rows, &mut cells[..], 256, first, low);
+}
+
+// Writes both answers with a tree for the most expanders.
+fn index_many(rows: &[u64], first: &mut [u16], low: &mut [u8])
+    requires { ⌜ IndexRoom (domainIn (now rows)) (now first) (now low) ⌝ }
+    ensures { λ _. ⌜ IndexPut (domainIn (now (rows .entry))) (now (first .entry)) (now (low .entry)) (now (first .exit)) (now (low .exit)) ⌝ }
+{
     let mut cells = [0u16; 24704];
     put_all(rows, &mut cells[..], 8192, first, low);
+}
+
+// Writes for each slot of a domain who has its address (`first`), and for each attached phy the lowest phy of
+// its expander with its address (`low`). Few expanders need a small tree. Words after 64 rows say nothing; that
+// it calls itself there gives each tree a stack frame of its own (docs/DECISIONS.md, 17).
+pub(crate) fn put_index(rows: &[u64], first: &mut [u16], low: &mut [u8])
+    requires { ⌜ IndexRoom (domainIn (now rows)) (now first) (now low) ⌝ }
+    ensures { λ _. ⌜ IndexPut (domainIn (now (rows .entry))) (now (first .entry)) (now (low .entry)) (now (first .exit)) (now (low .exit)) ⌝ }
+{
+    if rows.len() > 16512 {
+        put_index(&rows[..16512], first, low);
+        return;
+    }
+    if view::expander_count(rows) <= 8 {
+        index_few(rows, first, low);
+        return;
+    }
+    index_many(rows, first, low);
 }
 
 // The number of the expander that has the attached address of phy p of expander i, where the phy is attached to

@@ -37,6 +37,7 @@ pub use wiring_call::wire;
 pub use frames::ExpanderNumber;
 pub use frames::PhyId;
 pub use frames::Refusal;
+pub use frames::RouteIndex;
 
 // A course's setting: the most expanders of a domain, the most phys of an expander, and the longest chain
 // in expanders.

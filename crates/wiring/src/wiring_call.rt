@@ -11,7 +11,9 @@ use crate::view;
 use frames::ExpanderNumber;
 use frames::PhyId;
 use frames::Refusal;
+ghost use Prim.Native.Nat.{_≤_};
 ghost use lib.ListN.{length};
+ghost use Rattle.frames.specs.Bytes.{byte};
 ghost use Rattle.frames.specs.Refusals.{then};
 ghost use Rattle.wiring.specs.Rows.{domainIn};
 ghost use Rattle.wiring.specs.Causes.{wiredDomain};
@@ -63,14 +65,12 @@ fn wire_in(
     }
 }
 
-// The wiring call: causes 22 and 1 to 10, then 16. It writes one word for each expander, and answers how
-// many bits are set in all. The words after stay, and all of them where it is refused. Few expanders, whose
-// number stands in the second byte, need little room.
-pub fn wire(setting: Setting, file: &[u8], words: &mut [u64]) -> Wiring
+// The wiring call of a file that states few expanders: at most 2, or at most 8.
+fn wire_few(setting: Setting, file: &[u8], words: &mut [u64]) -> Wiring
+    requires { ⌜ byte (now file) 1 ≤ 8 ⌝ }
     ensures { λ r. ⌜ WiringDone (wiringCall setting (now (file .entry)) (length (now (words .entry)))) r (now (words .entry)) (now (words .exit)) ⌝ }
 {
-    let n = rows::stated_count(file);
-    if n <= 2 {
+    if rows::stated_count(file) <= 2 {
         let mut rows = [0u64; 516];
         let mut first = [0u16; 320];
         let mut low = [0u8; 256];
@@ -83,19 +83,23 @@ pub fn wire(setting: Setting, file: &[u8], words: &mut [u64]) -> Wiring
             words,
         );
     }
-    if n <= 8 {
-        let mut rows = [0u64; 2064];
-        let mut first = [0u16; 1088];
-        let mut low = [0u8; 1024];
-        return wire_in(
-            setting,
-            file,
-            &mut rows[..],
-            &mut first[..],
-            &mut low[..],
-            words,
-        );
-    }
+    let mut rows = [0u64; 2064];
+    let mut first = [0u16; 1088];
+    let mut low = [0u8; 1024];
+    wire_in(
+        setting,
+        file,
+        &mut rows[..],
+        &mut first[..],
+        &mut low[..],
+        words,
+    )
+}
+
+// The wiring call, with room for the most expanders.
+fn wire_many(setting: Setting, file: &[u8], words: &mut [u64]) -> Wiring
+    ensures { λ r. ⌜ WiringDone (wiringCall setting (now (file .entry)) (length (now (words .entry)))) r (now (words .entry)) (now (words .exit)) ⌝ }
+{
     let mut rows = [0u64; 16512];
     let mut first = [0u16; 8256];
     let mut low = [0u8; 8192];
@@ -107,4 +111,23 @@ pub fn wire(setting: Setting, file: &[u8], words: &mut [u64]) -> Wiring
         &mut low[..],
         words,
     )
+}
+
+// The wiring call: causes 22 and 1 to 10, then 16. It writes one word for each expander, and answers how
+// many bits are set in all. The words after stay, and all of them where it is refused. Few expanders, whose
+// number stands in the second byte, need little room. More than 64 are refused by the setting or the first two bytes;
+// that it calls itself there gives each room a stack frame of its own (docs/DECISIONS.md, 17).
+pub fn wire(setting: Setting, file: &[u8], words: &mut [u64]) -> Wiring
+    ensures { λ r. ⌜ WiringDone (wiringCall setting (now (file .entry)) (length (now (words .entry)))) r (now (words .entry)) (now (words .exit)) ⌝ }
+{
+    let n = rows::stated_count(file);
+    if n <= 8 {
+        return wire_few(setting, file, words);
+    }
+    if n > 64 {
+        if file.len() > 2 {
+            return wire(setting, &file[..2], words);
+        }
+    }
+    wire_many(setting, file, words)
 }

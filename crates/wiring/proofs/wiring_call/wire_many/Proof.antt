@@ -1,0 +1,34 @@
+-- wire_many meets its contract: a file that is read has at most 64 expanders.
+use Prim.Native.Nat.{ℕ}
+use lib.ListN.{length-replicate}
+use Rattle.wiring.proofs.Read.{read-good}
+use Rattle.wiring.proofs.Opening.{file-room}
+use borrow.Author.Needs.{needs}
+use native.Mathlib.Omega.{arith}
+use Rattle.wiring.proofs.wiring_call.wire_many.Statement.{statement}
+use Rattle.wiring.proofs.wiring_call.wire_many.Tie as tie
+
+slice-aggregate-wire-in : tie.Need-slice-aggregate-wire-in
+slice-aggregate-wire-in c = search needs
+
+slice-aggregate-wire-in-2 : tie.Need-slice-aggregate-wire-in-2
+slice-aggregate-wire-in-2 c = search needs
+
+slice-aggregate-wire-in-3 : tie.Need-slice-aggregate-wire-in-3
+slice-aggregate-wire-in-3 c = search needs
+
+wire-in-requires : tie.Need-wire-in-requires
+wire-in-requires c κs =
+    let a = c .before .before .before .before .before .before .args in
+    let f = a .file .now in
+    file-room (a .setting) 64 f _ _ _ (λ d e. let g = read-good (a .setting) f d e in omega (arith, g .few, g .range .expanders .1))
+    (omega (arith, length-replicate {A = ℕ} 16512 0)) (omega (arith, length-replicate {A = ℕ} 8256 0)) (omega (arith, length-replicate {A = ℕ} 8192 0))
+
+same-length : tie.Need-same-length
+same-length c = search needs
+
+returns : tie.Need-returns
+returns c = search needs
+
+pub wire-many-spec : {M : Type 1} → statement M
+wire-many-spec = tie.close (tie.spec slice-aggregate-wire-in slice-aggregate-wire-in-2 slice-aggregate-wire-in-3 wire-in-requires same-length returns)
