@@ -1,4 +1,4 @@
--- What the layer above uses of wiring's lemmas.
+-- What the layers above use of wiring's lemmas.
 pub use Rattle.wiring.proofs.Members.{tests, or-cases, or-left, or-right, is-true, was-true, eq→eqb, neqb, in-cast, all-cons, in-upTo, last-in, at-most}
 pub use Rattle.wiring.proofs.Walks.{Skip, NoBack, repeats-nothing, same-rest, same-chain, rest-of}
 pub use Rattle.wiring.proofs.Reach.{Joined}
@@ -9,6 +9,8 @@ pub use Rattle.wiring.proofs.Results.{good-one, unless-good, good-unless, then-
 pub use Rattle.wiring.proofs.Read.{read-good, stated-expanders}
 pub use Rattle.wiring.proofs.Accepted.{wired-iff, wired-file}
 pub use Rattle.wiring.proofs.Entries.{far-in}
-pub use Rattle.wiring.proofs.Opening.{file-room, opened-as, opened-fits}
+pub use Rattle.wiring.proofs.Opening.{file-room, opened, opened-as, opened-fits}
+pub use Rattle.wiring.proofs.Excess.{header-cut}
+pub use Rattle.wiring.proofs.InRows.{domain-few}
 pub use Rattle.wiring.proofs.ShortFile.{short-file}
 pub use Rattle.wiring.proofs.Wider.{wiring-more}

@@ -1,10 +1,11 @@
--- What the layer above uses of wiring and frames.
-pub use Rattle.wiring.specs.Frames.{Refusal, Result, refused, good, unless, then, refusal, Exactly}
+-- What the layers above use of wiring and frames.
+pub use Rattle.wiring.specs.Frames.{byte, Refusal, Result, refused, good, unless, then, refusal, Exactly}
 pub use Rattle.wiring.specs.declared.Phy.{Phy}
-pub use Rattle.wiring.specs.declared.Phy.the-variants.{Present}
+pub use Rattle.wiring.specs.declared.Phy.the-variants.{Vacant, Present}
 pub use Rattle.wiring.specs.declared.Check.the-variants.{Refused}
+pub use Rattle.wiring.specs.declared.DomainRead.the-variants.{Expanders}
 pub use Rattle.wiring.specs.Lists.{upTo, In, Distinct, Below, last}
-unfoldable pub use Rattle.wiring.specs.Lists.{numbers, any, isIn}
+unfoldable pub use Rattle.wiring.specs.Lists.{numbers, any, isIn, keep}
 pub use Rattle.wiring.specs.Domain.{Expander, Domain, noExpander, expanderAt, phyAt, typeOf, addressOf, farOf, attributeOf, routes}
 pub use Rattle.wiring.specs.Domain.{attached, toEnd, toExpander, bears}
 unfoldable pub use Rattle.wiring.specs.Domain.{numberOf}
@@ -13,11 +14,11 @@ pub use Rattle.wiring.specs.Settings.{InRange, widest, NoSmaller}
 pub use Rattle.wiring.specs.File.{domainRead}
 pub use Rattle.wiring.specs.Read.{Read}
 pub use Rattle.wiring.specs.ShortFile.{shortFile}
-pub use Rattle.wiring.specs.Rows.{domainIn}
-pub use Rattle.wiring.specs.Causes.{Place, place, wiredDomain, wired}
+pub use Rattle.wiring.specs.Rows.{domainIn, RowsRead}
+pub use Rattle.wiring.specs.Causes.{Place, place, places, wiredDomain, wired}
 unfoldable pub use Rattle.wiring.specs.Causes.{phyPlaces, placesFrom}
 pub use Rattle.wiring.specs.Checks.{checkAnswer, FileRoom}
-pub use Rattle.wiring.specs.Addresses.{IndexedFirst}
+pub use Rattle.wiring.specs.Addresses.{IndexedFirst, IndexRoom}
 pub use Rattle.wiring.specs.Graph.{Steps, self}
 pub use Rattle.wiring.specs.Neighbours.{neighbours, wiringCall}
 pub use Rattle.wiring.specs.Devices.{LoopIn, ChainIn, TableToTable, Clear, ClearChain, NoTableToTable, Home, Borne}

@@ -167,26 +167,30 @@ fn put_all_in(
     }
 }
 
-// The same. Few expanders need little room.
-pub(crate) fn put_all(rows: &[u64], first: &[u16], low: &[u8], words: &mut [u64])
+// The same, with room for at most 8 expanders.
+fn put_few(rows: &[u64], first: &[u16], low: &[u8], words: &mut [u64])
+    requires { ⌜ (length (domainIn (now rows)) ≤ 8) × (Indexed (domainIn (now rows)) (now first) (now low) × (Fillable (domainIn (now rows)) × (needed (domainIn (now rows)) ≤ length (now words)))) ⌝ }
+    ensures { λ _. ⌜ now (words .exit) ≡ ownTables (domainIn (now (rows .entry))) ++ drop (needed (domainIn (now (rows .entry)))) (now (words .entry)) ⌝ }
+{
+    let mut lists = [0u64; 1032];
+    let mut below = [0u8; 528];
+    let mut order = [0u8; 521];
+    put_all_in(
+        rows,
+        first,
+        low,
+        &mut lists[..],
+        &mut below[..],
+        &mut order[..],
+        words,
+    );
+}
+
+// The same, with room for the most expanders.
+fn put_many(rows: &[u64], first: &[u16], low: &[u8], words: &mut [u64])
     requires { ⌜ Indexed (domainIn (now rows)) (now first) (now low) × (Fillable (domainIn (now rows)) × (needed (domainIn (now rows)) ≤ length (now words))) ⌝ }
     ensures { λ _. ⌜ now (words .exit) ≡ ownTables (domainIn (now (rows .entry))) ++ drop (needed (domainIn (now (rows .entry)))) (now (words .entry)) ⌝ }
 {
-    if wiring::expander_count(rows) <= 8 {
-        let mut lists = [0u64; 1032];
-        let mut below = [0u8; 528];
-        let mut order = [0u8; 521];
-        put_all_in(
-            rows,
-            first,
-            low,
-            &mut lists[..],
-            &mut below[..],
-            &mut order[..],
-            words,
-        );
-        return;
-    }
     let mut lists = [0u64; 8256];
     let mut below = [0u8; 4224];
     let mut order = [0u8; 4161];
@@ -199,4 +203,21 @@ pub(crate) fn put_all(rows: &[u64], first: &[u16], low: &[u8], words: &mut [u64]
         &mut order[..],
         words,
     );
+}
+
+// The same. Few expanders need little room. Words after 64 rows say nothing; that it calls itself there gives each
+// room a stack frame of its own (docs/DECISIONS.md, 17).
+pub(crate) fn put_all(rows: &[u64], first: &[u16], low: &[u8], words: &mut [u64])
+    requires { ⌜ Indexed (domainIn (now rows)) (now first) (now low) × (Fillable (domainIn (now rows)) × (needed (domainIn (now rows)) ≤ length (now words))) ⌝ }
+    ensures { λ _. ⌜ now (words .exit) ≡ ownTables (domainIn (now (rows .entry))) ++ drop (needed (domainIn (now (rows .entry)))) (now (words .entry)) ⌝ }
+{
+    if rows.len() > 16512 {
+        put_all(&rows[..16512], first, low, words);
+        return;
+    }
+    if wiring::expander_count(rows) <= 8 {
+        put_few(rows, first, low, words);
+        return;
+    }
+    put_many(rows, first, low, words);
 }

@@ -10,8 +10,9 @@ use wiring::PhyId;
 use wiring::Refusal;
 use wiring::Setting;
 ghost use mathlib.Core.Path.{_≡_};
+ghost use Prim.Native.Nat.{_≤_};
 ghost use lib.ListN.{length};
-ghost use Rattle.wiring.specs.Frames.{then};
+ghost use Rattle.wiring.specs.Frames.{byte, then};
 ghost use Rattle.wiring.specs.Rows.{domainIn};
 ghost use Rattle.wiring.specs.Checks.{checkAnswer, FileRoom};
 ghost use Rattle.wiring.specs.Addresses.{IndexLeft};
@@ -57,27 +58,49 @@ fn judge_in(
     }
 }
 
-// The judging call: causes 22, 1 to 12, 23 and 14, or the number of expanders. Few expanders need little room.
-pub fn judge(setting: Setting, file: &[u8]) -> Judgement
+// The judging call of a file that states few expanders: at most 2, or at most 8.
+fn judge_few(setting: Setting, file: &[u8]) -> Judgement
+    requires { ⌜ byte (now file) 1 ≤ 8 ⌝ }
     ensures { λ r. ⌜ judgeAnswer r ≡ then (judged setting (now (file .entry))) expandersIn ⌝ }
 {
-    let n = wiring::stated_count(file);
-    if n <= 2 {
+    if wiring::stated_count(file) <= 2 {
         let mut rows = [0u64; 516];
         let mut first = [0u16; 320];
         let mut low = [0u8; 256];
         return judge_in(setting, file, &mut rows[..], &mut first[..], &mut low[..]);
     }
-    if n <= 8 {
-        let mut rows = [0u64; 2064];
-        let mut first = [0u16; 1088];
-        let mut low = [0u8; 1024];
-        return judge_in(setting, file, &mut rows[..], &mut first[..], &mut low[..]);
-    }
+    let mut rows = [0u64; 2064];
+    let mut first = [0u16; 1088];
+    let mut low = [0u8; 1024];
+    judge_in(setting, file, &mut rows[..], &mut first[..], &mut low[..])
+}
+
+// The judging call, with room for the most expanders.
+fn judge_many(setting: Setting, file: &[u8]) -> Judgement
+    ensures { λ r. ⌜ judgeAnswer r ≡ then (judged setting (now (file .entry))) expandersIn ⌝ }
+{
     let mut rows = [0u64; 16512];
     let mut first = [0u16; 8256];
     let mut low = [0u8; 8192];
     judge_in(setting, file, &mut rows[..], &mut first[..], &mut low[..])
+}
+
+// The judging call: causes 22, 1 to 12, 23 and 14, or the number of expanders. Few expanders need little room. More
+// than 64 are refused by the setting or the first two bytes; that it calls itself there gives each room a stack frame
+// of its own (docs/DECISIONS.md, 17).
+pub fn judge(setting: Setting, file: &[u8]) -> Judgement
+    ensures { λ r. ⌜ judgeAnswer r ≡ then (judged setting (now (file .entry))) expandersIn ⌝ }
+{
+    let n = wiring::stated_count(file);
+    if n <= 8 {
+        return judge_few(setting, file);
+    }
+    if n > 64 {
+        if file.len() > 2 {
+            return judge(setting, &file[..2]);
+        }
+    }
+    judge_many(setting, file)
 }
 
 // Causes 7 to 12, 23 and 14 as `judge_rows` has them, then 16, then all tables by own lists: on a domain that was read from a
@@ -135,14 +158,12 @@ fn give_in(
     }
 }
 
-// The table call: causes 22, 1 to 12, 23 and 14, then 16. It writes all tables, by expander and then phy, and
-// answers how many tables and words there are. The words after stay, and all of them where it is
-// refused. Few expanders need little room.
-pub fn give_tables(setting: Setting, file: &[u8], words: &mut [u64]) -> TablesGiven
+// The table call of a file that states few expanders: at most 2, or at most 8.
+fn give_few(setting: Setting, file: &[u8], words: &mut [u64]) -> TablesGiven
+    requires { ⌜ byte (now file) 1 ≤ 8 ⌝ }
     ensures { λ r. ⌜ TablesDone (tableCall setting (now (file .entry)) (length (now (words .entry)))) r (now (words .entry)) (now (words .exit)) ⌝ }
 {
-    let n = wiring::stated_count(file);
-    if n <= 2 {
+    if wiring::stated_count(file) <= 2 {
         let mut rows = [0u64; 516];
         let mut first = [0u16; 320];
         let mut low = [0u8; 256];
@@ -155,19 +176,23 @@ pub fn give_tables(setting: Setting, file: &[u8], words: &mut [u64]) -> TablesGi
             words,
         );
     }
-    if n <= 8 {
-        let mut rows = [0u64; 2064];
-        let mut first = [0u16; 1088];
-        let mut low = [0u8; 1024];
-        return give_in(
-            setting,
-            file,
-            &mut rows[..],
-            &mut first[..],
-            &mut low[..],
-            words,
-        );
-    }
+    let mut rows = [0u64; 2064];
+    let mut first = [0u16; 1088];
+    let mut low = [0u8; 1024];
+    give_in(
+        setting,
+        file,
+        &mut rows[..],
+        &mut first[..],
+        &mut low[..],
+        words,
+    )
+}
+
+// The table call, with room for the most expanders.
+fn give_many(setting: Setting, file: &[u8], words: &mut [u64]) -> TablesGiven
+    ensures { λ r. ⌜ TablesDone (tableCall setting (now (file .entry)) (length (now (words .entry)))) r (now (words .entry)) (now (words .exit)) ⌝ }
+{
     let mut rows = [0u64; 16512];
     let mut first = [0u16; 8256];
     let mut low = [0u8; 8192];
@@ -179,4 +204,22 @@ pub fn give_tables(setting: Setting, file: &[u8], words: &mut [u64]) -> TablesGi
         &mut low[..],
         words,
     )
+}
+
+// The table call: causes 22, 1 to 12, 23 and 14, then 16. It writes all tables, by expander and then phy, and
+// answers how many tables and words there are. The words after stay, and all of them where it is
+// refused. It takes room as `judge` does.
+pub fn give_tables(setting: Setting, file: &[u8], words: &mut [u64]) -> TablesGiven
+    ensures { λ r. ⌜ TablesDone (tableCall setting (now (file .entry)) (length (now (words .entry)))) r (now (words .entry)) (now (words .exit)) ⌝ }
+{
+    let n = wiring::stated_count(file);
+    if n <= 8 {
+        return give_few(setting, file, words);
+    }
+    if n > 64 {
+        if file.len() > 2 {
+            return give_tables(setting, &file[..2], words);
+        }
+    }
+    give_many(setting, file, words)
 }

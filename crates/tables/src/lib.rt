@@ -16,13 +16,14 @@ pub use calls::give_tables;
 pub use calls::judge;
 pub use calls::judge_rows;
 
-// What the layer above uses of the layers below.
+// What the layers above use of the layers below.
 pub use wiring::Check;
 pub use wiring::DomainRead;
 pub use wiring::ExpanderNumber;
 pub use wiring::Phy;
 pub use wiring::PhyId;
 pub use wiring::Refusal;
+pub use wiring::RouteIndex;
 pub use wiring::Setting;
 pub use wiring::expander_address;
 pub use wiring::expander_count;
