@@ -6,10 +6,11 @@ use tables::DomainRead;
 use tables::ExpanderNumber;
 use tables::PhyId;
 use tables::Setting;
+ghost use Prim.Native.Nat.{_≤_};
 ghost use lib.ListN.{length};
 ghost use Rattle.tracing.specs.Trace.{request, traceCall, TraceDone};
 ghost use Rattle.tracing.specs.Answers.{requestIn};
-ghost use Rattle.tables.specs.Wiring.{domainIn, FileRoom};
+ghost use Rattle.tables.specs.Wiring.{byte, domainIn, FileRoom};
 
 // Causes 7 to 12, 23, 14 and 15 to 17 of a request over rows, then the walk. A chain may have `chain` expanders. `first` and `low` have room for who has which
 // address; 16 where there is too little.
@@ -74,10 +75,8 @@ fn trace_in(
     }
 }
 
-// The trace call: causes 22, 1 to 12, 23, 14 and 15 to 17, or how the request ends. The numbers of the expanders passed
-// fill the first of the lent bytes; the rest stay, and all of them where it is refused. Few
-// expanders need little room.
-pub fn trace(
+// The trace call of a file that states few expanders: at most 2, or at most 8.
+fn trace_few(
     setting: Setting,
     file: &[u8],
     words: &[u64],
@@ -86,12 +85,12 @@ pub fn trace(
     s: u64,
     passed: &mut [u8],
 ) -> TraceAnswer
+    requires { ⌜ byte (now file) 1 ≤ 8 ⌝ }
     ensures { λ r. ⌜ TraceDone
         (traceCall setting (now (file .entry)) (now (words .entry)) (length (now (passed .entry))) (request (start .0) (arrival .0) s))
         r (now (passed .entry)) (now (passed .exit)) ⌝ }
 {
-    let n = tables::stated_count(file);
-    if n <= 2 {
+    if tables::stated_count(file) <= 2 {
         let mut rows = [0u64; 516];
         let mut first = [0u16; 320];
         let mut low = [0u8; 256];
@@ -108,23 +107,37 @@ pub fn trace(
             passed,
         );
     }
-    if n <= 8 {
-        let mut rows = [0u64; 2064];
-        let mut first = [0u16; 1088];
-        let mut low = [0u8; 1024];
-        return trace_in(
-            setting,
-            file,
-            &mut rows[..],
-            &mut first[..],
-            &mut low[..],
-            words,
-            start,
-            arrival,
-            s,
-            passed,
-        );
-    }
+    let mut rows = [0u64; 2064];
+    let mut first = [0u16; 1088];
+    let mut low = [0u8; 1024];
+    trace_in(
+        setting,
+        file,
+        &mut rows[..],
+        &mut first[..],
+        &mut low[..],
+        words,
+        start,
+        arrival,
+        s,
+        passed,
+    )
+}
+
+// The trace call, with room for the most expanders.
+fn trace_many(
+    setting: Setting,
+    file: &[u8],
+    words: &[u64],
+    start: ExpanderNumber,
+    arrival: PhyId,
+    s: u64,
+    passed: &mut [u8],
+) -> TraceAnswer
+    ensures { λ r. ⌜ TraceDone
+        (traceCall setting (now (file .entry)) (now (words .entry)) (length (now (passed .entry))) (request (start .0) (arrival .0) s))
+        r (now (passed .entry)) (now (passed .exit)) ⌝ }
+{
     let mut rows = [0u64; 16512];
     let mut first = [0u16; 8256];
     let mut low = [0u8; 8192];
@@ -140,4 +153,31 @@ pub fn trace(
         s,
         passed,
     )
+}
+
+// The trace call: causes 22, 1 to 12, 23, 14 and 15 to 17, or how the request ends. The numbers of the expanders passed
+// fill the first of the lent bytes; the rest stay, and all of them where it is refused. It takes room as `judge` does.
+pub fn trace(
+    setting: Setting,
+    file: &[u8],
+    words: &[u64],
+    start: ExpanderNumber,
+    arrival: PhyId,
+    s: u64,
+    passed: &mut [u8],
+) -> TraceAnswer
+    ensures { λ r. ⌜ TraceDone
+        (traceCall setting (now (file .entry)) (now (words .entry)) (length (now (passed .entry))) (request (start .0) (arrival .0) s))
+        r (now (passed .entry)) (now (passed .exit)) ⌝ }
+{
+    let n = tables::stated_count(file);
+    if n <= 8 {
+        return trace_few(setting, file, words, start, arrival, s, passed);
+    }
+    if n > 64 {
+        if file.len() > 2 {
+            return trace(setting, &file[..2], words, start, arrival, s, passed);
+        }
+    }
+    trace_many(setting, file, words, start, arrival, s, passed)
 }
