@@ -11,7 +11,7 @@ use lib.ListN.{length, getD, drop, length-drop, drop-of-length-le}
 use lib.Seq.{drop-drop, drop-cons}
 use lib.Dec.{leb}
 use borrow.Author.Tests.{le-leb, lt-leb}
-use Rattle.wiring.specs.Domain.{Domain}
+use Rattle.tables.specs.Wiring.{Domain}
 use Rattle.tables.specs.Filling.{Put}
 use Rattle.listing.specs.declared.Cursor.{Cursor}
 use Rattle.listing.specs.Text.{lineOf}

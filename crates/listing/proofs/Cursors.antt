@@ -10,10 +10,7 @@ use native.Mathlib.Omega.{arith}
 use lib.ListN.{length, drop, List·getD-eq-default}
 use lib.Dec.{ltb}
 use borrow.Author.Tests.{ltb-false}
-use Rattle.wiring.specs.declared.Phy.{Phy}
-use Rattle.wiring.specs.declared.Phy.the-variants.{Vacant}
-use Rattle.wiring.specs.Domain.{Domain, Expander, noExpander, expanderAt, routes}
-use Rattle.wiring.specs.Causes.{Place, place, phyPlaces, placesFrom}
+use Rattle.tables.specs.Wiring.{Phy, Vacant, Domain, Expander, noExpander, expanderAt, routes, Place, place, phyPlaces, placesFrom}
 use Rattle.tables.specs.Tables.{size}
 use Rattle.tables.proofs.Puts.{phys-next, phys-last, from-next, from-last, size-by}
 use Rattle.listing.specs.declared.Cursor.{Cursor}

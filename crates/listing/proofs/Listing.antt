@@ -5,17 +5,8 @@ use mathlib.Core.Bool.{Bool, true, false, cond}
 use mathlib.Core.List.{List, [], _∷_, _++_, flatMap, append-assoc}
 use native.Mathlib.Omega.{arith}
 use lib.ListN.{length, getD, take, drop, length-append}
-use Rattle.wiring.specs.Frames.{Result, good, then}
-use Rattle.wiring.specs.declared.DomainRead.the-variants.{Expanders}
-use Rattle.wiring.specs.Lists.{keep}
-use Rattle.wiring.specs.Domain.{Domain, expanderAt, phyAt, routes}
-use Rattle.wiring.specs.Causes.{Place, places}
-use Rattle.wiring.specs.Rows.{domainIn, RowsRead}
-use Rattle.wiring.specs.declared.Setting.{Setting}
-use Rattle.wiring.specs.Addresses.{IndexRoom}
-use Rattle.wiring.proofs.Results.{good-one, then-good}
-use Rattle.wiring.proofs.Read.{read-good}
-use Rattle.wiring.proofs.Opening.{opened}
+use Rattle.tables.specs.Wiring.{Result, good, then, Expanders, keep, Domain, expanderAt, phyAt, routes, Place, places, domainIn, RowsRead, Setting, IndexRoom}
+use Rattle.tables.proofs.Wiring.{good-one, then-good, read-good, opened}
 use Rattle.tables.specs.Tables.{table, tablePlaces, tables, size, needed}
 use Rattle.tables.specs.Filling.{withTables}
 use Rattle.tables.specs.Judge.{judged, tablesFor, tableCall, Counted, countsIn, tablesAfter}

@@ -6,8 +6,7 @@ use mathlib.Core.List.{List, [], _∷_, _++_, flatMap}
 use lib.ListN.{length, drop}
 use lib.Dec.{leb, ltb}
 use Rattle.io.specs.Counts.{Counts}
-use Rattle.wiring.specs.Domain.{Domain, expanderAt}
-use Rattle.wiring.specs.Causes.{Place, place, phyPlaces, placesFrom}
+use Rattle.tables.specs.Wiring.{Domain, expanderAt, Place, place, phyPlaces, placesFrom}
 use Rattle.tables.specs.Tables.{table, tablePlaces, size, needed}
 use Rattle.tables.specs.Filling.{Put}
 use Rattle.listing.specs.declared.Cursor.{Cursor}

@@ -1,13 +1,12 @@
 // The entries of routing tables, by expander, then phy, then index.
 use crate::Cursor;
-use frames::ExpanderNumber;
-use frames::PhyId;
-use frames::RouteIndex;
+use tables::ExpanderNumber;
+use tables::PhyId;
+use tables::RouteIndex;
 ghost use mathlib.Core.Path.{_≡_};
 ghost use Prim.Native.Nat.{_+_, _<_, _^_};
 ghost use lib.ListN.{length};
-ghost use Rattle.wiring.specs.Causes.{place};
-ghost use Rattle.wiring.specs.Rows.{domainIn};
+ghost use Rattle.tables.specs.Wiring.{place, domainIn};
 ghost use Rattle.tables.specs.Tables.{size};
 ghost use Rattle.listing.specs.Lines.{cursor, nextPlace};
 
@@ -17,8 +16,8 @@ pub(crate) fn entry_count(rows: &[u64], at: Cursor) -> u16
 {
     let i = ExpanderNumber(at.expander.0);
     let p = PhyId(at.phy.0);
-    if wiring::phy_attribute(wiring::phy_at(rows, i, p)) == 2 {
-        return wiring::index_count(rows, i);
+    if tables::phy_attribute(tables::phy_at(rows, i, p)) == 2 {
+        return tables::index_count(rows, i);
     }
     0
 }
@@ -43,7 +42,7 @@ pub(crate) fn next_place(rows: &[u64], at: Cursor) -> Cursor
     ensures { λ r. ⌜ r ≡ nextPlace (domainIn (now (rows .entry))) at ⌝ }
 {
     let i = ExpanderNumber(at.expander.0);
-    if at.phy.0 < wiring::phy_count(rows, i) {
+    if at.phy.0 < tables::phy_count(rows, i) {
         return Cursor {
             expander: i,
             phy: PhyId(at.phy.0 + 1),

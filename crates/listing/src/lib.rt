@@ -4,14 +4,22 @@ mod entries;
 mod lines;
 mod text;
 
-use frames::ExpanderNumber;
-use frames::PhyId;
-use frames::RouteIndex;
 pub use lines::put_chunk;
 pub use lines::start;
+use tables::ExpanderNumber;
+use tables::PhyId;
+use tables::RouteIndex;
 pub use text::refused;
 pub use text::too_long;
 pub use text::totals;
+
+// What the program uses of the layers below.
+pub use tables::DomainRead;
+pub use tables::Refusal;
+pub use tables::TablesGiven;
+pub use tables::give_rows;
+pub use tables::read_domain;
+pub use tables::widest;
 
 // Where a listing goes on: an entry of a routing table, and the number of its word.
 pub struct Cursor {

@@ -3,13 +3,13 @@ use crate::Chunk;
 use crate::Cursor;
 use crate::entries;
 use crate::text;
-use frames::ExpanderNumber;
-use frames::PhyId;
-use frames::RouteIndex;
+use tables::ExpanderNumber;
+use tables::PhyId;
+use tables::RouteIndex;
 ghost use mathlib.Core.Path.{_≡_};
 ghost use Prim.Native.Nat.{_+_, _≤_};
 ghost use lib.ListN.{length};
-ghost use Rattle.wiring.specs.Rows.{domainIn};
+ghost use Rattle.tables.specs.Wiring.{domainIn};
 ghost use Rattle.tables.specs.Filling.{Put};
 ghost use Rattle.listing.specs.Text.{lineOf};
 ghost use Rattle.listing.specs.Lines.{cursor, ChunkPut};
@@ -42,7 +42,7 @@ fn put_line_at(out: &mut [u8], to: usize, at: Cursor, w: u64) -> usize
 pub fn put_chunk(rows: &[u64], words: &[u64], from: Cursor, out: &mut [u8; 65536]) -> Chunk
     ensures { λ r. ⌜ ChunkPut (domainIn (now (rows .entry))) (now (words .entry)) from (now (out .entry)) (now (out .exit)) (r .next) (r .end) ⌝ }
 {
-    let n = wiring::expander_count(rows);
+    let n = tables::expander_count(rows);
     let mut at = from;
     let mut end: usize = 0;
     while at.expander.0 < n {

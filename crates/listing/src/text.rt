@@ -1,8 +1,8 @@
 // Text put into lent bytes from a place on. Each function yields the place after it.
-use frames::ExpanderNumber;
-use frames::PhyId;
-use frames::Refusal;
-use frames::RouteIndex;
+use tables::ExpanderNumber;
+use tables::PhyId;
+use tables::Refusal;
+use tables::RouteIndex;
 ghost use mathlib.Core.List.{[], _∷_};
 ghost use Prim.Native.Nat.{_+_, _≤_, _<_};
 ghost use lib.ListN.{length};

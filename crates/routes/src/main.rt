@@ -1,8 +1,8 @@
 // Reads a domain file on standard input and lists the entries of its routing tables. Where reading or
 // writing fails, one line on standard error says so.
-use frames::Refusal;
-use tables::TablesGiven;
-use wiring::DomainRead;
+use listing::DomainRead;
+use listing::Refusal;
+use listing::TablesGiven;
 ghost use Rattle.io.specs.Counts.{Counts};
 
 // What reading standard input gives: how many bytes were read, and whether a read failed then.
@@ -84,7 +84,7 @@ fn print_rows(rows: &[u64], chain: u8) -> bool {
     let mut first = [0u16; 8256];
     let mut low = [0u8; 8192];
     let mut words = [0u64; 8192];
-    let given = tables::give_rows(rows, &mut first[..], &mut low[..], &mut words[..], chain);
+    let given = listing::give_rows(rows, &mut first[..], &mut low[..], &mut words[..], chain);
     match given {
         TablesGiven::Refused(r) => print_refusal(r),
         TablesGiven::Counts(t, w) => print_tables(rows, &words[..], t as u64, w as u64),
@@ -99,8 +99,8 @@ fn print_listing(file: &[u8]) -> bool {
         return io::write_all(1, &line[..end]);
     }
     let mut rows = [0u64; 16512];
-    let course = wiring::widest();
-    let read = wiring::read_domain(course, file, &mut rows[..]);
+    let course = listing::widest();
+    let read = listing::read_domain(course, file, &mut rows[..]);
     match read {
         DomainRead::Refused(r) => print_refusal(r),
         DomainRead::Expanders(n) => {

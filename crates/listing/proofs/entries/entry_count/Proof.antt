@@ -2,8 +2,7 @@
 use mathlib.Core.Path.{sym, _∙_, ap}
 use borrow.Author.Needs.{needs}
 use borrow.Author.Tests.{eq-eqb, ne-eqb}
-use Rattle.wiring.specs.Domain.{Domain, phyAt, attributeOf}
-use Rattle.wiring.specs.Rows.{domainIn}
+use Rattle.tables.specs.Wiring.{Domain, phyAt, attributeOf, domainIn}
 use Rattle.tables.proofs.Puts.{size-by}
 use Rattle.listing.proofs.entries.entry_count.Statement.{statement}
 use Rattle.listing.proofs.entries.entry_count.Tie as tie

@@ -6,9 +6,8 @@ use borrow.Author.Needs.{needs}
 use borrow.Author.Tests.{lt-ltb, le-ltb}
 use native.Mathlib.Omega.{arith}
 use lib.ListN.{length}
-use Rattle.wiring.specs.Domain.{expanderAt}
-use Rattle.wiring.specs.Rows.{domainIn}
-use Rattle.wiring.proofs.InRows.{domain-few}
+use Rattle.tables.specs.Wiring.{expanderAt, domainIn}
+use Rattle.tables.proofs.Wiring.{domain-few}
 use Rattle.listing.specs.Lines.{cursor}
 use Rattle.listing.proofs.entries.next_place.Statement.{statement}
 use Rattle.listing.proofs.entries.next_place.Tie as tie

@@ -6,8 +6,7 @@ use borrow.Author.Needs.{needs}
 use native.Mathlib.Omega.{arith}
 use mathlib.Core.List.{List}
 use lib.ListN.{length, getD}
-use Rattle.wiring.specs.Domain.{Domain}
-use Rattle.wiring.specs.Rows.{domainIn}
+use Rattle.tables.specs.Wiring.{Domain, domainIn}
 use Rattle.listing.specs.declared.Cursor.{Cursor}
 use Rattle.listing.specs.Lines.{Entry, entry, entriesOn, entriesFrom, cursor, cursorAt}
 use Rattle.listing.proofs.Cursors.{left, index-less, moved, entry-here, entries-past}
