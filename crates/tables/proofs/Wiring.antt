@@ -14,3 +14,4 @@ pub use Rattle.wiring.proofs.Excess.{header-cut}
 pub use Rattle.wiring.proofs.InRows.{domain-few}
 pub use Rattle.wiring.proofs.ShortFile.{short-file}
 pub use Rattle.wiring.proofs.Wider.{wiring-more}
+pub use Rattle.wiring.proofs.stated_count.Reads.{Asked as stated-count-asked, Learnt as stated-count-learnt}

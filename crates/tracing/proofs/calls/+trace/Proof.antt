@@ -3,7 +3,7 @@ use mathlib.Core.Path.{sym}
 use native.Mathlib.Omega.{arith}
 use lib.ListN.{length}
 use lib.Seq.{length-take-le}
-use Rattle.tables.proofs.Wiring.{header-cut}
+use Rattle.tables.proofs.Wiring.{header-cut, stated-count-asked, stated-count-learnt}
 use Rattle.tracing.specs.Trace.{traceCall}
 use borrow.Author.Needs.{needs}
 use Prim.Native.Nat.{ℕ, _<_}
@@ -14,7 +14,6 @@ use Rattle.tracing.proofs.calls.trace.Kinds as trace-kinds
 use Rattle.tracing.proofs.calls.+trace.Lts-trace as trace-lts
 use Rattle.tracing.proofs.calls.trace_few.Reads as trace-few-reads
 use Rattle.tracing.proofs.calls.trace_many.Reads as trace-many-reads
-use Rattle.wiring.proofs.stated_count.Reads as stated-count-reads
 use Rattle.tracing.proofs.calls.+trace.{statement}
 use Rattle.tracing.proofs.calls.+trace.Tie.{close}
 
@@ -29,7 +28,7 @@ abbrev trace-below : ℕ → In 3 trace-kinds.ps
 trace-below t = and 3 trace-kinds.ps (falls 3 trace-kinds.ps _<_ μ-trace t) trace.Pre
 
 abbrev claims : ℕ → trace-lts.Claims
-claims t = (stated-count-reads.Asked, stated-count-reads.Learnt, trace-few-reads.Asked, trace-few-reads.Learnt, trace-below t, trace.Post, trace-many-reads.Asked, trace-many-reads.Learnt)
+claims t = (stated-count-asked, stated-count-learnt, trace-few-reads.Asked, trace-few-reads.Learnt, trace-below t, trace.Post, trace-many-reads.Asked, trace-many-reads.Learnt)
 
 module _ (t : ℕ) where
   stated-count-requires : trace-lts.Need-stated-count-requires (claims t) (trace-at t) trace.Post
