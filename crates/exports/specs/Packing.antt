@@ -3,16 +3,7 @@ use Prim.Native.Nat.{ℕ, _+_, _*_, _/_, _%_, _^_}
 use mathlib.Core.Bool.{cond}
 use mathlib.Core.List.{List}
 use lib.Dec.{leb}
-use Rattle.frames.specs.Refusals.{Result, refused, good}
-use Rattle.frames.specs.ReportGeneral.{GeneralSas2, short, long}
-use Rattle.frames.specs.Discovery.{Discovered, vacant, fields}
-use Rattle.frames.specs.declared.Refusal.{Refusal}
-use Rattle.frames.specs.declared.General.{General}
-use Rattle.frames.specs.declared.LongGeneral.{LongGeneral}
-use Rattle.frames.specs.declared.Discover.{Discover}
-use Rattle.frames.specs.declared.Route.{Route}
-use Rattle.wiring.specs.declared.Setting.{Setting}
-use Rattle.tables.specs.Judge.{Counted}
+use Rattle.tracing.specs.Tables.{Result, refused, good, GeneralSas2, short, long, Discovered, vacant, fields, Refusal, General, LongGeneral, Discover, Route, Setting, Counted}
 use Rattle.tracing.specs.Trace.{Reported}
 use Rattle.tracing.specs.declared.Outcome.{Outcome}
 use Rattle.tracing.specs.declared.Outcome.the-variants.{Arrived, NoDestination, BadDestination}

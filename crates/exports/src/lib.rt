@@ -2,27 +2,23 @@
 // answers.
 mod packing;
 
-use frames::DiscoverRead;
-use frames::ExpanderNumber;
-use frames::GeneralRead;
-use frames::GeneralReadSas2;
-use frames::PhyId;
-use frames::Route;
-use frames::RouteIndex;
-use frames::RouteRead;
-use frames::RouteWrite;
-use tables::Judgement;
-use tables::TablesGiven;
+use tracing::DiscoverRead;
+use tracing::ExpanderNumber;
+use tracing::GeneralRead;
+use tracing::GeneralReadSas2;
+use tracing::Judgement;
+use tracing::PhyId;
+use tracing::Route;
+use tracing::RouteIndex;
+use tracing::RouteRead;
+use tracing::RouteWrite;
+use tracing::TablesGiven;
 use tracing::TraceAnswer;
-use wiring::Wiring;
+use tracing::Wiring;
 ghost use mathlib.Core.Path.{_≡_};
 ghost use lib.ListN.{length};
-ghost use Rattle.frames.specs.Refusals.{then};
-ghost use Rattle.frames.specs.ReportGeneral.{generalRead, generalReadSas2};
-ghost use Rattle.frames.specs.Discovery.{discoverRead};
-ghost use Rattle.frames.specs.ConfigureRoute.{routeWritten, routeRead, bufferAfter};
-ghost use Rattle.wiring.specs.Neighbours.{wiringCall, bitsOf, wordsAfter};
-ghost use Rattle.tables.specs.Judge.{judged, expandersIn, tableCall, countsIn, tablesAfter};
+ghost use Rattle.tracing.specs.Tables.{then, generalRead, generalReadSas2, discoverRead, routeWritten, routeRead, bufferAfter};
+ghost use Rattle.tracing.specs.Tables.{wiringCall, bitsOf, wordsAfter, judged, expandersIn, tableCall, countsIn, tablesAfter};
 ghost use Rattle.tracing.specs.Trace.{request, traceCall, report, bytesAfter};
 ghost use Rattle.exports.specs.Packing.{settingOf, packed, number, counts, endPacked, forty, general, generalSas2, discovered, ownAddress, attachedAddress, route, routeEntry};
 
@@ -33,7 +29,7 @@ pub extern "C" fn metzurgo_wire(setting: u32, file: &[u8], words: &mut [u64]) ->
         × (now (words .exit) ≡ wordsAfter (wiringCall (settingOf setting) (now (file .entry)) (length (now (words .entry)))) (now (words .entry))) ⌝ }
 {
     let course = packing::setting(setting);
-    let answer = wiring::wire(course, file, words);
+    let answer = tracing::wire(course, file, words);
     match answer {
         Wiring::Refused(r) => packing::refusal(r),
         Wiring::Bits(n) => n,
@@ -46,7 +42,7 @@ pub extern "C" fn metzurgo_judge(setting: u32, file: &[u8]) -> u64
     ensures { λ r. ⌜ r ≡ packed number (then (judged (settingOf setting) (now (file .entry))) expandersIn) ⌝ }
 {
     let course = packing::setting(setting);
-    let answer = tables::judge(course, file);
+    let answer = tracing::judge(course, file);
     match answer {
         Judgement::Refused(r) => packing::refusal(r),
         Judgement::Expanders(n) => n as u64,
@@ -60,7 +56,7 @@ pub extern "C" fn metzurgo_tables(setting: u32, file: &[u8], words: &mut [u64]) 
         × (now (words .exit) ≡ tablesAfter (tableCall (settingOf setting) (now (file .entry)) (length (now (words .entry)))) (now (words .entry))) ⌝ }
 {
     let course = packing::setting(setting);
-    let answer = tables::give_tables(course, file, words);
+    let answer = tracing::give_tables(course, file, words);
     match answer {
         TablesGiven::Refused(r) => packing::refusal(r),
         TablesGiven::Counts(t, w) => (t as u64) * 4294967296 + (w as u64),
@@ -116,7 +112,7 @@ pub extern "C" fn metzurgo_write_route(
         index: RouteIndex(index),
         entry: entry,
     };
-    let answer = frames::put_route(buf, request);
+    let answer = tracing::put_route(buf, request);
     match answer {
         RouteWrite::Refused(r) => packing::refusal(r),
         RouteWrite::Written => 40,
@@ -128,7 +124,7 @@ pub extern "C" fn metzurgo_write_route(
 pub extern "C" fn metzurgo_read_route(frame: &[u8]) -> u64
     ensures { λ r. ⌜ r ≡ packed route (routeRead (now (frame .entry))) ⌝ }
 {
-    let answer = frames::read_route(frame);
+    let answer = tracing::read_route(frame);
     match answer {
         RouteRead::Refused(r) => packing::refusal(r),
         RouteRead::Read(q) => packing::request(q),
@@ -140,7 +136,7 @@ pub extern "C" fn metzurgo_read_route(frame: &[u8]) -> u64
 pub extern "C" fn metzurgo_read_route_entry(frame: &[u8]) -> u64
     ensures { λ r. ⌜ r ≡ routeEntry (routeRead (now (frame .entry))) ⌝ }
 {
-    let answer = frames::read_route(frame);
+    let answer = tracing::read_route(frame);
     match answer {
         RouteRead::Refused(_) => 0,
         RouteRead::Read(q) => q.entry,
@@ -152,7 +148,7 @@ pub extern "C" fn metzurgo_read_route_entry(frame: &[u8]) -> u64
 pub extern "C" fn metzurgo_read_general(frame: &[u8]) -> u64
     ensures { λ r. ⌜ r ≡ packed general (generalRead (now (frame .entry))) ⌝ }
 {
-    let answer = frames::read_general(frame);
+    let answer = tracing::read_general(frame);
     match answer {
         GeneralRead::Refused(r) => packing::refusal(r),
         GeneralRead::Read(g) => packing::report(g),
@@ -165,7 +161,7 @@ pub extern "C" fn metzurgo_read_general(frame: &[u8]) -> u64
 pub extern "C" fn metzurgo_read_general_sas2(frame: &[u8]) -> u64
     ensures { λ r. ⌜ r ≡ packed generalSas2 (generalReadSas2 (now (frame .entry))) ⌝ }
 {
-    let answer = frames::read_general_sas2(frame);
+    let answer = tracing::read_general_sas2(frame);
     match answer {
         GeneralReadSas2::Refused(r) => packing::refusal(r),
         GeneralReadSas2::Short(g) => packing::report(g),
@@ -179,7 +175,7 @@ pub extern "C" fn metzurgo_read_general_sas2(frame: &[u8]) -> u64
 pub extern "C" fn metzurgo_read_discover(frame: &[u8]) -> u64
     ensures { λ r. ⌜ r ≡ packed discovered (discoverRead (now (frame .entry))) ⌝ }
 {
-    let answer = frames::read_discover(frame);
+    let answer = tracing::read_discover(frame);
     match answer {
         DiscoverRead::Refused(r) => packing::refusal(r),
         DiscoverRead::Vacant(result) => 4611686018427387904 + (result as u64),
@@ -192,7 +188,7 @@ pub extern "C" fn metzurgo_read_discover(frame: &[u8]) -> u64
 pub extern "C" fn metzurgo_discover_own(frame: &[u8]) -> u64
     ensures { λ r. ⌜ r ≡ ownAddress (discoverRead (now (frame .entry))) ⌝ }
 {
-    let answer = frames::read_discover(frame);
+    let answer = tracing::read_discover(frame);
     match answer {
         DiscoverRead::Refused(_) => 0,
         DiscoverRead::Vacant(_) => 0,
@@ -205,7 +201,7 @@ pub extern "C" fn metzurgo_discover_own(frame: &[u8]) -> u64
 pub extern "C" fn metzurgo_discover_attached(frame: &[u8]) -> u64
     ensures { λ r. ⌜ r ≡ attachedAddress (discoverRead (now (frame .entry))) ⌝ }
 {
-    let answer = frames::read_discover(frame);
+    let answer = tracing::read_discover(frame);
     match answer {
         DiscoverRead::Refused(_) => 0,
         DiscoverRead::Vacant(_) => 0,

@@ -1,12 +1,12 @@
 // Settings and answers packed into one number.
-use frames::Discover;
-use frames::General;
-use frames::LongGeneral;
-use frames::Refusal;
-use frames::Route;
+use tracing::Discover;
 use tracing::End;
+use tracing::General;
+use tracing::LongGeneral;
 use tracing::Outcome;
-use wiring::Setting;
+use tracing::Refusal;
+use tracing::Route;
+use tracing::Setting;
 ghost use mathlib.Core.Path.{_≡_};
 ghost use Prim.Native.Nat.{_≤_, _<_, _^_};
 ghost use Rattle.exports.specs.Packing.{settingOf, packRefusal, packEnd, packOutcome, packFields, packLong, general, route};

@@ -1,5 +1,8 @@
 -- What the layers above use of wiring and frames.
 pub use Rattle.wiring.specs.Frames.{byte, Refusal, Result, refused, good, unless, then, refusal, Exactly}
+pub use Rattle.wiring.specs.Frames.{General, LongGeneral, Discover, Route, generalRead, generalAnswer, GeneralSas2, short, long, generalReadSas2, sas2Answer}
+pub use Rattle.wiring.specs.Frames.{Discovered, vacant, fields, discoverRead, discoverAnswer}
+pub use Rattle.wiring.specs.Frames.{routeWritten, writeAnswer, bufferAfter, routeRead, routeAnswer}
 pub use Rattle.wiring.specs.declared.Phy.{Phy}
 pub use Rattle.wiring.specs.declared.Phy.the-variants.{Vacant, Present}
 pub use Rattle.wiring.specs.declared.Check.the-variants.{Refused}
@@ -11,6 +14,7 @@ pub use Rattle.wiring.specs.Domain.{attached, toEnd, toExpander, bears}
 unfoldable pub use Rattle.wiring.specs.Domain.{numberOf}
 pub use Rattle.wiring.specs.declared.Setting.{Setting}
 pub use Rattle.wiring.specs.Settings.{InRange, widest, NoSmaller}
+unfoldable pub use Rattle.wiring.specs.Settings.{inRange}
 pub use Rattle.wiring.specs.File.{domainRead}
 pub use Rattle.wiring.specs.Read.{Read}
 pub use Rattle.wiring.specs.ShortFile.{shortFile}
@@ -20,5 +24,5 @@ unfoldable pub use Rattle.wiring.specs.Causes.{phyPlaces, placesFrom}
 pub use Rattle.wiring.specs.Checks.{checkAnswer, FileRoom}
 pub use Rattle.wiring.specs.Addresses.{IndexedFirst, IndexRoom}
 pub use Rattle.wiring.specs.Graph.{Steps, self}
-pub use Rattle.wiring.specs.Neighbours.{neighbours, wiringCall}
+pub use Rattle.wiring.specs.Neighbours.{neighbours, wiringCall, wiringAnswer, bitsOf, wordsAfter}
 pub use Rattle.wiring.specs.Devices.{LoopIn, ChainIn, TableToTable, Clear, ClearChain, NoTableToTable, Home, Borne}

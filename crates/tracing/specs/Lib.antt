@@ -1,3 +1,4 @@
+pub mod Tables
 pub mod Steps
 pub mod Trace
 pub mod Answers

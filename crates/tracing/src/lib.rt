@@ -6,9 +6,33 @@ mod stretches;
 mod walks;
 
 pub use calls::trace;
-use tables::ExpanderNumber;
-use tables::PhyId;
-use tables::Refusal;
+
+// What the layer above uses of the layers below.
+pub use tables::Discover;
+pub use tables::DiscoverRead;
+pub use tables::ExpanderNumber;
+pub use tables::General;
+pub use tables::GeneralRead;
+pub use tables::GeneralReadSas2;
+pub use tables::Judgement;
+pub use tables::LongGeneral;
+pub use tables::PhyId;
+pub use tables::Refusal;
+pub use tables::Route;
+pub use tables::RouteIndex;
+pub use tables::RouteRead;
+pub use tables::RouteWrite;
+pub use tables::Setting;
+pub use tables::TablesGiven;
+pub use tables::Wiring;
+pub use tables::give_tables;
+pub use tables::judge;
+pub use tables::put_route;
+pub use tables::read_discover;
+pub use tables::read_general;
+pub use tables::read_general_sas2;
+pub use tables::read_route;
+pub use tables::wire;
 
 // What an expander does with a request: arrived here; arrived at the end device of a phy; BAD
 // DESTINATION; NO DESTINATION; on to an expander with its arrival phy.

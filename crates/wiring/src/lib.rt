@@ -34,10 +34,24 @@ pub use view::phy_type;
 pub use wiring_call::wire;
 
 // What the layers above use of frames.
+pub use frames::Discover;
+pub use frames::DiscoverRead;
 pub use frames::ExpanderNumber;
+pub use frames::General;
+pub use frames::GeneralRead;
+pub use frames::GeneralReadSas2;
+pub use frames::LongGeneral;
 pub use frames::PhyId;
 pub use frames::Refusal;
+pub use frames::Route;
 pub use frames::RouteIndex;
+pub use frames::RouteRead;
+pub use frames::RouteWrite;
+pub use frames::put_route;
+pub use frames::read_discover;
+pub use frames::read_general;
+pub use frames::read_general_sas2;
+pub use frames::read_route;
 
 // A course's setting: the most expanders of a domain, the most phys of an expander, and the longest chain
 // in expanders.

@@ -1,7 +1,7 @@
 use mathlib.Core.Path.{sym, _∙_, ap}
 use borrow.Author.Needs.{needs}
 use Rattle.exports.specs.Packing.{packed, number}
-use Rattle.tables.specs.Judge.{judgeAnswer}
+use Rattle.tracing.specs.Tables.{judgeAnswer}
 use Rattle.exports.proofs.metzurgo_judge.Statement.{statement}
 use Rattle.exports.proofs.metzurgo_judge.Tie as tie
 

@@ -1,7 +1,7 @@
 use mathlib.Core.Path.{sym, _∙_, ap}
 use borrow.Author.Needs.{needs}
 use Rattle.exports.specs.Packing.{routeEntry}
-use Rattle.frames.specs.ConfigureRoute.{routeAnswer}
+use Rattle.tracing.specs.Tables.{routeAnswer}
 use Rattle.exports.proofs.metzurgo_read_route_entry.Statement.{statement}
 use Rattle.exports.proofs.metzurgo_read_route_entry.Tie as tie
 

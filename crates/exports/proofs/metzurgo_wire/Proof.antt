@@ -1,7 +1,7 @@
 use mathlib.Core.Path.{sym, _∙_, ap}
 use borrow.Author.Needs.{needs}
 use Rattle.exports.specs.Packing.{packed, number}
-use Rattle.wiring.specs.Neighbours.{wiringAnswer}
+use Rattle.tracing.specs.Tables.{wiringAnswer}
 use Rattle.exports.proofs.metzurgo_wire.Statement.{statement}
 use Rattle.exports.proofs.metzurgo_wire.Tie as tie
 
