@@ -31,9 +31,10 @@ words = 12 ∷ 3 ∷ 0 ∷ 0 ∷ 0 ∷ 0 ∷ []
 abbrev Ends : Request → Outcome → ℕ → ℕ → List ℕ → Type 0
 Ends q outcome last phy passed = traced row words q ≡ record { outcome = outcome; last = last; phy = phy; passed = passed }
 
--- it is accepted where a chain may have three expanders; the levels of the first's table phy end before the third, whose address is entered, and its drive's is not; the two table
--- phys that are cabled together have empty lists. Over these tables the third expander is reached across the cable from the first, as its
--- address is entered there. Its drive, though a chain leads to it, is not; nor is anything from it. Requests that do not cross end as in the mission
+-- it is accepted where a chain may have three expanders; the levels of the first's table phy end before the third, whose address is
+-- entered, and its drive's is not; the two table phys that are cabled together have empty lists. Over these tables the third expander is
+-- reached across the cable from the first, as its address is entered there. Its drive, though a chain leads to it, is not, nor is the first
+-- expander from the third. Requests that do not cross end as in the mission
 pub crossed : (judgedDomain 3 row ≡ good row)
     × ((levels row 0 0 ≡ 1 ∷ []) × ((levelList row 0 0 ≡ 12 ∷ 3 ∷ []) × ((levelList row 1 2 ≡ []) × ((levelList row 2 0 ≡ [])
     × ((tables row ≡ words)
