@@ -517,12 +517,17 @@ impl Domain {
 
     /// The neighbours of each expander.
     pub fn neighbours(&self) -> BTreeMap<u8, BTreeSet<u8>> {
+        self.neighbours_over(|_| true)
+    }
+
+    /// The neighbours of each expander over phys of one kind.
+    fn neighbours_over(&self, over: impl Fn(&Phy) -> bool) -> BTreeMap<u8, BTreeSet<u8>> {
         let mut neighbours: BTreeMap<u8, BTreeSet<u8>> = self
             .expanders
             .keys()
             .map(|&number| (number, BTreeSet::new()))
             .collect();
-        for (place, _, phy) in self.phys() {
+        for (place, _, phy) in self.phys().filter(|(_, _, phy)| over(phy)) {
             if let Some((far, _)) = self.far_end(phy) {
                 neighbours.entry(place.0).or_default().insert(far);
                 neighbours.entry(far).or_default().insert(place.0);
@@ -584,18 +589,7 @@ impl Domain {
     /// For each expander the lowest of those that a chain joins to it which crosses
     /// no table-to-table link, itself included.
     fn parts(&self) -> BTreeMap<u8, u8> {
-        let mut clear: BTreeMap<u8, BTreeSet<u8>> = self
-            .expanders
-            .keys()
-            .map(|&number| (number, BTreeSet::new()))
-            .collect();
-        for (place, _, phy) in self.phys() {
-            if let Some((far, _)) = self.far_end(phy) {
-                if !self.is_table_to_table(phy) {
-                    clear.entry(place.0).or_default().insert(far);
-                }
-            }
-        }
+        let clear = self.neighbours_over(|phy| !self.is_table_to_table(phy));
         let mut parts = BTreeMap::new();
         for &number in self.expanders.keys() {
             let mut reached = HashSet::new();
