@@ -1,10 +1,13 @@
 -- Settings and answers of the C interface, each packed into one number.
 use Prim.Native.Nat.{ℕ, _+_, _*_, _/_, _%_, _^_}
-use mathlib.Core.Bool.{cond}
+use mathlib.Core.Bool.{cond, not}
 use mathlib.Core.List.{List}
-use lib.Dec.{leb}
-use Rattle.tracing.specs.Tables.{Result, refused, good, GeneralSas2, short, long, Discovered, vacant, fields, Refusal, General, LongGeneral, Discover, Route, Setting, Counted}
+use lib.Dec.{eqb, leb}
+use Rattle.tracing.specs.Tables.{Result, refused, good, GeneralSas2, short, long, Discovered, vacant, fields, Refusal, General, LongGeneral, Discover, Route, Setting, Counted, Entry}
 use Rattle.tracing.specs.Trace.{Reported}
+use Rattle.tracing.specs.Steps.{Step, here, endDevice, bad, lost, onward}
+use Rattle.tracing.specs.Reasons.{StepTold}
+use Rattle.tracing.specs.declared.Reason.{Reason}
 use Rattle.tracing.specs.declared.Outcome.{Outcome}
 use Rattle.tracing.specs.declared.Outcome.the-variants.{Arrived, NoDestination, BadDestination}
 
@@ -23,6 +26,14 @@ module _ {A : Type 0} where
   abbrev pub packed : (A → ℕ) → Result A → ℕ
   packed f (refused r) = packRefusal r
   packed f (good a) = f a
+
+-- the version of the interface: major, minor and patch
+abbrev pub version : ℕ
+version = 0 * 2 ^ 16 + 1 * 2 ^ 8 + 0
+
+-- an entry of a table: expander, phy, route index
+abbrev pub entryPacked : Entry → ℕ
+entryPacked e = e .expander .0 * 2 ^ 24 + e .phy .0 * 2 ^ 16 + e .index .0
 
 -- a number as it is
 abbrev pub number : ℕ → ℕ
@@ -44,18 +55,47 @@ packEnd o last phy count = packOutcome o * 2 ^ 24 + last * 2 ^ 16 + phy * 2 ^ 8 
 abbrev pub endPacked : Reported → ℕ
 endPacked t = packEnd (t .outcome) (t .last) (t .phy) (t .count)
 
+-- 1 for BAD DESTINATION
+abbrev pub packBad : Step → ℕ
+packBad here = 0
+packBad (endDevice p) = 0
+packBad bad = 1
+packBad lost = 0
+packBad (onward j q) = 0
+
+-- the expander that a step goes on to and its arrival phy, a byte each; 255 where it goes no further
+abbrev pub packNext : Step → ℕ
+packNext here = 255 * 2 ^ 8 + 255
+packNext (endDevice p) = 255 * 2 ^ 8 + 255
+packNext bad = 255 * 2 ^ 8 + 255
+packNext lost = 255 * 2 ^ 8 + 255
+packNext (onward j q) = j * 2 ^ 8 + q
+
+-- rule, phy picked and route index that matched
+abbrev pub packReason : Reason → ℕ
+packReason r = r .rule * 2 ^ 40 + r .phy .0 * 2 ^ 32 + r .index .0 * 2 ^ 16
+
+-- a step and its reason
+abbrev pub stepPacked : StepTold → ℕ
+stepPacked t = packBad (t .step) * 2 ^ 48 + packReason (t .reason) + packNext (t .step)
+
 -- the bytes of a request
 abbrev pub forty : List ℕ → ℕ
 forty frame = 40
 
--- REQUEST LENGTH, phy and route index
-abbrev pub route : Route → ℕ
-route q = q .length * 2 ^ 24 + q .phy .0 * 2 ^ 16 + q .index .0
+-- a request as it is told: its entry is disabled where the last number is not 0
+abbrev pub routeTold : ℕ → ℕ → ℕ → ℕ → ℕ → Route
+routeTold length phy index address disabled =
+    record { length = length; phy = record { 0 = phy }; index = record { 0 = index }; address = address; disabled = not (eqb disabled 0) }
 
--- the entry, and 0 where refused
-abbrev pub routeEntry : Result Route → ℕ
-routeEntry (refused r) = 0
-routeEntry (good q) = q .entry
+-- whether disabled, REQUEST LENGTH, phy and route index
+abbrev pub route : Route → ℕ
+route q = cond (q .disabled) 1 0 * 2 ^ 32 + q .length * 2 ^ 24 + q .phy .0 * 2 ^ 16 + q .index .0
+
+-- the address, disabled or not, and 0 where refused
+abbrev pub routeAddress : Result Route → ℕ
+routeAddress (refused r) = 0
+routeAddress (good q) = q .address
 
 -- R, number of phys, configurable bit
 abbrev pub general : General → ℕ

@@ -12,20 +12,32 @@ use tracing::Route;
 use tracing::RouteIndex;
 use tracing::RouteRead;
 use tracing::RouteWrite;
+use tracing::StepAnswer;
 use tracing::TablesGiven;
 use tracing::TraceAnswer;
 use tracing::Wiring;
+use tracing::WordPlace;
 ghost use mathlib.Core.Path.{_≡_};
 ghost use lib.ListN.{length};
 ghost use Rattle.tracing.specs.Tables.{then, generalRead, generalReadSas2, discoverRead, routeWritten, routeRead, bufferAfter};
-ghost use Rattle.tracing.specs.Tables.{wiringCall, bitsOf, wordsAfter, judged, expandersIn, tableCall, countsIn, tablesAfter};
+ghost use Rattle.tracing.specs.Tables.{Entries, entries, roomOf};
+ghost use Rattle.tracing.specs.Tables.{wiringCall, bitsSet, wordsAfter, judged, expandersIn, tableCall, countsIn, tablesAfter, wordPlace};
+ghost use Rattle.tracing.specs.Reasons.{stepCall};
 ghost use Rattle.tracing.specs.Trace.{request, traceCall, report, bytesAfter};
-ghost use Rattle.exports.specs.Packing.{settingOf, packed, number, counts, endPacked, forty, general, generalSas2, discovered, ownAddress, attachedAddress, route, routeEntry};
+ghost use Rattle.exports.specs.Packing.{version, settingOf, packed, number, counts, entryPacked, endPacked, stepPacked, forty, general, generalSas2, discovered, ownAddress, attachedAddress, route, routeTold, routeAddress};
+
+// The version of this interface.
+#[no_mangle]
+pub extern "C" fn metzurgo_version() -> u64
+    ensures { λ r. ⌜ r ≡ version ⌝ }
+{
+    256
+}
 
 // The wiring call: how many bits are set in all.
 #[no_mangle]
 pub extern "C" fn metzurgo_wire(setting: u32, file: &[u8], words: &mut [u64]) -> u64
-    ensures { λ r. ⌜ (r ≡ packed number (then (wiringCall (settingOf setting) (now (file .entry)) (length (now (words .entry)))) bitsOf))
+    ensures { λ r. ⌜ (r ≡ packed number (then (wiringCall (settingOf setting) (now (file .entry)) (length (now (words .entry)))) bitsSet))
         × (now (words .exit) ≡ wordsAfter (wiringCall (settingOf setting) (now (file .entry)) (length (now (words .entry)))) (now (words .entry))) ⌝ }
 {
     let course = packing::setting(setting);
@@ -51,15 +63,46 @@ pub extern "C" fn metzurgo_judge(setting: u32, file: &[u8]) -> u64
 
 // The table call: the number of tables, times 2 to the power 32, and the number of words.
 #[no_mangle]
-pub extern "C" fn metzurgo_tables(setting: u32, file: &[u8], words: &mut [u64]) -> u64
-    ensures { λ r. ⌜ (r ≡ packed counts (then (tableCall (settingOf setting) (now (file .entry)) (length (now (words .entry)))) countsIn))
-        × (now (words .exit) ≡ tablesAfter (tableCall (settingOf setting) (now (file .entry)) (length (now (words .entry)))) (now (words .entry))) ⌝ }
+pub extern "C" fn metzurgo_tables(
+    setting: u32,
+    file: &[u8],
+    words: &mut [u64],
+    bits: &mut [u8],
+) -> u64
+    ensures { λ r. ⌜ (r ≡ packed counts (then (tableCall (settingOf setting) (now (file .entry)) (roomOf (entries (now (words .entry)) (now (bits .entry))))) countsIn))
+        × (entries (now (words .exit)) (now (bits .exit)) ≡ tablesAfter (tableCall (settingOf setting) (now (file .entry)) (roomOf (entries (now (words .entry)) (now (bits .entry))))) (entries (now (words .entry)) (now (bits .entry)))) ⌝ }
 {
     let course = packing::setting(setting);
-    let answer = tracing::give_tables(course, file, words);
+    let answer = tracing::give_tables(course, file, words, bits);
     match answer {
         TablesGiven::Refused(r) => packing::refusal(r),
-        TablesGiven::Counts(t, w) => (t as u64) * 4294967296 + (w as u64),
+        TablesGiven::Counts(t, w) => packing::table_counts(t, w),
+    }
+}
+
+// How many tables and words a file needs: the number of tables, times 2 to the power 32, and the number of words.
+#[no_mangle]
+pub extern "C" fn metzurgo_needed(setting: u32, file: &[u8]) -> u64
+    ensures { λ r. ⌜ r ≡ packed counts (then (judged (settingOf setting) (now (file .entry))) countsIn) ⌝ }
+{
+    let course = packing::setting(setting);
+    let answer = tracing::needed(course, file);
+    match answer {
+        TablesGiven::Refused(r) => packing::refusal(r),
+        TablesGiven::Counts(t, w) => packing::table_counts(t, w),
+    }
+}
+
+// The entry that table word k is: expander, phy and route index; 15 where there is no word k.
+#[no_mangle]
+pub extern "C" fn metzurgo_word_place(setting: u32, file: &[u8], k: u64) -> u64
+    ensures { λ r. ⌜ r ≡ packed entryPacked (then (judged (settingOf setting) (now (file .entry))) (wordPlace k)) ⌝ }
+{
+    let course = packing::setting(setting);
+    let answer = tracing::word_place(course, file, k);
+    match answer {
+        WordPlace::Refused(r) => packing::refusal(r),
+        WordPlace::At(e) => packing::entry(e),
     }
 }
 
@@ -69,19 +112,21 @@ pub extern "C" fn metzurgo_trace(
     setting: u32,
     file: &[u8],
     words: &[u64],
+    bits: &[u8],
     start: u8,
     arrival: u8,
     address: u64,
     passed: &mut [u8],
 ) -> u64
-    ensures { λ r. ⌜ (r ≡ packed endPacked (then (traceCall (settingOf setting) (now (file .entry)) (now (words .entry)) (length (now (passed .entry))) (request start arrival address)) report))
-        × (now (passed .exit) ≡ bytesAfter (traceCall (settingOf setting) (now (file .entry)) (now (words .entry)) (length (now (passed .entry))) (request start arrival address)) (now (passed .entry))) ⌝ }
+    ensures { λ r. ⌜ (r ≡ packed endPacked (then (traceCall (settingOf setting) (now (file .entry)) (entries (now (words .entry)) (now (bits .entry))) (length (now (passed .entry))) (request start arrival address)) report))
+        × (now (passed .exit) ≡ bytesAfter (traceCall (settingOf setting) (now (file .entry)) (entries (now (words .entry)) (now (bits .entry))) (length (now (passed .entry))) (request start arrival address)) (now (passed .entry))) ⌝ }
 {
     let course = packing::setting(setting);
     let answer = tracing::trace(
         course,
         file,
         words,
+        bits,
         ExpanderNumber(start),
         PhyId(arrival),
         address,
@@ -93,24 +138,56 @@ pub extern "C" fn metzurgo_trace(
     }
 }
 
+// The step of one expander and its reason: BAD DESTINATION, rule, phy picked, route index that matched, next expander and
+// next arrival phy.
+#[no_mangle]
+pub extern "C" fn metzurgo_step(
+    setting: u32,
+    file: &[u8],
+    words: &[u64],
+    bits: &[u8],
+    expander: u8,
+    arrival: u8,
+    address: u64,
+) -> u64
+    ensures { λ r. ⌜ r ≡ packed stepPacked (stepCall (settingOf setting) (now (file .entry)) (entries (now (words .entry)) (now (bits .entry))) (request expander arrival address)) ⌝ }
+{
+    let course = packing::setting(setting);
+    let answer = tracing::explain_step(
+        course,
+        file,
+        words,
+        bits,
+        ExpanderNumber(expander),
+        PhyId(arrival),
+        address,
+    );
+    match answer {
+        StepAnswer::Refused(r) => packing::refusal(r),
+        StepAnswer::Told(r, s) => packing::step(r, s),
+    }
+}
+
 // Writes one CONFIGURE ROUTE INFORMATION request that states this REQUEST LENGTH, and answers how many
-// bytes it has, 40.
+// bytes it has, 40. The entry is disabled where `disabled` is not 0; its address is kept either way.
 #[no_mangle]
 pub extern "C" fn metzurgo_write_route(
     buf: &mut [u8],
     stated: u8,
     phy: u8,
     index: u16,
-    entry: u64,
+    address: u64,
+    disabled: u8,
 ) -> u64
-    ensures { λ r. ⌜ (r ≡ packed forty (routeWritten (length (now (buf .entry))) (record { length = stated; phy = record { 0 = phy }; index = record { 0 = index }; entry = entry })))
-        × (now (buf .exit) ≡ bufferAfter (now (buf .entry)) (routeWritten (length (now (buf .entry))) (record { length = stated; phy = record { 0 = phy }; index = record { 0 = index }; entry = entry }))) ⌝ }
+    ensures { λ r. ⌜ (r ≡ packed forty (routeWritten (length (now (buf .entry))) (routeTold stated phy index address disabled)))
+        × (now (buf .exit) ≡ bufferAfter (now (buf .entry)) (routeWritten (length (now (buf .entry))) (routeTold stated phy index address disabled))) ⌝ }
 {
     let request = Route {
         length: stated,
         phy: PhyId(phy),
         index: RouteIndex(index),
-        entry: entry,
+        address: address,
+        disabled: disabled != 0,
     };
     let answer = tracing::put_route(buf, request);
     match answer {
@@ -119,7 +196,7 @@ pub extern "C" fn metzurgo_write_route(
     }
 }
 
-// Reads one CONFIGURE ROUTE INFORMATION request: REQUEST LENGTH, phy and route index.
+// Reads one CONFIGURE ROUTE INFORMATION request: whether its entry is disabled, REQUEST LENGTH, phy and route index.
 #[no_mangle]
 pub extern "C" fn metzurgo_read_route(frame: &[u8]) -> u64
     ensures { λ r. ⌜ r ≡ packed route (routeRead (now (frame .entry))) ⌝ }
@@ -131,15 +208,15 @@ pub extern "C" fn metzurgo_read_route(frame: &[u8]) -> u64
     }
 }
 
-// The entry of one CONFIGURE ROUTE INFORMATION request, and 0 where it is refused.
+// The address of one CONFIGURE ROUTE INFORMATION request, disabled or not, and 0 where it is refused.
 #[no_mangle]
-pub extern "C" fn metzurgo_read_route_entry(frame: &[u8]) -> u64
-    ensures { λ r. ⌜ r ≡ routeEntry (routeRead (now (frame .entry))) ⌝ }
+pub extern "C" fn metzurgo_read_route_address(frame: &[u8]) -> u64
+    ensures { λ r. ⌜ r ≡ routeAddress (routeRead (now (frame .entry))) ⌝ }
 {
     let answer = tracing::read_route(frame);
     match answer {
         RouteRead::Refused(_) => 0,
-        RouteRead::Read(q) => q.entry,
+        RouteRead::Read(q) => q.address,
     }
 }
 

@@ -1,15 +1,19 @@
 // Settings and answers packed into one number.
 use tracing::Discover;
 use tracing::End;
+use tracing::Entry;
 use tracing::General;
 use tracing::LongGeneral;
 use tracing::Outcome;
+use tracing::Reason;
 use tracing::Refusal;
 use tracing::Route;
 use tracing::Setting;
+use tracing::Step;
 ghost use mathlib.Core.Path.{_≡_};
 ghost use Prim.Native.Nat.{_≤_, _<_, _^_};
-ghost use Rattle.exports.specs.Packing.{settingOf, packRefusal, packEnd, packOutcome, packFields, packLong, general, route};
+ghost use Rattle.tracing.specs.Answers.{stepAnswer};
+ghost use Rattle.exports.specs.Packing.{settingOf, packRefusal, packEnd, packOutcome, packBad, packNext, packReason, stepPacked, counts, entryPacked, packFields, packLong, general, route};
 
 // A setting: most expanders, most phys and longest chain, a byte each. A bit above these 24 makes one
 // outside its range.
@@ -56,6 +60,60 @@ pub(crate) fn end(e: End) -> u64
     outcome(o) * 16777216 + (e.last.0 as u64) * 65536 + (e.phy.0 as u64) * 256 + (e.count as u64)
 }
 
+// How many tables and words there are: the number of tables, times 2 to the power 32, and the number of words.
+pub(crate) fn table_counts(tables: u32, words: u32) -> u64
+    ensures { λ n. ⌜ n ≡ counts (record { tableCount = tables; wordCount = words }) ⌝ }
+{
+    (tables as u64) * 4294967296 + (words as u64)
+}
+
+// An entry of a table: expander, phy and route index.
+pub(crate) fn entry(e: Entry) -> u64
+    ensures { λ n. ⌜ n ≡ entryPacked e ⌝ }
+{
+    (e.expander.0 as u64) * 16777216 + (e.phy.0 as u64) * 65536 + (e.index.0 as u64)
+}
+
+// 1 for BAD DESTINATION.
+fn is_bad(s: Step) -> u64
+    ensures { λ n. ⌜ (n ≡ packBad (stepAnswer s)) × (n ≤ 1) ⌝ }
+{
+    match s {
+        Step::Here => 0,
+        Step::EndDevice(_) => 0,
+        Step::Bad => 1,
+        Step::Lost => 0,
+        Step::Onward(_, _) => 0,
+    }
+}
+
+// The expander that a step goes on to and its arrival phy, a byte each; 255 where it goes no further.
+fn next(s: Step) -> u64
+    ensures { λ n. ⌜ (n ≡ packNext (stepAnswer s)) × (n < 65536) ⌝ }
+{
+    match s {
+        Step::Here => 65535,
+        Step::EndDevice(_) => 65535,
+        Step::Bad => 65535,
+        Step::Lost => 65535,
+        Step::Onward(j, q) => (j.0 as u64) * 256 + (q.0 as u64),
+    }
+}
+
+// A rule, the phy picked, and the route index that matched.
+fn reason(r: Reason) -> u64
+    ensures { λ n. ⌜ (n ≡ packReason r) × (n < 2 ^ 48) ⌝ }
+{
+    (r.rule as u64) * 1099511627776 + (r.phy.0 as u64) * 4294967296 + (r.index.0 as u64) * 65536
+}
+
+// A step and its reason.
+pub(crate) fn step(r: Reason, s: Step) -> u64
+    ensures { λ n. ⌜ n ≡ stepPacked (record { reason = r; step = stepAnswer s }) ⌝ }
+{
+    is_bad(s) * 281474976710656 + reason(r) + next(s)
+}
+
 // The fields of a REPORT GENERAL response.
 pub(crate) fn report(g: General) -> u64
     ensures { λ n. ⌜ (n ≡ general g) × (n < 2 ^ 32) ⌝ }
@@ -80,9 +138,13 @@ pub(crate) fn discover(d: Discover) -> u64
         + (d.far.0 as u64)
 }
 
-// A CONFIGURE ROUTE INFORMATION request, without its entry.
+// A CONFIGURE ROUTE INFORMATION request, without its address.
 pub(crate) fn request(q: Route) -> u64
     ensures { λ n. ⌜ n ≡ route q ⌝ }
 {
-    (q.length as u64) * 16777216 + (q.phy.0 as u64) * 65536 + (q.index.0 as u64)
+    let fields = (q.length as u64) * 16777216 + (q.phy.0 as u64) * 65536 + (q.index.0 as u64);
+    if q.disabled {
+        return 4294967296 + fields;
+    }
+    fields
 }

@@ -5,7 +5,7 @@ use mathlib.Core.Bool.{Bool, true, false, cond}
 use mathlib.Core.List.{List}
 use native.Mathlib.Omega.{arith}
 use lib.Dec.{eqb, leb}
-use borrow.Author.Tests.{le-leb, eqb-true, leb-true}
+use borrow.Author.Tests.{le-leb, leb-true}
 use Rattle.frames.specs.Bytes.{numberAt, bytesOf}
 use Rattle.frames.specs.Refusals.{Result, good, unless, refusal}
 use Rattle.frames.specs.ConfigureRoute.{isLength, routeFrame, routeWritten, partAfter, routeAnswer, routeFixed, routeRead}
@@ -38,20 +38,20 @@ pub record Allowed (q : Route) : Type 0 where
   pub length : isLength (q .length) ≡ true
   pub phy : q .phy .0 ≤ 127
   pub index : q .index .0 < 2 ^ 16
-  pub entry : q .entry < 2 ^ 64
+  pub address : q .address < 2 ^ 64
 
--- the entry is 0 where the disable bit is set, and the eight bytes otherwise
-entry-back : (entry e : ℕ) → e ≡ entry → (b : Bool) → eqb entry 0 ≡ b → cond (eqb (cond b 128 0 / 2 ^ 7 % 2 ^ 1) 1) 0 e ≡ entry
-entry-back entry e q true t = sym (eqb-true entry 0 t)
-entry-back entry e q false t = q
+-- bit 7 of byte 12 says whether the entry is disabled
+disabled-back : (b : Bool) → eqb (cond b 128 0 / 2 ^ 7 % 2 ^ 1) 1 ≡ b
+disabled-back true = refl
+disabled-back false = refl
 
 -- reading a written request yields it
 pub round-trip : (q : Route) → Allowed q → routeRead (routeFrame q) ≡ good q
 unfolding routeRead routeFixed routeFrame numberAt bytesOf
 round-trip q a =
     let i : numberAt (bytesOf 2 (q .index .0)) 0 2 ≡ q .index .0 = number-back 2 (q .index .0) (a .index) in
-    let e : numberAt (bytesOf 8 (q .entry)) 0 8 ≡ q .entry = number-back 8 (q .entry) (a .entry) in
-    simp (a .length, le-leb (q .phy .0) 127 (a .phy), i, entry-back (q .entry) _ e (eqb (q .entry) 0) refl)
+    let e : numberAt (bytesOf 8 (q .address)) 0 8 ≡ q .address = number-back 8 (q .address) (a .address) in
+    simp (a .length, le-leb (q .phy .0) 127 (a .phy), i, e, disabled-back (q .disabled))
 
 -- two different requests never give equal frames
 pub frames-differ : (q r : Route) → Allowed q → Allowed r → routeFrame q ≡ routeFrame r → q ≡ r

@@ -1,8 +1,10 @@
 -- Single frames, worked by hand from the layouts: the definitions yield what they should.
 use Prim.Native.Nat.{ℕ}
 use mathlib.Core.Path.{_≡_, refl}
+use mathlib.Core.Bool.{Bool, true, false}
 use mathlib.Core.List.{List, [], _∷_, _++_}
 use lib.ListN.{take, replicate, set}
+use Rattle.frames.specs.Bits.{numberBits, field, bitsOf, packedIn, marked}
 use Rattle.frames.specs.Bytes.{numberAt, bytesOf}
 use Rattle.frames.specs.Refusals.{refused, good, refusal}
 use Rattle.frames.specs.Sizes.{frameSize}
@@ -13,44 +15,50 @@ use Rattle.frames.specs.declared.General.{General}
 use Rattle.frames.specs.declared.Route.{Route}
 
 -- phy 5, route index 258
-abbrev request : ℕ → ℕ → Route
-request length entry = record { length = length; phy = record { 0 = 5 }; index = record { 0 = 258 }; entry = entry }
+abbrev request : ℕ → ℕ → Bool → Route
+request length address disabled = record { length = length; phy = record { 0 = 5 }; index = record { 0 = 258 }; address = address; disabled = disabled }
 
 -- its bytes up to byte 11
 abbrev front : ℕ → List ℕ
 front length = 0x40 ∷ 0x90 ∷ 0 ∷ length ∷ 0 ∷ 0 ∷ 1 ∷ 2 ∷ 0 ∷ 5 ∷ 0 ∷ 0 ∷ []
 
-enabled : ℕ → List ℕ
-enabled length = front length ++ (0x00 ∷ 0 ∷ 0 ∷ 0 ∷ 0x50 ∷ 0 ∷ 0 ∷ 0 ∷ 0 ∷ 0 ∷ 0 ∷ 0xb1 ∷ replicate 16 0)
+-- byte 12, and address 50000000000000b1h
+told : ℕ → ℕ → List ℕ
+told length disable = front length ++ (disable ∷ 0 ∷ 0 ∷ 0 ∷ 0x50 ∷ 0 ∷ 0 ∷ 0 ∷ 0 ∷ 0 ∷ 0 ∷ 0xb1 ∷ replicate 16 0)
 
-disabled : List ℕ
-disabled = front 0 ++ (0x80 ∷ replicate 27 0)
+-- a disabled entry keeps its address, and address 0 with a clear bit is written as told; 2 before 15 before 16
+writes : (routeFrame (request 0x00 0x50000000000000b1 false) ≡ told 0x00 0x00)
+    × ((routeFrame (request 0x00 0x50000000000000b1 true) ≡ told 0x00 0x80)
+    × ((routeFrame (request 0x00 0 false) ≡ front 0x00 ++ replicate 28 0)
+    × ((routeWritten 39 (request 0x09 7 false) ≡ refused (refusal 16 0 0))
+    × ((routeWritten 39 (record { length = 0x09; phy = record { 0 = 128 }; index = record { 0 = 0 }; address = 7; disabled = false }) ≡ refused (refusal 15 0 0))
+    × (routeWritten 39 (record { length = 0x0a; phy = record { 0 = 128 }; index = record { 0 = 0 }; address = 7; disabled = false }) ≡ refused (refusal 2 0 0))))))
+unfolding routeFrame routeWritten bytesOf told
+writes = (refl, (refl, (refl, (refl, (refl, refl)))))
 
--- 2 before 15 before 16
-writes : (routeFrame (request 0x00 0x50000000000000b1) ≡ enabled 0x00)
-    × ((routeFrame (request 0x00 0) ≡ disabled)
-    × ((routeWritten 39 (request 0x09 7) ≡ refused (refusal 16 0 0))
-    × ((routeWritten 39 (record { length = 0x09; phy = record { 0 = 128 }; index = record { 0 = 0 }; entry = 7 }) ≡ refused (refusal 15 0 0))
-    × (routeWritten 39 (record { length = 0x0a; phy = record { 0 = 128 }; index = record { 0 = 0 }; entry = 7 }) ≡ refused (refusal 2 0 0)))))
-unfolding routeFrame routeWritten bytesOf enabled disabled
-writes = (refl, (refl, (refl, (refl, refl))))
-
--- a set disable bit hides the address; the other bits of byte 12 and the other bytes are ignored
-reads : (routeRead (enabled 0x00) ≡ good (request 0x00 0x50000000000000b1))
-    × ((routeRead (set (enabled 0x00) 12 0x80) ≡ good (request 0x00 0))
-    × ((routeRead (set (set (enabled 0x00) 12 0x7f) 39 0xff) ≡ good (request 0x00 0x50000000000000b1))
-    × ((routeRead (enabled 0x00 ++ (0 ∷ [])) ≡ refused (refusal 1 0 0))
-    × ((routeRead (set (set (enabled 0x00) 0 0x41) 9 128) ≡ refused (refusal 2 0 0))
-    × ((routeRead (set (enabled 0x00) 1 0x91) ≡ refused (refusal 2 0 0))
-    × ((routeRead (set (enabled 0x0a) 9 128) ≡ refused (refusal 2 0 0))
-    × (routeRead (set (enabled 0x09) 9 128) ≡ refused (refusal 15 0 0))))))))
-unfolding routeRead routeFixed numberAt enabled
+-- both the address and the disable bit are shown; the other bits of byte 12 and the other bytes are ignored
+reads : (routeRead (told 0x00 0x00) ≡ good (request 0x00 0x50000000000000b1 false))
+    × ((routeRead (told 0x00 0x80) ≡ good (request 0x00 0x50000000000000b1 true))
+    × ((routeRead (set (told 0x00 0x7f) 39 0xff) ≡ good (request 0x00 0x50000000000000b1 false))
+    × ((routeRead (told 0x00 0x00 ++ (0 ∷ [])) ≡ refused (refusal 1 0 0))
+    × ((routeRead (set (set (told 0x00 0x00) 0 0x41) 9 128) ≡ refused (refusal 2 0 0))
+    × ((routeRead (set (told 0x00 0x00) 1 0x91) ≡ refused (refusal 2 0 0))
+    × ((routeRead (set (told 0x0a 0x00) 9 128) ≡ refused (refusal 2 0 0))
+    × (routeRead (set (told 0x09 0x00) 9 128) ≡ refused (refusal 15 0 0))))))))
+unfolding routeRead routeFixed numberAt told
 reads = (refl, (refl, (refl, (refl, (refl, (refl, (refl, refl)))))))
 
 -- the forty bytes that smp_conf_route_info of smp_utils sends for this request, written and read
-smp-utils : (routeFrame (request 0x09 0x50000000000000b1) ≡ enabled 0x09) × (routeRead (enabled 0x09) ≡ good (request 0x09 0x50000000000000b1))
-unfolding routeFrame bytesOf routeRead routeFixed numberAt enabled
+smp-utils : (routeFrame (request 0x09 0x50000000000000b1 false) ≡ told 0x09 0x00) × (routeRead (told 0x09 0x00) ≡ good (request 0x09 0x50000000000000b1 false))
+unfolding routeFrame bytesOf routeRead routeFixed numberAt told
 smp-utils = (refl, refl)
+
+-- the disable bits of nine words, of which the first, the third and the last are zero, before two lent bytes and one more
+marks : (marked (0 ∷ 7 ∷ 0 ∷ 7 ∷ 7 ∷ 7 ∷ 7 ∷ 7 ∷ 0 ∷ []) (0xff ∷ 0xff ∷ 0xff ∷ []) ≡ 0xa0 ∷ 0x80 ∷ 0xff ∷ [])
+    × ((marked (0 ∷ 7 ∷ 0 ∷ 7 ∷ 7 ∷ 7 ∷ 7 ∷ 7 ∷ 0 ∷ []) (0xff ∷ []) ≡ 0xff ∷ [])
+    × (bitsOf (0x41 ∷ []) ≡ 0 ∷ 1 ∷ 0 ∷ 0 ∷ 0 ∷ 0 ∷ 0 ∷ 1 ∷ []))
+unfolding marked packedIn field bitsOf numberBits
+marks = (refl, (refl, refl))
 
 -- R 0x1234, 20 phys, configurable; byte 3, RESPONSE LENGTH, and the bytes after byte 10 are told
 general : ℕ → ℕ → List ℕ

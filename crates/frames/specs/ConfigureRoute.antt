@@ -16,15 +16,15 @@ use Rattle.frames.specs.declared.RouteWrite.the-variants.{Refused as Not
 abbrev pub isLength : ℕ → Bool
 isLength b = eqb b 0x00 || eqb b 0x09
 
--- byte 12: 80h if the entry is 0, else 00h
-abbrev pub disableByte : ℕ → ℕ
-disableByte entry = cond (eqb entry 0) 0x80 0x00
+-- byte 12: 80h if the entry is disabled, else 00h
+abbrev pub disableByte : Bool → ℕ
+disableByte disabled = cond disabled 0x80 0x00
 
 -- the forty bytes, by offset: 0 to 2; REQUEST LENGTH at 3; 4 and 5; route index at 6; 8; phy at 9; 10 and 11; 12; 13 to 15; address at 16; 24 to 39
 unfoldable pub routeFrame : Route → List ℕ
 routeFrame q =
-    0x40 ∷ 0x90 ∷ 0 ∷ q .length ∷ 0 ∷ 0 ∷ (bytesOf 2 (q .index .0) ++ (0 ∷ q .phy .0 ∷ 0 ∷ 0 ∷ disableByte (q .entry) ∷ 0 ∷ 0 ∷ 0
-    ∷ (bytesOf 8 (q .entry) ++ replicate 16 0)))
+    0x40 ∷ 0x90 ∷ 0 ∷ q .length ∷ 0 ∷ 0 ∷ (bytesOf 2 (q .index .0) ++ (0 ∷ q .phy .0 ∷ 0 ∷ 0 ∷ disableByte (q .disabled) ∷ 0 ∷ 0 ∷ 0
+    ∷ (bytesOf 8 (q .address) ++ replicate 16 0)))
 
 -- writing into so many bytes: REQUEST LENGTH (2), phy (15), room (16), or the forty bytes
 unfoldable pub routeWritten : ℕ → Route → Result (List ℕ)
@@ -57,9 +57,9 @@ routeAnswer (Read q) = good q
 unfoldable pub routeFixed : List ℕ → Bool
 routeFixed s = eqb (byte s 0) 0x40 && (eqb (byte s 1) 0x90 && isLength (byte s 3))
 
--- the entry is 0 when bit 7 of byte 12 is set
-abbrev pub entryIn : List ℕ → ℕ
-entryIn s = cond (eqb (bits 7 1 (byte s 12)) 1) 0 (numberAt s 16 8)
+-- bit 7 of byte 12: the entry is disabled
+abbrev pub isDisabled : List ℕ → Bool
+isDisabled s = eqb (bits 7 1 (byte s 12)) 1
 
 -- reading: length (1), bytes 0, 1 and 3 (2), phy (15)
 unfoldable pub routeRead : List ℕ → Result Route
@@ -67,4 +67,4 @@ routeRead s =
     unless (eqb (length s) 40) (refusal 1 0 0)
     (unless (routeFixed s) (refusal 2 0 0)
     (unless (leb (byte s 9) 127) (refusal 15 0 0)
-    (good (record { length = byte s 3; phy = record { 0 = byte s 9 }; index = record { 0 = numberAt s 6 2 }; entry = entryIn s }))))
+    (good (record { length = byte s 3; phy = record { 0 = byte s 9 }; index = record { 0 = numberAt s 6 2 }; address = numberAt s 16 8; disabled = isDisabled s }))))

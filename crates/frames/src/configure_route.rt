@@ -11,7 +11,7 @@ ghost use mathlib.Core.List.{_++_};
 ghost use Prim.Native.Nat.{_≤_};
 ghost use lib.ListN.{length, drop};
 ghost use denote.Ref.{ptr};
-ghost use Rattle.frames.specs.ConfigureRoute.{isLength, disableByte, routeFrame, routeWritten, writeAnswer, bufferAfter, partAfter, routeAnswer, routeFixed, entryIn, routeRead};
+ghost use Rattle.frames.specs.ConfigureRoute.{isLength, disableByte, routeFrame, routeWritten, writeAnswer, bufferAfter, partAfter, routeAnswer, routeFixed, isDisabled, routeRead};
 
 // Whether byte 3, REQUEST LENGTH, may be this: 00h or 09h.
 fn is_length(b: u8) -> bool
@@ -23,11 +23,11 @@ fn is_length(b: u8) -> bool
     b == 0x09
 }
 
-// Byte 12: bit 7 is set where the entry is 0, that is disabled.
-fn disable_byte(entry: u64) -> u8
-    ensures { λ r. ⌜ r ≡ disableByte entry ⌝ }
+// Byte 12: bit 7 is set where the entry is disabled.
+fn disable_byte(disabled: bool) -> u8
+    ensures { λ r. ⌜ r ≡ disableByte disabled ⌝ }
 {
-    if entry == 0 {
+    if disabled {
         return 1 << 7;
     }
     0
@@ -39,7 +39,7 @@ fn put_frame(buf: &mut [u8], request: Route)
     ensures { λ _. ⌜ now (buf .exit) ≡ routeFrame request ++ drop 40 (now (buf .entry)) ⌝ }
 {
     let index = request.index.0;
-    let disable = disable_byte(request.entry);
+    let disable = disable_byte(request.disabled);
     bytes::clear_front(buf, 40);
     buf[0] = 0x40;
     buf[1] = 0x90;
@@ -47,7 +47,7 @@ fn put_frame(buf: &mut [u8], request: Route)
     buf[9] = request.phy.0;
     buf[12] = disable;
     bytes::put_number(buf, 6, 2, index as u64);
-    bytes::put_number(buf, 16, 8, request.entry);
+    bytes::put_number(buf, 16, 8, request.address);
 }
 
 // Whether a request can be written into the buffer: REQUEST LENGTH (2), the phy (15), then the room (16).
@@ -110,15 +110,12 @@ fn is_fixed(frame: &[u8]) -> bool
     is_length(frame[3])
 }
 
-// The entry of a request: 0 when the disable bit is set.
-fn entry_in(frame: &[u8]) -> u64
+// Whether the entry is disabled: bit 7 of byte 12.
+fn is_disabled(frame: &[u8]) -> bool
     requires { ⌜ length (now frame) ≡ 40 ⌝ }
-    ensures { λ r. ⌜ r ≡ entryIn (now (frame .entry)) ⌝ }
+    ensures { λ r. ⌜ r ≡ isDisabled (now (frame .entry)) ⌝ }
 {
-    if (frame[12] >> 7) & 1 == 1 {
-        return 0;
-    }
-    bytes::address_at(frame, 16)
+    (frame[12] >> 7) & 1 == 1
 }
 
 // Reads one request. Its length (1), bytes 0, 1 and 3 (2) and phy (15) are checked in this order.
@@ -139,6 +136,7 @@ pub fn read_route(frame: &[u8]) -> RouteRead
         length: frame[3],
         phy: PhyId(phy),
         index: RouteIndex(bytes::number_at(frame, 6, 2) as u16),
-        entry: entry_in(frame),
+        address: bytes::address_at(frame, 16),
+        disabled: is_disabled(frame),
     })
 }

@@ -1,13 +1,20 @@
-// SMP frames, each by itself: REPORT GENERAL and DISCOVER responses are read, CONFIGURE ROUTE
-// INFORMATION requests are written and read.
+// SMP frames, each by itself: REPORT GENERAL and DISCOVER responses are read, and written short; CONFIGURE ROUTE
+// INFORMATION requests are written and read. Also bits packed into bytes, of which disable bits are made.
+mod bits;
 mod bytes;
 pub mod codes;
 mod configure_route;
 mod discovery;
 mod refusals;
 mod report_general;
+mod short_frames;
 mod sizes;
 
+pub use bits::bit_at;
+pub use bits::bits_at;
+pub use bits::bytes_for;
+pub use bits::mark_zeros;
+pub use bits::put_bits;
 pub use bytes::address_at;
 pub use configure_route::put_route;
 pub use configure_route::read_route;
@@ -16,6 +23,10 @@ pub use configure_route::write_route;
 pub use discovery::read_discover;
 pub use report_general::read_general;
 pub use report_general::read_general_sas2;
+pub use short_frames::put_address;
+pub use short_frames::put_discover;
+pub use short_frames::put_general;
+pub use short_frames::put_vacant;
 pub use sizes::frame_size;
 
 // A phy identifier: which phy of an expander.
@@ -92,13 +103,14 @@ pub enum DiscoverRead {
     Read(Discover),
 }
 
-// The fields of a CONFIGURE ROUTE INFORMATION request: REQUEST LENGTH (00h or 09h), phy, route index and
-// entry. Entry 0 is a disabled entry.
+// The fields of a CONFIGURE ROUTE INFORMATION request: REQUEST LENGTH (00h or 09h), phy, route index, the entry's
+// address, and whether the entry is disabled.
 pub struct Route {
     pub length: u8,
     pub phy: PhyId,
     pub index: RouteIndex,
-    pub entry: u64,
+    pub address: u64,
+    pub disabled: bool,
 }
 
 // What reading a CONFIGURE ROUTE INFORMATION request answers.

@@ -84,7 +84,15 @@ fn print_rows(rows: &[u64], chain: u8) -> bool {
     let mut first = [0u16; 8256];
     let mut low = [0u8; 8192];
     let mut words = [0u64; 8192];
-    let given = listing::give_rows(rows, &mut first[..], &mut low[..], &mut words[..], chain);
+    let mut bits = [0u8; 1024];
+    let given = listing::give_rows(
+        rows,
+        &mut first[..],
+        &mut low[..],
+        &mut words[..],
+        &mut bits[..],
+        chain,
+    );
     match given {
         TablesGiven::Refused(r) => print_refusal(r),
         TablesGiven::Counts(t, w) => print_tables(rows, &words[..], t as u64, w as u64),

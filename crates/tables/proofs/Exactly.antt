@@ -3,11 +3,11 @@ use Prim.Native.Nat.{ℕ, _≤_}
 use mathlib.Core.Path.{_≡_, refl, sym, ap, subst, _∙_}
 use mathlib.Core.Logic.{inl, inr, _↔_, ⊎-elim}
 use mathlib.Core.Bool.{Bool, true, false, cond}
-use mathlib.Core.List.{List, [], _∷_, _++_}
+use mathlib.Core.List.{List, [], _∷_}
 use native.Mathlib.Omega.{arith}
-use lib.ListN.{length, drop}
+use lib.ListN.{length}
 use lib.Dec.{leb}
-use Rattle.wiring.specs.Frames.{Result, refused, good, then, refusal, Exactly}
+use Rattle.wiring.specs.Frames.{bytesFor, Result, refused, good, then, refusal, Exactly}
 use Rattle.wiring.specs.Lists.{upTo}
 use Rattle.wiring.specs.Domain.{Domain}
 use Rattle.wiring.specs.declared.Setting.{Setting}
@@ -23,6 +23,7 @@ use Rattle.wiring.proofs.Read.{read-good, read-numbered}
 pub use Rattle.wiring.proofs.Exactly.{Numbered, numbered-unless, numbered-then, exactly}
 use Rattle.wiring.proofs.Exactly.{first-numbered, wired-numbered}
 use Rattle.tables.specs.Tables.{tablePlaces, tables, needed}
+use Rattle.tables.specs.Entries.{Entries, Room, roomOf, Enough, putBefore}
 use Rattle.tables.specs.Judge.{overlong, judgedDomain, judged, judgeAnswer, expandersIn, tablesFor, judgedTables, tableCall, Counted, countsIn, tablesAnswer, tablesAfter, TablesDone}
 use Rattle.tables.specs.Tested.{Routable, NoJudgingCause, NoTableCause, judgingNumber, tableNumber}
 use Rattle.tables.specs.declared.Judgement.{Judgement}
@@ -80,7 +81,7 @@ judging-exactly setting file answer q =
     (λ c. (length (c .domain), good-then (judged setting file) expandersIn (c .domain) (length (c .domain)) (causes-judged setting file c) refl))
 
 -- the table call answers counts exactly when its outcome is no refusal
-pub counts-iff : (outcome : Result Domain) (answer : TablesGiven) (before after : List ℕ) → TablesDone outcome answer before after
+pub counts-iff : (outcome : Result Domain) (answer : TablesGiven) (before after : Entries) → TablesDone outcome answer before after
     → ((t w : ℕ) × (answer ≡ Counts t w)) ↔ ((d : Domain) × (outcome ≡ good d))
 counts-iff outcome (Refused r) before after o = (
   λ c. let z : _≡_ {A = ℕ} 0 1 = cc in absurd (omega arith),
@@ -91,34 +92,35 @@ counts-iff outcome (Counts t w) before after o = (
   λ c. (t, w, refl),
 )
 
--- a table call on domain d that answered counts: there was room, and it left the tables of d and the words lent after them
-pub record TablesOf (chain : ℕ) (d : Domain) (before after : List ℕ) : Type 0 where
+-- a table call on domain d that answered counts: there was room, and it left the tables of d, their bits, and what was lent after them
+pub record TablesOf (chain : ℕ) (d : Domain) (before after : Entries) : Type 0 where
   pub routable : Routable chain d
-  pub enough : needed d ≤ length before
-  pub left : after ≡ tables d ++ drop (needed d) before
+  pub enough : Enough (needed d) (roomOf before)
+  pub left : after ≡ putBefore (tables d) before
 
-pub tables-of : (chain : ℕ) (d : Domain) (t w : ℕ) (before after : List ℕ) → TablesDone (judgedTables chain d (length before)) (Counts t w) before after
+pub tables-of : (chain : ℕ) (d : Domain) (t w : ℕ) (before after : Entries) → TablesDone (judgedTables chain d (roomOf before)) (Counts t w) before after
     → TablesOf chain d before after
 tables-of chain d t w before after o =
-    let c = counts-iff (judgedTables chain d (length before)) (Counts t w) before after o .0 (t, w, refl) in
-    let s = tables-same chain d (c .0) (length before) (c .1) in
-    record { routable = s .1; enough = s .2; left = o .words ∙ ap (λ x. tablesAfter x before) (c .1 ∙ ap good (sym (s .0))) }
+    let c = counts-iff (judgedTables chain d (roomOf before)) (Counts t w) before after o .0 (t, w, refl) in
+    let s = tables-same chain d (c .0) (roomOf before) (c .1) in
+    record { routable = s .1; enough = s .2; left = o .left ∙ ap (λ x. tablesAfter x before) (c .1 ∙ ap good (sym (s .0))) }
 
 -- the table call answers exactly when none of its causes holds, and refuses with no other number
-pub tables-exactly : (setting : Setting) (file before after : List ℕ) (answer : TablesGiven) → TablesDone (tableCall setting file (length before)) answer before after
-    → Exactly (tablesAnswer answer) (NoTableCause setting file (length before)) tableNumber
+pub tables-exactly : (setting : Setting) (file : List ℕ) (before after : Entries) (answer : TablesGiven) → TablesDone (tableCall setting file (roomOf before)) answer before after
+    → Exactly (tablesAnswer answer) (NoTableCause setting file (roomOf before)) tableNumber
 unfolding tableCall
 tables-exactly setting file before after answer t =
     exactly tableNumber (tablesAnswer answer) (then (tableCall setting file room) countsIn) (NoTableCause setting file room) (t .answers) numbered from to
   where
-    room : ℕ
-    room = length before
+    room : Room
+    room = roomOf before
 
     numbered : Numbered tableNumber (then (tableCall setting file room) countsIn)
     numbered =
         numbered-then tableNumber (tableCall setting file room) countsIn
         (numbered-then tableNumber (judged setting file) (tablesFor room) (judged-numbered tableNumber (λ n h. inl h) setting file)
-        (λ d. numbered-unless tableNumber (leb (needed d) room) (refusal 16 0 0) (good d) (inr refl) tt))
+        (λ d. numbered-unless tableNumber (leb (needed d) (room .words)) (refusal 16 0 0) _ (inr (inl refl))
+        (numbered-unless tableNumber (leb (bytesFor (needed d)) (room .bits)) (refusal 18 0 0) (good d) (inr (inr refl)) tt)))
         (λ d. tt)
 
     from : (n : Counted) → then (tableCall setting file room) countsIn ≡ good n → NoTableCause setting file room
@@ -126,7 +128,7 @@ tables-exactly setting file before after answer t =
         let a = then-good (tableCall setting file room) countsIn n e in
         let b = tableCall-iff setting file (a .0) room .0 (a .1) in
         let c = judged-causes setting file (a .0) (b .0) in
-        record { judging = c .0; enough = subst (λ d. needed d ≤ room) (sym (c .1)) (b .1) }
+        record { judging = c .0; enough = subst (λ d. Enough (needed d) room) (sym (c .1)) (b .1) }
 
     to : NoTableCause setting file room → (n : Counted) × (then (tableCall setting file room) countsIn ≡ good n)
     to c =

@@ -7,7 +7,7 @@ use native.Mathlib.Omega.{arith}
 use native.Mathlib.Decide.{decLt}
 use lib.ListN.{length}
 use lib.Dec.{T, leb, lt→ltb, ltb→lt, leb→le, le→leb}
-use Rattle.wiring.specs.Frames.{Result, good, then, refusal}
+use Rattle.wiring.specs.Frames.{bytesFor, Result, good, then, refusal}
 use Rattle.wiring.specs.declared.Setting.{Setting}
 use Rattle.wiring.specs.Domain.{Domain, expanderAt}
 use Rattle.wiring.specs.Read.{Read}
@@ -20,6 +20,7 @@ use Rattle.wiring.proofs.Results.{good-one, unless-good, good-unless, then-good
 use Rattle.wiring.proofs.Read.{read-good}
 use Rattle.wiring.proofs.Accepted.{firstOf-good, good-firstOf, wired-same, wired-iff, linked-iff, linked-same}
 use Rattle.tables.specs.Tables.{levelList, needed}
+use Rattle.tables.specs.Entries.{Room, Enough}
 use Rattle.tables.specs.Judge.{overlong, judgedDomain, judged, tablesFor, judgedTables, tableCall}
 use Rattle.tables.specs.Tested.{Routable}
 
@@ -65,22 +66,31 @@ accepted-iff most d g chain = (
   λ w. routable-judged chain d (wired-iff most d g .1 (w .0)) (w .1),
 )
 
+-- past 16 and 18 there is enough room, and only then
+room-good : (room : Room) (a d : Domain) → tablesFor room a ≡ good d → (a ≡ d) × Enough (needed a) room
+room-good room a d e =
+    let x = unless-good (leb (needed a) (room .words)) (refusal 16 0 0) _ d e in
+    let y = unless-good (leb (bytesFor (needed a)) (room .bits)) (refusal 18 0 0) (good a) d (x .1) in
+    (good-one a d (y .1), record { words = leb→le (needed a) (room .words) (x .0); bits = leb→le (bytesFor (needed a)) (room .bits) (y .0) })
+
+good-room : (room : Room) (d : Domain) → Enough (needed d) room → tablesFor room d ≡ good d
+good-room room d h =
+    good-unless (leb (needed d) (room .words)) (refusal 16 0 0) _ (le→leb (needed d) (room .words) (h .words))
+    ∙ good-unless (leb (bytesFor (needed d)) (room .bits)) (refusal 18 0 0) (good d) (le→leb (bytesFor (needed d)) (room .bits) (h .bits))
+
 -- tables are given exactly when what was judged is accepted and there is room
-pub tables-iff : (x : Result Domain) (room : ℕ) (d : Domain) → (then x (tablesFor room) ≡ good d) ↔ ((x ≡ good d) × (needed d ≤ room))
-tables-iff x room d = (
-  λ c. let a = s .0 c in (a .0, leb→le (needed d) room (unless-good (leb (needed d) room) (refusal 16 0 0) (good d) d (a .1) .0)),
-  λ j. s .1 (j .0, good-unless (leb (needed d) room) (refusal 16 0 0) (good d) (le→leb (needed d) room (j .1))),
-)
+pub tables-iff : (x : Result Domain) (room : Room) (d : Domain) → (then x (tablesFor room) ≡ good d) ↔ ((x ≡ good d) × Enough (needed d) room)
+tables-iff x room d = (λ c. let a = s .0 c in (a .0, room-good room d d (a .1) .1), λ j. s .1 (j .0, good-room room d (j .1)))
   where
     s : (then x (tablesFor room) ≡ good d) ↔ ((x ≡ good d) × (tablesFor room d ≡ good d))
-    s = then-same x (tablesFor room) d (λ a e. good-one a d (unless-good (leb (needed a) room) (refusal 16 0 0) (good a) d e .1))
+    s = then-same x (tablesFor room) d (λ a e. room-good room a d e .0)
 
 -- on a domain the table call gives that domain's tables, or none
-pub tables-same : (chain : ℕ) (d e : Domain) (room : ℕ) → judgedTables chain d room ≡ good e → (d ≡ e) × Routable chain d × (needed d ≤ room)
+pub tables-same : (chain : ℕ) (d e : Domain) (room : Room) → judgedTables chain d room ≡ good e → (d ≡ e) × Routable chain d × Enough (needed d) room
 tables-same chain d e room f =
     let a = tables-iff (judgedDomain chain d) room e .0 f in
     let r = judged-routable chain d e (a .0) in
-    (r .0, r .2, subst (λ x. needed x ≤ room) (sym (r .0)) (a .1))
+    (r .0, r .2, subst (λ x. Enough (needed x) room) (sym (r .0)) (a .1))
 
 -- the same of files
 module _ (setting : Setting) (file : List ℕ) (d : Domain) where
@@ -91,11 +101,11 @@ module _ (setting : Setting) (file : List ℕ) (d : Domain) where
   pub judged-wires : judged setting file ≡ good d → Wired d × Routable (setting .chain) d
   judged-wires j = let r = judged-file .0 j in accepted-iff setting d (read-good setting file d (r .0)) (setting .chain) .0 (r .1)
 
-  pub tableCall-iff : (room : ℕ) → (tableCall setting file room ≡ good d) ↔ ((judged setting file ≡ good d) × (needed d ≤ room))
+  pub tableCall-iff : (room : Room) → (tableCall setting file room ≡ good d) ↔ ((judged setting file ≡ good d) × Enough (needed d) room)
   unfolding tableCall
   tableCall-iff room = tables-iff (judged setting file) room d
 
   -- the table call on a file is that on the domain that it reads as
-  pub table-call : domainRead setting file ≡ good d → (room : ℕ) → tableCall setting file room ≡ judgedTables (setting .chain) d room
+  pub table-call : domainRead setting file ≡ good d → (room : Room) → tableCall setting file room ≡ judgedTables (setting .chain) d room
   unfolding tableCall
   table-call e room = ap (λ x. then (then x (judgedDomain (setting .chain))) (tablesFor room)) e

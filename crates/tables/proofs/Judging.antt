@@ -1,18 +1,19 @@
 -- The outcomes of the judging call and of the table call.
 use Prim.Native.Nat.{ℕ, _≤_, _<_}
-use mathlib.Core.Path.{_≡_, refl, _∙_, ap}
+use mathlib.Core.Path.{_≡_, refl, _∙_, ap, ap₂}
 use mathlib.Core.Logic.{by-cases}
 use mathlib.Core.List.{List, _++_}
 use native.Mathlib.Omega.{arith}
 use native.Mathlib.Decide.{decLt}
-use lib.ListN.{length, drop}
+use lib.ListN.{length, take, drop}
+use lib.Seq.{take-at}
 use lib.Dec.{T, lt→ltb}
 use borrow.Author.Tests.{le-leb, lt-leb}
-use Rattle.wiring.specs.Frames.{Refusal, Result, refused, good, then, refusal}
+use Rattle.wiring.specs.Frames.{bytesFor, marked, Refusal, Result, refused, good, then, refusal}
 use Rattle.wiring.specs.Domain.{Domain, expanderAt}
 use Rattle.wiring.specs.declared.Setting.{Setting}
 use Rattle.wiring.specs.File.{domainRead}
-use Rattle.wiring.specs.Causes.{firstOf, wiredDomain}
+use Rattle.wiring.specs.Causes.{places, firstOf, wiredDomain}
 use Rattle.wiring.specs.Links.{linkedDomain, checkedDomain}
 use Rattle.wiring.specs.Checks.{checkedIn}
 use Rattle.wiring.specs.Addresses.{IndexRoom}
@@ -22,8 +23,11 @@ use Rattle.wiring.proofs.Wires.{routes-range}
 use Rattle.wiring.proofs.Accepted.{firstOf-good}
 use Rattle.wiring.proofs.Calls.{room-checked}
 use Rattle.tables.specs.Tables.{tablePlaces, needed}
+use Rattle.tables.specs.Entries.{Entries, entries, Room, roomOf, Enough}
 use Rattle.tables.specs.Prepared.{orderList, overOwn, judgedIn, ownTables, OwnDone, Fillable}
 use Rattle.tables.specs.Judge.{overlong, judgedDomain, judged, expandersIn, tablesFor, tableCall, TablesDone}
+use Rattle.tables.proofs.Puts.{length-tables}
+use Rattle.tables.specs.declared.TablesGiven.{TablesGiven}
 use Rattle.tables.specs.declared.TablesGiven.the-variants.{Refused, Counts}
 
 then-then : {A B C : Type 0} (x : Result A) (y : Result B) (z : Result C) → then x (λ _. then y (λ _. z)) ≡ then (then x (λ _. y)) (λ _. z)
@@ -66,20 +70,32 @@ pub judge-by : (setting : Setting) (file : List ℕ) (d : Domain) (x : Result Do
     → then x expandersIn ≡ then (judged setting file) expandersIn
 judge-by setting file d x e q = rw (e, q)
 
--- tables by own lists past causes 1 to 6
-pub own-refused : (room : ℕ) (before : List ℕ) (r : Refusal) (x : Result Domain) → x ≡ refused r → OwnDone (then x (tablesFor room)) (Refused r) before before
-own-refused room before r x e = rw e (record { answers = refl; words = refl })
+-- tables by own lists past causes 1 to 6: refused before, 16, 18, and given
+pub own-refused : (room : Room) (before : Entries) (r : Refusal) (x : Result Domain) → x ≡ refused r → OwnDone (then x (tablesFor room)) (Refused r) before before
+own-refused room before r x e = rw e (record { answers = refl; left = refl })
 
-module _ (d : Domain) (room : ℕ) (before : List ℕ) (x : Result Domain) (e : x ≡ good d) where
-  pub own-short : room < needed d → OwnDone (then x (tablesFor room)) (Refused (refusal 16 0 0)) before before
-  own-short h = rw (e, lt-leb (needed d) room h) (record { answers = refl; words = refl })
+module _ (d : Domain) (before : Entries) (x : Result Domain) (e : x ≡ good d) where
+  pub own-few : length (before .words) < needed d → (answer : TablesGiven) → answer ≡ Refused (refusal 16 0 0) → OwnDone (then x (tablesFor (roomOf before))) answer before before
+  own-few h answer a = rw (e, a, lt-leb (needed d) (length (before .words)) h) (record { answers = refl; left = refl })
 
-  pub own-done : (t w : ℕ) (after : List ℕ) → needed d ≤ room → t ≡ length (tablePlaces d) → w ≡ needed d → after ≡ ownTables d ++ drop (needed d) before
-      → OwnDone (then x (tablesFor room)) (Counts t w) before after
-  own-done t w after h p q s =
-      rw (e, le-leb (needed d) room h) (record { answers = rw (p, q) refl; words = s })
+  pub own-few-bits : needed d ≤ length (before .words) → length (before .bits) < bytesFor (needed d) → (answer : TablesGiven) → answer ≡ Refused (refusal 18 0 0)
+      → OwnDone (then x (tablesFor (roomOf before))) answer before before
+  own-few-bits g h answer a = rw (e, a, le-leb (needed d) (length (before .words)) g, lt-leb (bytesFor (needed d)) (length (before .bits)) h) (record { answers = refl; left = refl })
+
+  -- the bits are those of the words up to so many
+  pub own-done : (t w : ℕ) (words bits : List ℕ) → Enough (needed d) (roomOf before) → t ≡ length (tablePlaces d) → w ≡ needed d
+      → words ≡ ownTables d ++ drop (needed d) (before .words) → bits ≡ marked (take w words) (before .bits)
+      → OwnDone (then x (tablesFor (roomOf before))) (Counts t w) before (entries words bits)
+  own-done t w words bits h p q s m =
+      let n = length-tables d (places d) in
+      let f : take w words ≡ ownTables d = ap (take w) s ∙ take-at (ownTables d) _ w (omega arith) in
+      let a : words ≡ ownTables d ++ drop (length (ownTables d)) (before .words) = rw n s in
+      let b : bits ≡ marked (ownTables d) (before .bits) = rw f at m in
+      rw (e, le-leb (needed d) (length (before .words)) (h .words), le-leb (bytesFor (needed d)) (length (before .bits)) (h .bits))
+      (record { answers = rw (p, q) refl; left = ap₂ entries a b })
 
 -- the table call on a file
-pub call-refused : (setting : Setting) (file before : List ℕ) (r : Refusal) → domainRead setting file ≡ refused r → TablesDone (tableCall setting file (length before)) (Refused r) before before
+pub call-refused : (setting : Setting) (file : List ℕ) (before : Entries) (r : Refusal) → domainRead setting file ≡ refused r
+    → TablesDone (tableCall setting file (roomOf before)) (Refused r) before before
 unfolding tableCall
-call-refused setting file before r e = rw e (record { answers = refl; words = refl })
+call-refused setting file before r e = rw e (record { answers = refl; left = refl })

@@ -4,7 +4,7 @@ use Prim.Native.Nat.{ℕ}
 use mathlib.Core.Path.{_≡_, refl, sym, _∙_, ap, subst}
 use mathlib.Core.Bool.{Bool, cond, _&&_}
 use mathlib.Core.List.{List, [], _∷_, _++_, flatMap}
-use lib.ListN.{length, drop}
+use lib.ListN.{length}
 use lib.Dec.{ltb}
 use Rattle.wiring.specs.Frames.{Result, refused, good, then, refusal}
 use Rattle.wiring.specs.declared.Setting.{Setting}
@@ -21,7 +21,8 @@ use Rattle.wiring.proofs.Read.{read-good}
 use Rattle.wiring.proofs.Accepted.{wired-same, wired-iff, linked-iff, linked-same}
 use Rattle.wiring.proofs.Calls.{checked-room}
 use Rattle.tables.specs.declared.TablesGiven.{TablesGiven}
-use Rattle.tables.specs.Tables.{levelList, table, tablePlaces, tables, needed}
+use Rattle.tables.specs.Tables.{levelList, table, tablePlaces, tables}
+use Rattle.tables.specs.Entries.{Entries, roomOf, putBefore}
 use Rattle.tables.specs.Judge.{overlong, judgedDomain, judged, tablesFor, tableCall, tablesAfter, TablesDone}
 use Rattle.tables.specs.Own.{own, ownList}
 use Rattle.tables.specs.Prepared.{orderList, overOwn, filledTo, ownTablesOf, ownTables, judgedIn, ownAfter, OwnDone}
@@ -94,14 +95,14 @@ tables-same d s = go (tablePlaces d)
     go (q ∷ qs) = rw (s (q .expander) (q .phy), go qs)
 
 -- the table call on a file, by own lists
-pub call-done : (setting : Setting) (file before after : List ℕ) (d : Domain) (x : Result Domain) (answer : TablesGiven) → domainRead setting file ≡ good d → x ≡ judgedDomain (setting .chain) d
-    → OwnDone (then x (tablesFor (length before))) answer before after → TablesDone (tableCall setting file (length before)) answer before after
+pub call-done : (setting : Setting) (file : List ℕ) (before after : Entries) (d : Domain) (x : Result Domain) (answer : TablesGiven) → domainRead setting file ≡ good d → x ≡ judgedDomain (setting .chain) d
+    → OwnDone (then x (tablesFor (roomOf before))) answer before after → TablesDone (tableCall setting file (roomOf before)) answer before after
 unfolding tableCall
 call-done setting file before after d x answer e q o =
-    let c : then x (tablesFor (length before)) ≡ tableCall setting file (length before) = rw (e, q) in
+    let c : then x (tablesFor (roomOf before)) ≡ tableCall setting file (roomOf before) = rw (e, q) in
     let w = subst (λ y. OwnDone y answer before after) c o in
-    record { answers = w .answers; words = w .words ∙ go (tableCall setting file (length before)) refl }
+    record { answers = w .answers; left = w .left ∙ go (tableCall setting file (roomOf before)) refl }
   where
-    go : (y : Result Domain) → tableCall setting file (length before) ≡ y → ownAfter y before ≡ tablesAfter y before
+    go : (y : Result Domain) → tableCall setting file (roomOf before) ≡ y → ownAfter y before ≡ tablesAfter y before
     go (refused r) h = refl
-    go (good a) h = ap (λ (l : List ℕ). l ++ drop (needed a) before) (tables-same a (judged-same setting file a (tableCall-iff setting file a (length before) .0 h .0)))
+    go (good a) h = ap (λ (l : List ℕ). putBefore l before) (tables-same a (judged-same setting file a (tableCall-iff setting file a (roomOf before) .0 h .0)))

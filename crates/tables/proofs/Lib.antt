@@ -7,6 +7,7 @@ pub mod Tables
 pub mod Given
 pub mod Exactly
 pub mod Stretches
+pub mod CountedWords
 pub mod Growing
 pub mod Cells
 pub mod Owns
@@ -17,6 +18,8 @@ pub mod Law
 pub mod Orders
 pub mod Fills
 pub mod Puts
+pub mod WordPlaces
+pub mod WordsBack
 pub mod Over
 pub mod Judging
 pub mod Lawful

@@ -3,6 +3,7 @@ use Prim.Native.Nat.{ℕ}
 use mathlib.Core.Path.{_≡_}
 use mathlib.Core.List.{List}
 use Rattle.tables.specs.Wiring.{Setting, shortFile}
+use Rattle.tables.specs.Entries.{Room}
 use Rattle.tables.specs.Judge.{judged, tableCall}
 use Rattle.tables.proofs.Wiring.{short-file}
 
@@ -10,6 +11,6 @@ module _ (setting : Setting) (file : List ℕ) where
   pub short-judged : judged setting (shortFile setting file) ≡ judged setting file
   short-judged = rw (short-file setting file)
 
-  pub short-tables : (room : ℕ) → tableCall setting (shortFile setting file) room ≡ tableCall setting file room
+  pub short-tables : (room : Room) → tableCall setting (shortFile setting file) room ≡ tableCall setting file room
   unfolding tableCall
   short-tables room = rw short-judged

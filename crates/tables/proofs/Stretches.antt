@@ -3,20 +3,22 @@ use mathlib.Core.Path.{_≡_, refl, sym, ap, ap₂, subst, _∙_}
 use mathlib.Core.Logic.{inl, inr, ⊎-elim}
 use mathlib.Core.List.{List, [], _∷_, _++_, append-assoc}
 use mathlib.Core.Bool.{Bool, true, false, cond, _&&_}
-use Prim.Native.Nat.{ℕ, _+_, _-_, _≤_, _<_}
+use Prim.Native.Nat.{ℕ, _+_, _*_, _-_, _≤_, _<_}
 use native.Mathlib.Omega.{arith}
-use lib.ListN.{length, getD, take, drop, length-append, length-drop, List·getD-eq-default}
+use lib.ListN.{length, getD, take, drop, length-append, length-drop, List·getD-append, List·getD-eq-default}
 use lib.Seq.{take-at, drop-append-add, getD-append-add, getD-take, getD-drop}
 use lib.Dec.{T, eqb}
-use Rattle.wiring.specs.Frames.{good}
+use Rattle.wiring.specs.Frames.{good, bytesFor, zeroBit, marked}
 use Rattle.wiring.specs.Lists.{In}
 use Rattle.wiring.specs.Domain.{Domain, expanderAt, phyAt, routes}
 use Rattle.wiring.specs.declared.Setting.{Setting}
 use Rattle.wiring.specs.File.{domainRead}
 use Rattle.wiring.specs.Causes.{Place, place, places}
+use Rattle.wiring.proofs.Frames.{length-marked, marked-bits, marked-padding, marked-after}
 use Rattle.wiring.proofs.Members.{tests, is-true}
 use Rattle.wiring.proofs.Wires.{routes-range, in-places}
 use Rattle.tables.specs.Tables.{levelList, table, tables, size, sizes, needed, offsetIn, offset, stretch}
+use Rattle.tables.specs.Entries.{Entries, Room, roomOf, Enough, putBefore}
 use Rattle.tables.specs.Judge.{judgedTables, tableCall, TablesDone, IndexForIndex}
 use Rattle.tables.specs.declared.TablesGiven.the-variants.{Counts}
 use Rattle.tables.proofs.Tables.{table-length, table-entry, wordsAt, tablesAt, tables-at, words-length, tables-length}
@@ -24,20 +26,20 @@ use Rattle.tables.proofs.Given.{table-call}
 use Rattle.tables.proofs.Exactly.{tables-of}
 
 -- the test by which the words before a table are counted
-abbrev isPlace : ℕ → ℕ → Place → Bool
+abbrev pub isPlace : ℕ → ℕ → Place → Bool
 isPlace i p q = eqb (q .expander) i && eqb (q .phy) p
 
-is-place : (i p : ℕ) (q : Place) → T (isPlace i p q) → q ≡ place i p
+pub is-place : (i p : ℕ) (q : Place) → T (isPlace i p q) → q ≡ place i p
 is-place i p q t = let x : q .expander ≡ i = search tests in let y : q .phy ≡ p = search tests in ap₂ place x y
 
-place-is : (i p : ℕ) (q : Place) → place i p ≡ q → T (isPlace i p q)
+pub place-is : (i p : ℕ) (q : Place) → place i p ≡ q → T (isPlace i p q)
 place-is i p q e = let x : q .expander ≡ i = sym (ap (λ v. v .expander) e) in let y : q .phy ≡ p = sym (ap (λ v. v .phy) e) in search tests
 
 module _ (d : Domain) (i p : ℕ) (t : T (routes 2 (phyAt d i p))) where
   words-here : (q : Place) → q ≡ place i p → wordsAt d q ≡ table d i p
   words-here q e = ap (wordsAt d) e ∙ rw (is-true (routes 2 (phyAt d i p)) t) refl
 
-  size-here : (q : Place) → q ≡ place i p → size d q ≡ expanderAt d i .indexes
+  pub size-here : (q : Place) → q ≡ place i p → size d q ≡ expanderAt d i .indexes
   unfolding size
   size-here q e = rw (e, is-true (routes 2 (phyAt d i p)) t) refl
 
@@ -73,7 +75,7 @@ module _ (d : Domain) (i p : ℕ) (t : T (routes 2 (phyAt d i p))) where
       go false e (inl o) r = absurd (subst T e (place-is i p q o))
       go false e (inr o) r = omega (arith, r o)
 
-  in-all : In (place i p) (places d)
+  pub in-all : In (place i p) (places d)
   in-all = in-places d i p (routes-range d 2 i p t (omega arith))
 
   -- in words that begin with the tables, the stretch of a table phy is its table
@@ -93,33 +95,50 @@ module _ (d : Domain) (i p : ℕ) (t : T (routes 2 (phyAt d i p))) where
       sym (getD-drop (offset d i p) ws k 0) ∙ sym (getD-take (expanderAt d i .indexes) (drop (offset d i p) ws) k 0 h)
       ∙ ap (λ l. getD l k 0) (stretch-is after)
 
--- where every list fits: the words are the tables and, after them, the words lent
-pub index-tables : (d : Domain) (before : List ℕ) → ((i p : ℕ) → T (routes 2 (phyAt d i p)) → length (levelList d i p) ≤ expanderAt d i .indexes)
-    → needed d ≤ length before → IndexForIndex d before (tables d ++ drop (needed d) before)
+-- the front of what is put, and what stays after it
+module _ (l before : List ℕ) (n : ℕ) (e : length l ≡ n) where
+  put-same : n ≤ length before → length (l ++ drop (length l) before) ≡ length before
+  put-same h = length-append l (drop (length l) before) ∙ omega (arith, length-drop (length l) before)
+
+  put-stays : (k : ℕ) → n ≤ k → getD (l ++ drop (length l) before) k 0 ≡ getD before k 0
+  put-stays k h =
+      let m : length l + (k - length l) ≡ k = omega arith in
+      ap (λ v. getD (l ++ drop (length l) before) v 0) (sym m) ∙ getD-append-add l (drop (length l) before) (k - length l) 0
+      ∙ getD-drop (length l) before (k - length l) 0 ∙ ap (λ v. getD before v 0) m
+
+-- bytes from n on are those of another row
+after-stays : (n : ℕ) (s before : List ℕ) → drop n s ≡ drop n before → (k : ℕ) → n ≤ k → getD s k 0 ≡ getD before k 0
+after-stays n s before e k h =
+    let m : n + (k - n) ≡ k = omega arith in
+    ap (λ v. getD s v 0) (sym m) ∙ sym (getD-drop n s (k - n) 0) ∙ ap (λ l. getD l (k - n) 0) e ∙ getD-drop n before (k - n) 0 ∙ ap (λ v. getD before v 0) m
+
+-- where every list fits: the words are the tables with their bits and, after them, what was lent
+pub index-tables : (d : Domain) (before : Entries) → ((i p : ℕ) → T (routes 2 (phyAt d i p)) → length (levelList d i p) ≤ expanderAt d i .indexes)
+    → Enough (needed d) (roomOf before) → IndexForIndex d before (putBefore (tables d) before)
 index-tables d before fits h =
     let e = tables-length d in
-    let after = drop (needed d) before in record {
-      size = length-append (tables d) after ∙ omega (arith, length-drop (needed d) before);
+    let b : bytesFor (length (tables d)) ≤ length (before .bits) = rw e (h .bits) in
+    let after = drop (length (tables d)) (before .words) in record {
+      size = ap₂ (λ (a b : ℕ). record { words = a; bits = b }) (put-same (tables d) (before .words) (needed d) e (h .words)) (length-marked (tables d) (before .bits));
       within = stretch-within d;
       lent = h;
       fits = fits;
       listed = λ i p k t u. let f = fits i p t in stretch-entry d i p t after k (omega arith) ∙ table-entry d i p (fits i p t) k;
       disabled = λ i p k t u v. stretch-entry d i p t after k v ∙ table-entry d i p (fits i p t) k ∙ List·getD-eq-default (levelList d i p) 0 u;
-      stay = λ k u.
-          let n : k ≡ length (tables d) + (k - needed d) = omega arith in
-          let m : needed d + (k - needed d) ≡ k = omega arith in
-          ap (λ v. getD (tables d ++ after) v 0) n ∙ getD-append-add (tables d) after (k - needed d) 0
-          ∙ getD-drop (needed d) before (k - needed d) 0 ∙ ap (λ v. getD before v 0) m;
+      stay = put-stays (tables d) (before .words) (needed d) e;
+      bit = λ k u. marked-bits (tables d) (before .bits) b k (omega arith) ∙ ap zeroBit (sym (List·getD-append (tables d) after 0 k (omega arith)));
+      padding = λ k u v. marked-padding (tables d) (before .bits) b k (omega arith) (omega arith);
+      stayBytes = λ k u. after-stays (bytesFor (length (tables d))) (marked (tables d) (before .bits)) (before .bits) (marked-after (tables d) (before .bits) b) k (omega arith);
     }
 
 -- a table call that answers counts leaves each table in its own stretch, index for index: on a domain, and on a file
-pub index-for-index : (chain : ℕ) (d : Domain) (before after : List ℕ) (c w : ℕ) → TablesDone (judgedTables chain d (length before)) (Counts c w) before after
+pub index-for-index : (chain : ℕ) (d : Domain) (before after : Entries) (c w : ℕ) → TablesDone (judgedTables chain d (roomOf before)) (Counts c w) before after
     → IndexForIndex d before after
 index-for-index chain d before after c w t =
     let o = tables-of chain d c w before after t in
     subst (IndexForIndex d before) (sym (o .left)) (index-tables d before (o .routable .fits) (o .enough))
 
-pub index-for-index-file : (setting : Setting) (file : List ℕ) (d : Domain) (before after : List ℕ) (c w : ℕ) → domainRead setting file ≡ good d
-    → TablesDone (tableCall setting file (length before)) (Counts c w) before after → IndexForIndex d before after
+pub index-for-index-file : (setting : Setting) (file : List ℕ) (d : Domain) (before after : Entries) (c w : ℕ) → domainRead setting file ≡ good d
+    → TablesDone (tableCall setting file (roomOf before)) (Counts c w) before after → IndexForIndex d before after
 index-for-index-file setting file d before after c w e t =
-    index-for-index (setting .chain) d before after c w (subst (λ x. TablesDone x (Counts c w) before after) (table-call setting file d e (length before)) t)
+    index-for-index (setting .chain) d before after c w (subst (λ x. TablesDone x (Counts c w) before after) (table-call setting file d e (roomOf before)) t)

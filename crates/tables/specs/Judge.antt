@@ -1,17 +1,18 @@
 -- Cause 14, the judging call and the table call.
-use Prim.Native.Nat.{ℕ, _+_, _≤_, _<_}
+use Prim.Native.Nat.{ℕ, _+_, _*_, _≤_, _<_}
 use mathlib.Core.Path.{_≡_}
 use mathlib.Core.Bool.{Bool, _&&_}
-use mathlib.Core.List.{List, _++_}
-use lib.ListN.{length, getD, drop}
+use mathlib.Core.List.{List}
+use lib.ListN.{length, getD}
 use lib.Dec.{T, ltb, leb}
-use Rattle.wiring.specs.Frames.{Result, refused, good, unless, then, refusal}
+use Rattle.wiring.specs.Frames.{bitsOf, bytesFor, zeroBit, Result, refused, good, unless, then, refusal}
 use Rattle.wiring.specs.Domain.{Domain, expanderAt, phyAt, routes}
 use Rattle.wiring.specs.declared.Setting.{Setting}
 use Rattle.wiring.specs.File.{domainRead}
 use Rattle.wiring.specs.Causes.{firstOf, wiredDomain}
 use Rattle.wiring.specs.Links.{linkedDomain}
 use Rattle.tables.specs.Tables.{levelList, tablePlaces, tables, needed, offset}
+use Rattle.tables.specs.Entries.{Entries, Room, roomOf, Enough, putBefore}
 use Rattle.tables.specs.declared.Judgement.{Judgement}
 use Rattle.tables.specs.declared.Judgement.the-variants.{Refused, Expanders}
 use Rattle.tables.specs.declared.TablesGiven.{TablesGiven}
@@ -40,16 +41,19 @@ judgeAnswer (Expanders n) = good n
 abbrev pub expandersIn : Domain → Result ℕ
 expandersIn d = good (length d)
 
--- 16 where the words are fewer than the tables need
-abbrev pub tablesFor : ℕ → Domain → Result Domain
-tablesFor room d = unless (leb (needed d) room) (refusal 16 0 0) (good d)
+-- 16 where the words are fewer than the tables need, then 18 where the bytes are fewer than their bits need
+abbrev pub tablesFor : Room → Domain → Result Domain
+tablesFor room d =
+    unless (leb (needed d) (room .words)) (refusal 16 0 0)
+    (unless (leb (bytesFor (needed d)) (room .bits)) (refusal 18 0 0)
+    (good d))
 
--- causes 7 to 12, 23 and 14, and 16: the table call on a domain that was read, with room for so many words
-abbrev pub judgedTables : ℕ → Domain → ℕ → Result Domain
+-- causes 7 to 12, 23 and 14, 16 and 18: the table call on a domain that was read, with so much room
+abbrev pub judgedTables : ℕ → Domain → Room → Result Domain
 judgedTables chain d room = then (judgedDomain chain d) (tablesFor room)
 
--- the table call on a file under a setting, with room for so many words
-unfoldable pub tableCall : Setting → List ℕ → ℕ → Result Domain
+-- the table call on a file under a setting, with so much room
+unfoldable pub tableCall : Setting → List ℕ → Room → Result Domain
 tableCall setting file room = then (judged setting file) (tablesFor room)
 
 -- the number of tables and of words
@@ -65,28 +69,34 @@ abbrev pub tablesAnswer : TablesGiven → Result Counted
 tablesAnswer (NotGiven r) = refused r
 tablesAnswer (Counts t w) = good (record { tableCount = t; wordCount = w })
 
--- the words after the call: the tables, and the words after them as they were; all as they were where refused
-abbrev pub tablesAfter : Result Domain → List ℕ → List ℕ
+-- the entries after the call: the tables with their bits, and what lies after them as it was; all as it was where refused
+abbrev pub tablesAfter : Result Domain → Entries → Entries
 tablesAfter (refused r) before = before
-tablesAfter (good d) before = tables d ++ drop (needed d) before
+tablesAfter (good d) before = putBefore (tables d) before
 
--- all that a table call with this outcome promises: the answer, and the words after
-pub record TablesDone (outcome : Result Domain) (answer : TablesGiven) (before after : List ℕ) : Type 0 where
+-- all that a table call with this outcome promises: the answer, and the entries after
+pub record TablesDone (outcome : Result Domain) (answer : TablesGiven) (before after : Entries) : Type 0 where
   pub answers : tablesAnswer answer ≡ then outcome countsIn
-  pub words : after ≡ tablesAfter outcome before
+  pub left : after ≡ tablesAfter outcome before
 
--- demand 2's equation in the lent words: index for index, every table is the level list of its phy
-pub record IndexForIndex (d : Domain) (before after : List ℕ) : Type 0 where
-  pub size : length after ≡ length before
+-- demand 2's equation in the lent words: index for index, every table is the level list of its phy; and their disable bits
+pub record IndexForIndex (d : Domain) (before after : Entries) : Type 0 where
+  pub size : roomOf after ≡ roomOf before
   -- the stretch of a non-vacant table phy lies within the words that the tables need, and they were lent
   pub within : (i p : ℕ) → T (routes 2 (phyAt d i p)) → offset d i p + expanderAt d i .indexes ≤ needed d
-  pub lent : needed d ≤ length before
+  pub lent : Enough (needed d) (roomOf before)
   -- its list has at most R words, and index k of the stretch is word k of the list
   pub fits : (i p : ℕ) → T (routes 2 (phyAt d i p)) → length (levelList d i p) ≤ expanderAt d i .indexes
   pub listed : (i p k : ℕ) → T (routes 2 (phyAt d i p)) → k < length (levelList d i p)
-      → getD after (offset d i p + k) 0 ≡ getD (levelList d i p) k 0
+      → getD (after .words) (offset d i p + k) 0 ≡ getD (levelList d i p) k 0
   -- after the list, up to index R - 1, the entries are 0
   pub disabled : (i p k : ℕ) → T (routes 2 (phyAt d i p)) → length (levelList d i p) ≤ k → k < expanderAt d i .indexes
-      → getD after (offset d i p + k) 0 ≡ 0
+      → getD (after .words) (offset d i p + k) 0 ≡ 0
   -- words after all tables stay
-  pub stay : (k : ℕ) → needed d ≤ k → getD after k 0 ≡ getD before k 0
+  pub stay : (k : ℕ) → needed d ≤ k → getD (after .words) k 0 ≡ getD (before .words) k 0
+  -- the bit of each word is set exactly where the word is 0, and clear elsewhere
+  pub bit : (k : ℕ) → k < needed d → getD (bitsOf (after .bits)) k 0 ≡ zeroBit (getD (after .words) k 0)
+  -- the padding bits of the last byte are clear
+  pub padding : (k : ℕ) → needed d ≤ k → k < 8 * bytesFor (needed d) → getD (bitsOf (after .bits)) k 0 ≡ 0
+  -- bytes after the bits stay
+  pub stayBytes : (k : ℕ) → bytesFor (needed d) ≤ k → getD (after .bits) k 0 ≡ getD (before .bits) k 0

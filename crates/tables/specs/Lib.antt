@@ -1,8 +1,10 @@
 pub mod Wiring
 pub mod Levels
 pub mod Tables
+pub mod Entries
 pub mod Own
 pub mod Prepared
 pub mod Judge
 pub mod Tested
 pub mod Filling
+pub mod Words

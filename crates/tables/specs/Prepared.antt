@@ -13,7 +13,7 @@ use Rattle.wiring.specs.Causes.{Place, places, firstOf}
 use Rattle.wiring.specs.Checks.{checkedIn}
 use Rattle.wiring.specs.Addresses.{IndexedFirst, lowestPhy}
 use Rattle.tables.specs.Levels.{once, down, belowPhys, below}
-use Rattle.tables.specs.Tables.{needed}
+use Rattle.tables.specs.Entries.{Entries, putBefore}
 use Rattle.tables.specs.Filling.{withTables}
 use Rattle.tables.specs.Judge.{tablesAnswer, countsIn}
 use Rattle.tables.specs.declared.TablesGiven.{TablesGiven}
@@ -112,12 +112,12 @@ ownsBy low i p φ = routes 0 φ || (routes 2 φ && (attached φ && eqb (lowestPh
 unfoldable pub judgedIn : ℕ → ℕ → ℕ → Domain → Result Domain
 judgedIn chain first low d = then (checkedIn chain first low d) (λ _. firstOf 14 (overOwn d) d)
 
--- the words after the call, by own lists; all as they were where refused
-abbrev pub ownAfter : Result Domain → List ℕ → List ℕ
+-- the entries after the call, by own lists; all as they were where refused
+abbrev pub ownAfter : Result Domain → Entries → Entries
 ownAfter (refused r) before = before
-ownAfter (good d) before = ownTables d ++ drop (needed d) before
+ownAfter (good d) before = putBefore (ownTables d) before
 
--- all that giving tables by own lists promises: the answer, and the words after
-pub record OwnDone (outcome : Result Domain) (answer : TablesGiven) (before after : List ℕ) : Type 0 where
+-- all that giving tables by own lists promises: the answer, and the entries after
+pub record OwnDone (outcome : Result Domain) (answer : TablesGiven) (before after : Entries) : Type 0 where
   pub answers : tablesAnswer answer ≡ then outcome countsIn
-  pub words : after ≡ ownAfter outcome before
+  pub left : after ≡ ownAfter outcome before

@@ -13,6 +13,7 @@ use Rattle.wiring.specs.File.{domainRead}
 use Rattle.wiring.specs.Chains.{ShortChains}
 use Rattle.wiring.specs.Tested.{Passed, Linked}
 use Rattle.tables.specs.Tables.{levelList, needed}
+use Rattle.tables.specs.Entries.{Room, Enough}
 
 -- none of causes 11, 12, 23 and 14 holds, where a chain may have so many expanders: tables can be given
 pub record Routable (chain : ℕ) (d : Domain) : Type 0 where
@@ -35,15 +36,15 @@ pub record NoJudgingCause (setting : Setting) (file : List ℕ) : Type 0 where
   -- 11, 12, 23 and 14
   pub routable : Routable (setting .chain) domain
 
--- none of the causes that the table call tests, with so many words lent: those, and 16
-pub record NoTableCause (setting : Setting) (file : List ℕ) (room : ℕ) : Type 0 where
+-- none of the causes that the table call tests, with so much room lent: those, 16 and 18
+pub record NoTableCause (setting : Setting) (file : List ℕ) (room : Room) : Type 0 where
   pub judging : NoJudgingCause setting file
-  -- 16: lent buffer shorter than needed
-  pub enough : needed (judging .domain) ≤ room
+  -- 16 and 18: lent words, or bytes for bits, fewer than needed
+  pub enough : Enough (needed (judging .domain)) room
 
--- 1 to 12, and 14, as 13 is withdrawn; 22 and 23; and 16
+-- 1 to 12, and 14, as 13 is withdrawn; 22 and 23; and 16 and 18
 abbrev pub judgingNumber : ℕ → Type 0
 judgingNumber n = ((1 ≤ n) × (n ≤ 12)) ⊎ ((n ≡ 14) ⊎ ((n ≡ 22) ⊎ (n ≡ 23)))
 
 abbrev pub tableNumber : ℕ → Type 0
-tableNumber n = judgingNumber n ⊎ (n ≡ 16)
+tableNumber n = judgingNumber n ⊎ ((n ≡ 16) ⊎ (n ≡ 18))

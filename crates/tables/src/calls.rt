@@ -9,14 +9,16 @@ use wiring::ExpanderNumber;
 use wiring::PhyId;
 use wiring::Refusal;
 use wiring::Setting;
+ghost use Rattle.tables.specs.Entries.{entries, roomOf};
 ghost use mathlib.Core.Path.{_≡_};
 ghost use Prim.Native.Nat.{_≤_};
 ghost use lib.ListN.{length};
-ghost use Rattle.wiring.specs.Frames.{byte, then};
+ghost use Rattle.wiring.specs.Frames.{byte, then, refusal};
 ghost use Rattle.wiring.specs.Rows.{domainIn};
 ghost use Rattle.wiring.specs.Checks.{checkAnswer, FileRoom};
 ghost use Rattle.wiring.specs.Addresses.{IndexLeft};
 ghost use Rattle.tables.specs.Judge.{judged, judgeAnswer, expandersIn, tablesFor, tableCall, TablesDone};
+ghost use Rattle.tables.specs.declared.TablesGiven.the-variants.{Refused as NotGiven};
 ghost use Rattle.tables.specs.Prepared.{judgedIn, OwnDone};
 
 // Causes 7 to 12, 23 and 14 in order, 14 by own lists: on a domain that was read from a file, `judgedDomain`. A chain
@@ -103,18 +105,30 @@ pub fn judge(setting: Setting, file: &[u8]) -> Judgement
     judge_many(setting, file)
 }
 
-// Causes 7 to 12, 23 and 14 as `judge_rows` has them, then 16, then all tables by own lists: on a domain that was read from a
-// file, the tables of the table call. The words after stay, and all of them where it is refused. `first` and `low`
-// are left as `judge_rows` leaves them.
+// The table call's refusal with this number, at place 0, 0.
+fn refuse(number: u8) -> TablesGiven
+    ensures { λ r. ⌜ r ≡ NotGiven (refusal number 0 0) ⌝ }
+{
+    TablesGiven::Refused(Refusal {
+        number: number,
+        expander: ExpanderNumber(0),
+        phy: PhyId(0),
+    })
+}
+
+// Causes 7 to 12, 23 and 14 as `judge_rows` has them, then 16 and 18, then all tables by own lists and their disable bits:
+// on a domain that was read from a file, what the table call leaves. Words and bytes after stay, and all of them where it
+// is refused. `first` and `low` are left as `judge_rows` leaves them.
 pub fn give_rows(
     rows: &[u64],
     first: &mut [u16],
     low: &mut [u8],
     words: &mut [u64],
+    bits: &mut [u8],
     chain: u8,
 ) -> TablesGiven
-    ensures { λ r. ⌜ OwnDone (then (judgedIn chain (length (now (first .entry))) (length (now (low .entry))) (domainIn (now (rows .entry)))) (tablesFor (length (now (words .entry)))))
-        r (now (words .entry)) (now (words .exit)) ⌝ }
+    ensures { λ r. ⌜ OwnDone (then (judgedIn chain (length (now (first .entry))) (length (now (low .entry))) (domainIn (now (rows .entry)))) (tablesFor (roomOf (entries (now (words .entry)) (now (bits .entry))))))
+        r (entries (now (words .entry)) (now (bits .entry))) (entries (now (words .exit)) (now (bits .exit))) ⌝ }
     ensures { λ r. ⌜ IndexLeft (domainIn (now (rows .entry))) (now (first .entry)) (now (low .entry)) (now (first .exit)) (now (low .exit)) ⌝ }
 {
     let verdict = judge_rows(rows, first, low, chain);
@@ -123,14 +137,14 @@ pub fn give_rows(
         Check::Passed => {
             let needed = all_tables::needed_words(rows);
             if words.len() < needed {
-                return TablesGiven::Refused(Refusal {
-                    number: 16,
-                    expander: ExpanderNumber(0),
-                    phy: PhyId(0),
-                });
+                return refuse(16);
+            }
+            if bits.len() < wiring::bytes_for(needed) {
+                return refuse(18);
             }
             let count = all_tables::table_count(rows);
             all_tables::put_all(rows, first, low, words);
+            wiring::mark_zeros(&words[..needed], bits);
             TablesGiven::Counts(count as u32, needed as u32)
         }
     }
@@ -144,24 +158,27 @@ fn give_in(
     first: &mut [u16],
     low: &mut [u8],
     words: &mut [u64],
+    bits: &mut [u8],
 ) -> TablesGiven
     requires { ⌜ FileRoom setting (now file) (now rows) (now first) (now low) ⌝ }
-    ensures { λ r. ⌜ TablesDone (tableCall setting (now (file .entry)) (length (now (words .entry)))) r (now (words .entry)) (now (words .exit)) ⌝ }
+    ensures { λ r. ⌜ TablesDone (tableCall setting (now (file .entry)) (roomOf (entries (now (words .entry)) (now (bits .entry)))))
+        r (entries (now (words .entry)) (now (bits .entry))) (entries (now (words .exit)) (now (bits .exit))) ⌝ }
 {
     let read = wiring::read_domain(setting, file, rows);
     match read {
         DomainRead::Refused(r) => TablesGiven::Refused(r),
         DomainRead::Expanders(n) => {
             let e = 258 * (n as usize);
-            give_rows(&rows[..e], first, low, words, setting.chain)
+            give_rows(&rows[..e], first, low, words, bits, setting.chain)
         }
     }
 }
 
 // The table call of a file that states few expanders: at most 2, or at most 8.
-fn give_few(setting: Setting, file: &[u8], words: &mut [u64]) -> TablesGiven
+fn give_few(setting: Setting, file: &[u8], words: &mut [u64], bits: &mut [u8]) -> TablesGiven
     requires { ⌜ byte (now file) 1 ≤ 8 ⌝ }
-    ensures { λ r. ⌜ TablesDone (tableCall setting (now (file .entry)) (length (now (words .entry)))) r (now (words .entry)) (now (words .exit)) ⌝ }
+    ensures { λ r. ⌜ TablesDone (tableCall setting (now (file .entry)) (roomOf (entries (now (words .entry)) (now (bits .entry)))))
+        r (entries (now (words .entry)) (now (bits .entry))) (entries (now (words .exit)) (now (bits .exit))) ⌝ }
 {
     if wiring::stated_count(file) <= 2 {
         let mut rows = [0u64; 516];
@@ -174,6 +191,7 @@ fn give_few(setting: Setting, file: &[u8], words: &mut [u64]) -> TablesGiven
             &mut first[..],
             &mut low[..],
             words,
+            bits,
         );
     }
     let mut rows = [0u64; 2064];
@@ -186,12 +204,14 @@ fn give_few(setting: Setting, file: &[u8], words: &mut [u64]) -> TablesGiven
         &mut first[..],
         &mut low[..],
         words,
+        bits,
     )
 }
 
 // The table call, with room for the most expanders.
-fn give_many(setting: Setting, file: &[u8], words: &mut [u64]) -> TablesGiven
-    ensures { λ r. ⌜ TablesDone (tableCall setting (now (file .entry)) (length (now (words .entry)))) r (now (words .entry)) (now (words .exit)) ⌝ }
+fn give_many(setting: Setting, file: &[u8], words: &mut [u64], bits: &mut [u8]) -> TablesGiven
+    ensures { λ r. ⌜ TablesDone (tableCall setting (now (file .entry)) (roomOf (entries (now (words .entry)) (now (bits .entry)))))
+        r (entries (now (words .entry)) (now (bits .entry))) (entries (now (words .exit)) (now (bits .exit))) ⌝ }
 {
     let mut rows = [0u64; 16512];
     let mut first = [0u16; 8256];
@@ -203,23 +223,26 @@ fn give_many(setting: Setting, file: &[u8], words: &mut [u64]) -> TablesGiven
         &mut first[..],
         &mut low[..],
         words,
+        bits,
     )
 }
 
-// The table call: causes 22, 1 to 12, 23 and 14, then 16. It writes all tables, by expander and then phy, and
-// answers how many tables and words there are. The words after stay, and all of them where it is
-// refused. It takes room as `judge` does.
-pub fn give_tables(setting: Setting, file: &[u8], words: &mut [u64]) -> TablesGiven
-    ensures { λ r. ⌜ TablesDone (tableCall setting (now (file .entry)) (length (now (words .entry)))) r (now (words .entry)) (now (words .exit)) ⌝ }
+// The table call: causes 22, 1 to 12, 23 and 14, then 16 and 18. It writes all tables, by expander and then phy, and a
+// disable bit for each word, set exactly where the word is zero; it clears the padding bits of the last byte, and answers
+// how many tables and words there are. Words and bytes after stay, and all of them where it is refused. It takes room as
+// `judge` does.
+pub fn give_tables(setting: Setting, file: &[u8], words: &mut [u64], bits: &mut [u8]) -> TablesGiven
+    ensures { λ r. ⌜ TablesDone (tableCall setting (now (file .entry)) (roomOf (entries (now (words .entry)) (now (bits .entry)))))
+        r (entries (now (words .entry)) (now (bits .entry))) (entries (now (words .exit)) (now (bits .exit))) ⌝ }
 {
     let n = wiring::stated_count(file);
     if n <= 8 {
-        return give_few(setting, file, words);
+        return give_few(setting, file, words, bits);
     }
     if n > 64 {
         if file.len() > 2 {
-            return give_tables(setting, &file[..2], words);
+            return give_tables(setting, &file[..2], words, bits);
         }
     }
-    give_many(setting, file, words)
+    give_many(setting, file, words, bits)
 }

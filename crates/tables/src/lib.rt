@@ -6,7 +6,9 @@ mod filling;
 mod order;
 mod overlong;
 mod own;
+mod surveys;
 mod wide;
+mod word_places;
 
 pub use all_tables::needed_words;
 pub use all_tables::table_count;
@@ -15,6 +17,8 @@ pub use calls::give_rows;
 pub use calls::give_tables;
 pub use calls::judge;
 pub use calls::judge_rows;
+pub use surveys::needed;
+pub use surveys::word_place;
 
 // What the layers above use of the layers below.
 pub use wiring::Check;
@@ -35,10 +39,13 @@ pub use wiring::RouteRead;
 pub use wiring::RouteWrite;
 pub use wiring::Setting;
 pub use wiring::Wiring;
+pub use wiring::bit_at;
+pub use wiring::bytes_for;
 pub use wiring::expander_address;
 pub use wiring::expander_count;
 pub use wiring::far_number;
 pub use wiring::index_count;
+pub use wiring::mark_zeros;
 pub use wiring::phy_address;
 pub use wiring::phy_at;
 pub use wiring::phy_attribute;
@@ -65,4 +72,17 @@ pub enum Judgement {
 pub enum TablesGiven {
     Refused(Refusal),
     Counts(u32, u32),
+}
+
+// An entry of a table: its expander, phy and route index.
+pub struct Entry {
+    pub expander: ExpanderNumber,
+    pub phy: PhyId,
+    pub index: RouteIndex,
+}
+
+// What asking for a word of the tables answers: the entry that it is.
+pub enum WordPlace {
+    Refused(Refusal),
+    At(Entry),
 }

@@ -25,7 +25,7 @@ monotone setting other m r file d j =
       accepted = e;
       wiring = wiring-more setting other m r file d (judged-file setting file d .0 j .0);
       tables = λ room. ap (λ x. then x (tablesFor room)) q;
-      traces = λ words bytes q'. ap (λ x. then x (λ d. tracedRequest d words bytes q')) q;
+      traces = λ t bytes q'. ap (λ x. then x (λ d. tracedRequest d t bytes q')) q;
     }
 
 -- most expanders, most phys, longest chain

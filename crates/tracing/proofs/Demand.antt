@@ -5,15 +5,18 @@ use mathlib.Core.List.{List, [], _∷_, _++_}
 use Prim.Native.Nat.{ℕ, _≤_, _<_}
 use lib.ListN.{length, take, drop}
 use lib.Seq.{take-at}
-use Rattle.tables.specs.Wiring.{Result, good, then, Distinct, Below, Setting, Domain, Read, wiredDomain, wired}
+use Rattle.tables.specs.Wiring.{bitsOf, marked, Result, good, then, Distinct, Below, Setting, Domain, Read, wiredDomain, wired}
 use Rattle.tables.specs.Wiring.{NoTableToTable, Home, Borne}
 use Rattle.tables.specs.Tables.{tables, needed}
+use Rattle.tables.specs.Entries.{Entries, Room, roomOf, Enough, countedBy, counted}
 use Rattle.tables.specs.Judge.{judgedDomain, tablesFor, judgedTables, tableCall, TablesDone}
 use Rattle.tables.specs.Tested.{Routable}
 use Rattle.tables.specs.declared.TablesGiven.{TablesGiven}
 use Rattle.tables.specs.declared.TablesGiven.the-variants.{Counts}
 use Rattle.tables.proofs.Wiring.{good-one, then-good, Wired, read-good, wired-iff, wired-file}
 use Rattle.tables.proofs.Beyond.{all-clear}
+use Rattle.tables.proofs.CountedWords.{counted-put}
+use Rattle.tables.proofs.Tables.{tables-length}
 use Rattle.tables.proofs.Given.{judged-routable, routable-iff, tables-iff, tables-same}
 use Rattle.tables.proofs.Exactly.{counts-iff, tables-of}
 use Rattle.tracing.specs.declared.Outcome.the-variants.{Arrived, NoDestination, BadDestination}
@@ -30,33 +33,34 @@ module _ (most : Setting) (d : Domain) (read : Read most d) (past : wiredDomain 
   w : Wired d
   w = wired-iff most d read .0 past
 
-  -- a request over words: the domain is accepted, the request passes causes 15 to 17, and the answer and the bytes are those of its trace
-  record Answer (words : List ℕ) (q : Request) (e : End) (lent after : List ℕ) : Type 0 where
+  -- a request over entries with so much room, whose words that count are these: the domain is accepted, the request passes causes 15 to 18,
+  -- and the answer and the bytes are those of its trace
+  record Answer (words : List ℕ) (room : Room) (q : Request) (e : End) (lent after : List ℕ) : Type 0 where
     routable : Routable chain d
-    asks : Asks q (length words) (length lent) d
+    asks : Asks q room (length lent) d
     outcome : e .outcome ≡ traced d words q .outcome
     end : e .last .0 ≡ traced d words q .last
     phy : e .phy .0 ≡ traced d words q .phy
     count : e .count ≡ length (traced d words q .passed)
     bytes : after ≡ traced d words q .passed ++ drop (length (traced d words q .passed)) lent
 
-  answer : (words : List ℕ) (q : Request) (e : End) (lent after : List ℕ) → Over d (judgedTables chain d) (judgedRequest chain d) words q e lent after
-      → Answer words q e lent after
+  answer : (t : Entries) (q : Request) (e : End) (lent after : List ℕ) → Over d (judgedTables chain d) (judgedRequest chain d) t q e lent after
+      → Answer (counted t) (roomOf t) q e lent after
   unfolding judgedRequest tracedRequest
-  answer words q e lent after o =
+  answer r q e lent after o =
       let n : Reported = record { outcome = e .outcome; last = e .last .0; phy = e .phy .0; count = e .count } in
-      let a = then-good (judgedRequest chain d words (length lent) q) report n (sym (o .answers)) in
+      let a = then-good (judgedRequest chain d r (length lent) q) report n (sym (o .answers)) in
       let b = then-good (judgedDomain chain d) _ (a .0) (a .1) in
-      let r = judged-routable chain d (b .0) (b .1) in
-      let c = then-good (requested q (length words) (length lent) (b .0)) _ (a .0) (b .2) in
-      let t = traced d words q in
-      let f : requested q (length words) (length lent) d ≡ good (c .0) = ap (requested q (length words) (length lent)) (r .0) ∙ c .1 in
-      let g : a .0 ≡ t = sym (good-one (traced (b .0) words q) (a .0) (c .2)) ∙ ap (λ x. traced x words q) (sym (r .0)) in
+      let k = judged-routable chain d (b .0) (b .1) in
+      let c = then-good (requested q (roomOf r) (length lent) (b .0)) _ (a .0) (b .2) in
+      let t = traced d (counted r) q in
+      let f : requested q (roomOf r) (length lent) d ≡ good (c .0) = ap (requested q (roomOf r) (length lent)) (k .0) ∙ c .1 in
+      let g : a .0 ≡ t = sym (good-one (traced (b .0) (counted r) q) (a .0) (c .2)) ∙ ap (λ x. traced x (counted r) q) (sym (k .0)) in
       let m : record { outcome = t .outcome; last = t .last; phy = t .phy; count = length (t .passed) } ≡ n =
       good-one _ n (ap report (sym g) ∙ a .2) in
       record {
-        routable = r .2;
-        asks = requested-iff (length words) (length lent) q d .0 (c .0, f);
+        routable = k .2;
+        asks = requested-iff (roomOf r) (length lent) q d .0 (c .0, f);
         outcome = sym (ap (λ x. x .outcome) m);
         end = sym (ap (λ x. x .last) m);
         phy = sym (ap (λ x. x .phy) m);
@@ -64,10 +68,10 @@ module _ (most : Setting) (d : Domain) (read : Read most d) (past : wiredDomain 
         bytes = o .bytes ∙ ap (λ x. bytesAfter x lent) (a .1 ∙ ap good g);
       }
 
-  module _ (words : List ℕ) (q : Request) (e : End) (lent after : List ℕ) (a : Answer words q e lent after) where
+  module _ (words : List ℕ) (room : Room) (q : Request) (e : End) (lent after : List ℕ) (a : Answer words room q e lent after) where
     -- the bytes counted are the expanders passed
-    counted : take (e .count) after ≡ traced d words q .passed
-    counted =
+    bytes-are : take (e .count) after ≡ traced d words q .passed
+    bytes-are =
         let l = traced d words q .passed in
         ap (take (e .count)) (a .bytes) ∙ take-at l (drop (length l) lent) (e .count) (sym (a .count))
 
@@ -75,16 +79,16 @@ module _ (most : Setting) (d : Domain) (read : Read most d) (past : wiredDomain 
     passes-different =
         let nl = a .routable .linked .noLoop in
         let h = a .asks .start in
-        let k = ap length counted ∙ sym (a .count) in (
+        let k = ap length bytes-are ∙ sym (a .count) in (
           k,
-          subst (λ l. Distinct l × Below (length d) l) (sym counted)
+          subst (λ l. Distinct l × Below (length d) l) (sym bytes-are)
               (passes-once d w words (q .address) nl (q .start) (q .arrival) h, passes-below d w words (q .address) nl (q .start) (q .arrival) h),
         )
 
     takes-steps : StepsTaken d words q (take (e .count) after) (e .outcome) (e .last .0) (e .phy .0)
     takes-steps =
         let s = steps-taken d w words (q .address) (a .routable .linked .noLoop) (q .start) (q .arrival) (a .asks .start) in
-        rw (counted, a .outcome, a .end, a .phy) s
+        rw (bytes-are, a .outcome, a .end, a .phy) s
 
     -- a request that arrives arrives where the address is borne
     arrived-borne : e .outcome ≡ Arrived → (e .last .0 < length d) × EndsAt d (q .address) (e .last .0) (e .phy .0)
@@ -102,12 +106,12 @@ module _ (most : Setting) (d : Domain) (read : Read most d) (past : wiredDomain 
         }
 
   -- with room, the table call answers counts exactly when the domain is routable
-  counts-routable : (before words : List ℕ) (answer : TablesGiven) → needed d ≤ length before
-      → TablesDone (judgedTables chain d (length before)) answer before words → ((t w : ℕ) × (answer ≡ Counts t w)) ↔ Routable chain d
-  counts-routable before words answer h o =
-      let c = counts-iff (judgedTables chain d (length before)) answer before words o in (
-        λ g. let x = c .0 g in tables-same chain d (x .0) (length before) (x .1) .1,
-        λ r. c .1 (d, tables-iff (judgedDomain chain d) (length before) d .1 (routable-iff chain d past .1 r, h)),
+  counts-routable : (before filled : Entries) (answer : TablesGiven) → Enough (needed d) (roomOf before)
+      → TablesDone (judgedTables chain d (roomOf before)) answer before filled → ((t w : ℕ) × (answer ≡ Counts t w)) ↔ Routable chain d
+  counts-routable before filled answer h o =
+      let c = counts-iff (judgedTables chain d (roomOf before)) answer before filled o in (
+        λ g. let x = c .0 g in tables-same chain d (x .0) (roomOf before) (x .1) .1,
+        λ r. c .1 (d, tables-iff (judgedDomain chain d) (roomOf before) d .1 (routable-iff chain d past .1 r, h)),
       )
 
   ends-home : (s m p : ℕ) → EndsAt d s m p → Home d s m
@@ -115,15 +119,18 @@ module _ (most : Setting) (d : Domain) (read : Read most d) (past : wiredDomain 
 
   -- a request over the tables given
   module _ (q : Request) (e : End) (lent after : List ℕ) (o : OverTables d (judgedTables chain d) (judgedRequest chain d) q e lent after) where
+    -- what counts of the words after the tables
     abbrev rest : List ℕ
-    rest = drop (needed d) (o .before)
+    rest = countedBy (drop (length (tables d)) (bitsOf (marked (tables d) (o .before .bits)))) (drop (length (tables d)) (o .before .words))
 
-    -- the words are the tables, and the words lent after them
-    words-are : o .words ≡ tables d ++ rest
-    words-are = tables-of chain d (o .tableCount) (o .wordCount) (o .before) (o .words) (o .given) .left
+    -- the words that count are the tables, and what counts after them
+    words-are : counted (o .filled) ≡ tables d ++ rest
+    words-are =
+        let u = tables-of chain d (o .tableCount) (o .wordCount) (o .before) (o .filled) (o .given) in
+        ap counted (u .left) ∙ counted-put (tables d) (o .before) (rw (tables-length d) (u .enough .bits))
 
-    a : Answer (tables d ++ rest) q e lent after
-    a = subst (λ l. Answer l q e lent after) words-are (answer (o .words) q e lent after (o .over))
+    a : Answer (tables d ++ rest) (roomOf (o .filled)) q e lent after
+    a = subst (λ l. Answer l (roomOf (o .filled)) q e lent after) words-are (answer (o .filled) q e lent after (o .over))
 
     delivered : Uncrossed d q → Starts d q → (m : ℕ) → m < length d → Home d (q .address) m → Delivered d q m e lent after
     delivered un st m k home =
@@ -146,7 +153,7 @@ module _ (most : Setting) (d : Domain) (read : Read most d) (past : wiredDomain 
 
     arrives-iff : Uncrossed d q → Starts d q → (e .outcome ≡ Arrived) ↔ Borne d (q .address)
     arrives-iff un st = (
-      λ f. let b = arrived-borne (tables d ++ rest) q e lent after a f in (e .last .0, b .0, ends-home (q .address) (e .last .0) (e .phy .0) (b .1)),
+      λ f. let b = arrived-borne (tables d ++ rest) (roomOf (o .filled)) q e lent after a f in (e .last .0, b .0, ends-home (q .address) (e .last .0) (e .phy .0) (b .1)),
       λ b. delivered un st (b .0) (b .1) (b .2) .outcome,
     )
 
@@ -160,14 +167,14 @@ module _ (most : Setting) (d : Domain) (read : Read most d) (past : wiredDomain 
   demand3 = record {
     given = counts-routable;
     mission = λ q e lent after o un. record { arrives = arrives-iff q e lent after o un; along = delivered q e lent after o un; otherwise = nobody-bears q e lent after o };
-    borne = λ words q e lent after o. arrived-borne words q e lent after (answer words q e lent after o);
-    once = λ words q e lent after o. passes-different words q e lent after (answer words q e lent after o);
-    steps = λ words q e lent after o. takes-steps words q e lent after (answer words q e lent after o);
-    itself = λ words q e lent after o. told-bad words q e lent after (answer words q e lent after o);
+    borne = λ t q e lent after o. arrived-borne (counted t) (roomOf t) q e lent after (answer t q e lent after o);
+    once = λ t q e lent after o. passes-different (counted t) (roomOf t) q e lent after (answer t q e lent after o);
+    steps = λ t q e lent after o. takes-steps (counted t) (roomOf t) q e lent after (answer t q e lent after o);
+    itself = λ t q e lent after o. told-bad (counted t) (roomOf t) q e lent after (answer t q e lent after o);
   }
 
 -- where the domain has no table-to-table link, every request over the tables given ends as in the mission
-pub demand3-clear : (d : Domain) (tableCalled : ℕ → Result Domain) (traceCalled : List ℕ → ℕ → Request → Result Traced) (chain : ℕ)
+pub demand3-clear : (d : Domain) (tableCalled : Room → Result Domain) (traceCalled : Entries → ℕ → Request → Result Traced) (chain : ℕ)
     → Demand3 d tableCalled traceCalled chain
     → NoTableToTable d → (q : Request) (e : End) (lent after : List ℕ) → OverTables d tableCalled traceCalled q e lent after
     → Mission d q e lent after
@@ -181,7 +188,7 @@ demand3-clear d tableCalled traceCalled chain c n q e lent after o = c .mission 
 abbrev FromFile : ℕ → Domain → Result Domain → Type 0
 FromFile chain d x =
     Demand3 d (λ room. then (then x (judgedDomain chain)) (tablesFor room))
-    (λ words bytes q. then (then x (judgedDomain chain)) (λ y. tracedRequest y words bytes q)) chain
+    (λ t bytes q. then (then x (judgedDomain chain)) (λ y. tracedRequest y t bytes q)) chain
 
 -- a file past causes 22 and 1 to 10, under any setting: demand 3 of what `give_tables` and `trace` promise of it
 pub demand3-file : (setting : Setting) (file : List ℕ) (d : Domain) → wired setting file ≡ good d

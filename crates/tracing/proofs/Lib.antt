@@ -1,5 +1,6 @@
 pub mod Offsets
 pub mod Picks
+pub mod WhichRule
 pub mod Turns
 pub mod Asked
 pub mod Stepping

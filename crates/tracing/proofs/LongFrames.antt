@@ -1,20 +1,21 @@
--- Long frames: a request ends alike over a file and over its short file, whatever words are lent. The pair rig with long and short
+-- Long frames: a request ends alike over a file and over its short file, whatever words and bits are lent. The pair rig with long and short
 -- frames mixed.
 use Prim.Native.Nat.{ℕ}
 use mathlib.Core.Path.{_≡_, refl}
 use mathlib.Core.List.{List, [], _∷_, _++_}
 use lib.ListN.{take, drop, replicate}
 use Rattle.tables.specs.Wiring.{refused, refusal, Setting, widest}
+use Rattle.tables.specs.Entries.{Entries}
 use Rattle.tables.specs.Judge.{judged}
 use Rattle.tables.proofs.LongFrames.{short-judged}
 use Rattle.tables.proofs.Opened.{numberAt, bytesOf, frameSize, generalFixed, generalRead, discoverFixed, discoverRead, any, isIn, sizeAt, phyUnit, phyUnits, expanderUnit, expanders, headerUnit, domainRead, shortPhys, shortExpanders, shortFile, inRange}
 use Rattle.tracing.specs.Trace.{Request, traceCall}
 use Rattle.tracing.proofs.Pair.{general, discover, at, pair}
 
-pub short-traces : (setting : Setting) (file words : List ℕ) (bytes : ℕ) (q : Request)
-    → traceCall setting (shortFile setting file) words bytes q ≡ traceCall setting file words bytes q
+pub short-traces : (setting : Setting) (file : List ℕ) (t : Entries) (bytes : ℕ) (q : Request)
+    → traceCall setting (shortFile setting file) t bytes q ≡ traceCall setting file t bytes q
 unfolding traceCall
-short-traces setting file words bytes q = rw (short-judged setting file)
+short-traces setting file t bytes q = rw (short-judged setting file)
 
 -- the long frame of a short one: byte 3, and other bytes after it
 unfoldable pub long : ℕ → ℕ → List ℕ → List ℕ

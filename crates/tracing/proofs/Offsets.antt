@@ -1,7 +1,7 @@
 -- The offset of a stretch: the words of the expanders before its own, and of the phys below its own.
 use Prim.Native.Nat.{ℕ, zero, suc, _+_, _-_, _≤_, _<_}
 use mathlib.Core.Path.{_≡_, refl, sym, _∙_, ap}
-use mathlib.Core.Bool.{Bool, true, false, cond, _||_, _&&_}
+use mathlib.Core.Bool.{Bool, true, false, cond, not, _||_, _&&_}
 use mathlib.Core.List.{List, [], _∷_, _++_}
 use mathlib.Core.Logic.{by-cases}
 use native.Mathlib.Decide.{ℕ-discrete}
@@ -13,9 +13,11 @@ use lib.Seq.{drop-cons}
 use lib.Dec.{eqb}
 use borrow.Author.Tests.{eq-eqb, ne-eqb}
 use Rattle.tables.specs.Wiring.{Domain, Expander, noExpander, expanderAt, phyAt, attributeOf}
-use Rattle.tables.specs.Wiring.{any, isIn}
+use Rattle.tables.specs.Wiring.{bitsOf, any, isIn}
 use Rattle.tables.specs.Wiring.{Place, place, phyPlaces, placesFrom}
 use Rattle.tables.specs.Tables.{size, sizes, offsetIn, offset}
+use Rattle.tables.specs.Entries.{entries, counted}
+use Rattle.tables.proofs.CountedWords.{counted-at}
 use Rattle.tracing.specs.Answers.{wordsBefore}
 
 pub size-by : (d : Domain) (i p : ℕ) {b : Bool} → eqb (attributeOf (phyAt d i p)) 2 ≡ b
@@ -125,3 +127,28 @@ module _ (s left k : ℕ) (l : List ℕ) {v : Bool} (inv : isIn s (take left (dr
   pub lists-end : left ≤ 0 → false ≡ v
   unfolding isIn any
   lists-end h = let e : left ≡ 0 = omega arith in sym (rw e) ∙ inv
+
+-- word k as it counts, beside s: with its bit clear and set
+module _ (words bits : List ℕ) (k s : ℕ) (h : k < length words) where
+  entry-by : {b : Bool} → eqb (getD (bitsOf bits) k 0) 0 ≡ b → getD (counted (entries words bits)) k 0 ≡ cond b (getD words k 0) 0
+  entry-by e = counted-at (bitsOf bits) words k h ∙ ap (λ (b : Bool). cond b (getD words k 0) 0) e
+
+  pub entry-clear : getD words k 0 ≡ s → getD (bitsOf bits) k 0 ≡ 0 → true ≡ eqb (getD (counted (entries words bits)) k 0) s
+  entry-clear e b = sym (eq-eqb (getD (counted (entries words bits)) k 0) s (entry-by (eq-eqb (getD (bitsOf bits) k 0) 0 b) ∙ e))
+
+  pub entry-set : (getD (bitsOf bits) k 0 ≡ 0 → ⊥) → eqb 0 s ≡ eqb (getD (counted (entries words bits)) k 0) s
+  entry-set b = ap (λ (n : ℕ). eqb n s) (sym (entry-by (ne-eqb (getD (bitsOf bits) k 0) 0 b)))
+
+  pub entry-other : (getD words k 0 ≡ s → ⊥) → (s ≡ 0 → ⊥) → false ≡ eqb (getD (counted (entries words bits)) k 0) s
+  entry-other e z = go (eqb (getD (bitsOf bits) k 0) 0) refl
+    where
+      go : (b : Bool) → eqb (getD (bitsOf bits) k 0) 0 ≡ b → false ≡ eqb (getD (counted (entries words bits)) k 0) s
+      go true f = sym (ne-eqb (getD (counted (entries words bits)) k 0) s (λ g. e (sym (entry-by f) ∙ g)))
+      go false f = sym (ne-eqb (getD (counted (entries words bits)) k 0) s (λ g. z (sym g ∙ entry-by f)))
+
+  pub entry-zero : (getD words k 0 ≡ s → ⊥) → s ≡ 0 → not (eqb (getD (bitsOf bits) k 0) 0) ≡ eqb (getD (counted (entries words bits)) k 0) s
+  entry-zero e z = go (eqb (getD (bitsOf bits) k 0) 0) refl
+    where
+      go : (b : Bool) → eqb (getD (bitsOf bits) k 0) 0 ≡ b → not (eqb (getD (bitsOf bits) k 0) 0) ≡ eqb (getD (counted (entries words bits)) k 0) s
+      go true f = ap not f ∙ sym (ne-eqb (getD (counted (entries words bits)) k 0) s (λ g. e (sym (entry-by f) ∙ g)))
+      go false f = ap not f ∙ sym (eq-eqb (getD (counted (entries words bits)) k 0) s (entry-by f ∙ sym z))

@@ -5,7 +5,7 @@ use mathlib.Core.Logic.{⊎-elim}
 use mathlib.Core.Bool.{Bool, true, false, cond}
 use mathlib.Core.List.{List}
 use native.Mathlib.Omega.{arith}
-use lib.ListN.{take, drop}
+use lib.ListN.{length, take, drop}
 use lib.Dec.{T, eqb, eqb→eq}
 use borrow.Author.Tests.{eq-eqb, ne-eqb}
 use Rattle.tables.specs.Wiring.{numbers}
@@ -14,7 +14,7 @@ use Rattle.tracing.specs.Steps.{Step, here, endDevice, bad, lost, onward
 use Rattle.tables.specs.Tables.{offset, stretch}
 use Rattle.tracing.specs.Steps.{cameFrom, moveBy, subtractively, byTable, directly, step}
 use Rattle.tracing.specs.Answers.{bearingPick, listingPick, subtractingPick, directStep}
-use Rattle.tables.proofs.Wiring.{tests, attached-cases}
+use Rattle.tables.proofs.Wiring.{tests, expander-attached, attached-cases, in-range}
 use Rattle.tracing.proofs.Stepping.{pick-at}
 
 module _ (test : ℕ → Bool) (n p : ℕ) {v : Pick} (inv : pick test (numbers p (n - p)) ≡ v) where
@@ -39,6 +39,10 @@ module _ (d : Domain) (i : ℕ) {p : ℕ} where
 
   pub listing-far : (words : List ℕ) (s : ℕ) → at p ≡ listingPick d words i s → T (toExpander (phyAt d i p))
   listing-far words s e = let t = pick-at (listing d words i s) (phyNumbers d i) p (sym e) in search (tests, t)
+
+  -- and is a phy of the expander
+  pub listing-range : (words : List ℕ) (s : ℕ) → at p ≡ listingPick d words i s → p < length (expanderAt d i .phys)
+  listing-range words s e = in-range d i p (expander-attached (phyAt d i p) (listing-far words s e)) .1
 
   pub subtracting-far : at p ≡ subtractingPick d i → T (toExpander (phyAt d i p))
   subtracting-far e = let t = pick-at (subtracting d i) (phyNumbers d i) p (sym e) in search (tests, t)

@@ -6,6 +6,7 @@ use lib.ListN.{length, take, drop}
 use Rattle.tables.specs.Wiring.{placesFrom}
 use Rattle.tables.specs.Wiring.{Result, then, Domain}
 use Rattle.tables.specs.Tables.{sizes}
+use Rattle.tables.specs.Entries.{Entries}
 use Rattle.tables.specs.Prepared.{judgedIn}
 use Rattle.tracing.specs.Steps.{Step as Stepped, here, endDevice, bad, lost, onward, Pick as Picked, at, nowhere, pick, phyNumbers}
 use Rattle.tracing.specs.Steps.{bearing, listing, subtracting, subtractively, byTable, directly}
@@ -63,7 +64,7 @@ pub record Walked (t : Traced) (end : End) (before after : List ℕ) : Type 0 wh
   pub ends : traceAnswer (Ended end) ≡ report t
   pub bytes : after ≡ t .passed ++ drop (length (t .passed)) before
 
--- the judging call's causes from 7 on, and 15 to 17, then the trace; 14 by own lists, and 16 where there is no room for entries of so
+-- the judging call's causes from 7 on, and 15 to 18, then the trace; 14 by own lists, and 16 where there is no room for entries of so
 -- many slots and phys
-unfoldable pub requestIn : ℕ → ℕ → ℕ → Domain → List ℕ → ℕ → Request → Result Traced
-requestIn chain first low d words bytes q = then (judgedIn chain first low d) (λ e. tracedRequest e words bytes q)
+unfoldable pub requestIn : ℕ → ℕ → ℕ → Domain → Entries → ℕ → Request → Result Traced
+requestIn chain first low d t bytes q = then (judgedIn chain first low d) (λ e. tracedRequest e t bytes q)

@@ -3,6 +3,7 @@ use Prim.Native.Nat.{ℕ}
 use mathlib.Core.Path.{_≡_}
 use mathlib.Core.List.{List}
 use Rattle.tables.specs.Wiring.{good, Setting, Domain, wiringCall}
+use Rattle.tables.specs.Entries.{Entries, Room}
 use Rattle.tables.specs.Judge.{judged, tableCall}
 use Rattle.tracing.specs.Trace.{Request, traceCall}
 
@@ -11,5 +12,5 @@ use Rattle.tracing.specs.Trace.{Request, traceCall}
 pub record Alike (setting other : Setting) (file : List ℕ) (d : Domain) : Type 0 where
   pub accepted : judged other file ≡ good d
   pub wiring : (room : ℕ) → wiringCall other file room ≡ wiringCall setting file room
-  pub tables : (room : ℕ) → tableCall other file room ≡ tableCall setting file room
-  pub traces : (words : List ℕ) (bytes : ℕ) (q : Request) → traceCall other file words bytes q ≡ traceCall setting file words bytes q
+  pub tables : (room : Room) → tableCall other file room ≡ tableCall setting file room
+  pub traces : (t : Entries) (bytes : ℕ) (q : Request) → traceCall other file t bytes q ≡ traceCall setting file t bytes q

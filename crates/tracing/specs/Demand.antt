@@ -8,6 +8,7 @@ use lib.Dec.{T}
 use Rattle.tables.specs.Wiring.{Result, Distinct, Below, last, Domain, expanderAt, phyAt, addressOf, toEnd}
 use Rattle.tables.specs.Wiring.{ChainIn, ClearChain, Home, Borne}
 use Rattle.tables.specs.Tables.{needed}
+use Rattle.tables.specs.Entries.{Entries, Room, roomOf, Enough, counted}
 use Rattle.tables.specs.Judge.{TablesDone}
 use Rattle.tables.specs.Tested.{Routable}
 use Rattle.tables.specs.declared.TablesGiven.{TablesGiven}
@@ -88,38 +89,40 @@ pub record Mission (d : Domain) (q : Request) (e : End) (lent after : List ℕ) 
   -- "otherwise NO DESTINATION"
   pub otherwise : ¬ (Borne d (q .address)) → e .outcome ≡ NoDestination
 
--- domain d, past causes 22 and 1 to 10; what its table call yields with so many words lent, and its trace call over words, with so many bytes lent
-module _ (d : Domain) (tableCalled : ℕ → Result Domain) (traceCalled : List ℕ → ℕ → Request → Result Traced) where
-  -- a request over these words, which is a trace that isn't refused: the trace call answered e, and left these bytes of those lent
-  abbrev pub Over : List ℕ → Request → End → List ℕ → List ℕ → Type 0
-  Over words q e lent after = TraceDone (traceCalled words (length lent) q) (Ended e) lent after
+-- domain d, past causes 22 and 1 to 10; what its table call yields with so much room, and its trace call over table entries, words and
+-- bits, with so many bytes lent
+module _ (d : Domain) (tableCalled : Room → Result Domain) (traceCalled : Entries → ℕ → Request → Result Traced) where
+  -- a request over these entries, which is a trace that isn't refused: the trace call answered e, and left these bytes of those lent
+  abbrev pub Over : Entries → Request → End → List ℕ → List ℕ → Type 0
+  Over t q e lent after = TraceDone (traceCalled t (length lent) q) (Ended e) lent after
 
-  -- a request over the tables given: the words as the table call left them, which answered with counts
+  -- a request over the tables given: words and bits as the table call left them, which answered with counts
   pub record OverTables (q : Request) (e : End) (lent after : List ℕ) : Type 0 where
-    pub before : List ℕ
-    pub words : List ℕ
+    pub before : Entries
+    pub filled : Entries
     pub tableCount : ℕ
     pub wordCount : ℕ
-    pub given : TablesDone (tableCalled (length before)) (Counts tableCount wordCount) before words
-    pub over : Over words q e lent after
+    pub given : TablesDone (tableCalled (roomOf before)) (Counts tableCount wordCount) before filled
+    pub over : Over filled q e lent after
 
   -- a chain may have so many expanders
   pub record Demand3 (chain : ℕ) : Type 0 where
     -- "tables are given exactly when there is no loop, every expander is chained to the first, and no level list exceeds R", and "only where
     -- the limits are kept as well" (document 02, paper 13): with room, the table call answers with counts exactly then. The limits on expanders
     -- and phys are kept where the domain is past cause 3
-    pub given : (before words : List ℕ) (answer : TablesGiven) → needed d ≤ length before → TablesDone (tableCalled (length before)) answer before words
+    pub given : (before filled : Entries) (answer : TablesGiven) → Enough (needed d) (roomOf before) → TablesDone (tableCalled (roomOf before)) answer before filled
         → ((t w : ℕ) × (answer ≡ Counts t w)) ↔ Routable chain d
     -- "over those tables": requests whose chain crosses no table-to-table link, or whose address no device bears, end as in the mission
     pub mission : (q : Request) (e : End) (lent after : List ℕ) → OverTables q e lent after → Uncrossed d q → Mission d q e lent after
-    -- whatever words: a request that arrives arrives where the address is borne
-    pub borne : (words : List ℕ) (q : Request) (e : End) (lent after : List ℕ) → Over words q e lent after → e .outcome ≡ Arrived
+    -- whatever words and bits: a request that arrives arrives where the address is borne
+    pub borne : (t : Entries) (q : Request) (e : End) (lent after : List ℕ) → Over t q e lent after → e .outcome ≡ Arrived
         → (e .last .0 < length d) × EndsAt d (q .address) (e .last .0) (e .phy .0)
-    -- "whatever words the tables hold, no request passes an expander twice": as many of the bytes as are counted are different expanders
-    pub once : (words : List ℕ) (q : Request) (e : End) (lent after : List ℕ) → Over words q e lent after
+    -- "whatever words the tables hold", and whatever bits, "no request passes an expander twice": as many of the bytes as are counted are different expanders
+    pub once : (t : Entries) (q : Request) (e : End) (lent after : List ℕ) → Over t q e lent after
         → (length (take (e .count) after) ≡ e .count) × (Distinct (take (e .count) after) × Below (length d) (take (e .count) after))
-    -- whatever words: those bytes are the expanders at which the steps were taken, which never run out: the last is no move onward
-    pub steps : (words : List ℕ) (q : Request) (e : End) (lent after : List ℕ) → Over words q e lent after
-        → StepsTaken d words q (take (e .count) after) (e .outcome) (e .last .0) (e .phy .0)
-    -- whatever words: an end device that asks for itself, which `Starts` leaves out, is told BAD DESTINATION where it is attached
-    pub itself : (words : List ℕ) (q : Request) (e : End) (lent after : List ℕ) → Over words q e lent after → ForItself d q → ToldBad q e lent after
+    -- whatever words and bits: those bytes are the expanders at which the steps over the words that count were taken, which never run out:
+    -- the last is no move onward
+    pub steps : (t : Entries) (q : Request) (e : End) (lent after : List ℕ) → Over t q e lent after
+        → StepsTaken d (counted t) q (take (e .count) after) (e .outcome) (e .last .0) (e .phy .0)
+    -- whatever words and bits: an end device that asks for itself, which `Starts` leaves out, is told BAD DESTINATION where it is attached
+    pub itself : (t : Entries) (q : Request) (e : End) (lent after : List ℕ) → Over t q e lent after → ForItself d q → ToldBad q e lent after

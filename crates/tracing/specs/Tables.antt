@@ -1,7 +1,10 @@
 -- What the layer above uses of the layers below.
-pub use Rattle.tables.specs.Wiring.{Setting, Refusal, Result, refused, good, then, wiringCall, wiringAnswer, bitsOf, wordsAfter}
+pub use Rattle.tables.specs.Wiring.{Setting, Refusal, Result, refused, good, then, wiringCall, wiringAnswer, bitsSet, wordsAfter}
 pub use Rattle.tables.specs.Wiring.{General, LongGeneral, Discover, Route, generalRead, generalAnswer, GeneralSas2, short, long, generalReadSas2, sas2Answer}
 pub use Rattle.tables.specs.Wiring.{Discovered, vacant, fields, discoverRead, discoverAnswer}
 pub use Rattle.tables.specs.Wiring.{routeWritten, writeAnswer, bufferAfter, routeRead, routeAnswer}
+pub use Rattle.tables.specs.declared.Entry.{Entry}
+pub use Rattle.tables.specs.Words.{wordPlace, wordAnswer}
+pub use Rattle.tables.specs.Entries.{Entries, entries, Room, roomOf}
 pub use Rattle.tables.specs.Judge.{judged, judgeAnswer, expandersIn, tableCall, tablesAnswer, Counted, countsIn, tablesAfter}
 unfoldable pub use Rattle.tables.specs.Wiring.{inRange}

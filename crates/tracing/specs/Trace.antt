@@ -5,8 +5,9 @@ use mathlib.Core.Bool.{Bool, not, _||_, _&&_}
 use mathlib.Core.List.{List, [], _∷_, _++_}
 use lib.ListN.{length, drop}
 use lib.Dec.{eqb, ltb, leb}
-use Rattle.tables.specs.Wiring.{Result, refused, good, unless, then, refusal, Setting, Domain, phyAt, toEnd}
+use Rattle.tables.specs.Wiring.{bytesFor, Result, refused, good, unless, then, refusal, Setting, Domain, phyAt, toEnd}
 use Rattle.tables.specs.Tables.{needed}
+use Rattle.tables.specs.Entries.{Entries, Room, roomOf, counted}
 use Rattle.tables.specs.Judge.{judgedDomain, judged}
 use Rattle.tracing.specs.Steps.{Step, here, endDevice, bad, lost, onward, step}
 use Rattle.tracing.specs.declared.Outcome.{Outcome}
@@ -59,26 +60,27 @@ traced d words q = traceFrom (length d) d words (q .start) (q .arrival) (q .addr
 unfoldable pub allowed : Domain → ℕ → ℕ → Bool
 allowed d i arrival = ltb i (length d) && (eqb arrival 255 || toEnd (phyAt d i arrival))
 
--- causes 15 to 17 of a request in order, with so many table words and bytes lent
-unfoldable pub requested : Request → ℕ → ℕ → Domain → Result Domain
-requested q words bytes d =
+-- causes 15, 16, 18 and 17 of a request in order, with so much room for table entries and so many bytes lent
+unfoldable pub requested : Request → Room → ℕ → Domain → Result Domain
+requested q room bytes d =
     unless (allowed d (q .start) (q .arrival)) (refusal 15 0 0)
-    (unless (leb (needed d) words && leb (length d) bytes) (refusal 16 0 0)
-    (unless (not (eqb (q .address) 0)) (refusal 17 0 0) (good d)))
+    (unless (leb (needed d) (room .words) && leb (length d) bytes) (refusal 16 0 0)
+    (unless (leb (bytesFor (needed d)) (room .bits)) (refusal 18 0 0)
+    (unless (not (eqb (q .address) 0)) (refusal 17 0 0) (good d))))
 
--- causes 15 to 17, then the trace: a request on an accepted domain, with lent words and so many lent bytes
-unfoldable pub tracedRequest : Domain → List ℕ → ℕ → Request → Result Traced
-tracedRequest d words bytes q =
-    then (requested q (length words) bytes d) (λ _.
-    good (traced d words q))
+-- causes 15 to 18, then the trace over the words that count: a request on an accepted domain, with lent entries and so many lent bytes
+unfoldable pub tracedRequest : Domain → Entries → ℕ → Request → Result Traced
+tracedRequest d t bytes q =
+    then (requested q (roomOf t) bytes d) (λ _.
+    good (traced d (counted t) q))
 
--- the judging call's causes from 7 on, and 15 to 17, then the trace: the trace call on a domain that was read
-unfoldable pub judgedRequest : ℕ → Domain → List ℕ → ℕ → Request → Result Traced
-judgedRequest chain d words bytes q = then (judgedDomain chain d) (λ e. tracedRequest e words bytes q)
+-- the judging call's causes from 7 on, and 15 to 18, then the trace: the trace call on a domain that was read
+unfoldable pub judgedRequest : ℕ → Domain → Entries → ℕ → Request → Result Traced
+judgedRequest chain d t bytes q = then (judgedDomain chain d) (λ e. tracedRequest e t bytes q)
 
 -- the trace call on a file under a setting
-unfoldable pub traceCall : Setting → List ℕ → List ℕ → ℕ → Request → Result Traced
-traceCall setting file words bytes q = then (judged setting file) (λ d. tracedRequest d words bytes q)
+unfoldable pub traceCall : Setting → List ℕ → Entries → ℕ → Request → Result Traced
+traceCall setting file t bytes q = then (judged setting file) (λ d. tracedRequest d t bytes q)
 
 -- what the answer says: outcome, last expander, phy, count
 pub record Reported : Type 0 where

@@ -11,14 +11,16 @@ ghost use lib.ListN.{length};
 ghost use Rattle.tracing.specs.Trace.{request, traceCall, TraceDone};
 ghost use Rattle.tracing.specs.Answers.{requestIn};
 ghost use Rattle.tables.specs.Wiring.{byte, domainIn, FileRoom};
+ghost use Rattle.tables.specs.Entries.{entries};
 
-// Causes 7 to 12, 23, 14 and 15 to 17 of a request over rows, then the walk. A chain may have `chain` expanders. `first` and `low` have room for who has which
+// Causes 7 to 12, 23, 14 and 15 to 18 of a request over rows, then the walk. A chain may have `chain` expanders. `first` and `low` have room for who has which
 // address; 16 where there is too little.
 fn request_rows(
     rows: &[u64],
     first: &mut [u16],
     low: &mut [u8],
     words: &[u64],
+    bits: &[u8],
     start: ExpanderNumber,
     arrival: PhyId,
     s: u64,
@@ -26,13 +28,13 @@ fn request_rows(
     chain: u8,
 ) -> TraceAnswer
     ensures { λ r. ⌜ TraceDone
-        (requestIn chain (length (now (first .entry))) (length (now (low .entry))) (domainIn (now (rows .entry))) (now (words .entry)) (length (now (passed .entry))) (request (start .0) (arrival .0) s))
+        (requestIn chain (length (now (first .entry))) (length (now (low .entry))) (domainIn (now (rows .entry))) (entries (now (words .entry)) (now (bits .entry))) (length (now (passed .entry))) (request (start .0) (arrival .0) s))
         r (now (passed .entry)) (now (passed .exit)) ⌝ }
 {
     let verdict = tables::judge_rows(rows, first, low, chain);
     match verdict {
         Check::Refused(r) => TraceAnswer::Refused(r),
-        Check::Passed => requests::trace_rows(rows, first, words, start, arrival, s, passed),
+        Check::Passed => requests::trace_rows(rows, first, words, bits, start, arrival, s, passed),
     }
 }
 
@@ -44,6 +46,7 @@ fn trace_in(
     first: &mut [u16],
     low: &mut [u8],
     words: &[u64],
+    bits: &[u8],
     start: ExpanderNumber,
     arrival: PhyId,
     s: u64,
@@ -51,7 +54,7 @@ fn trace_in(
 ) -> TraceAnswer
     requires { ⌜ FileRoom setting (now file) (now rows) (now first) (now low) ⌝ }
     ensures { λ r. ⌜ TraceDone
-        (traceCall setting (now (file .entry)) (now (words .entry)) (length (now (passed .entry))) (request (start .0) (arrival .0) s))
+        (traceCall setting (now (file .entry)) (entries (now (words .entry)) (now (bits .entry))) (length (now (passed .entry))) (request (start .0) (arrival .0) s))
         r (now (passed .entry)) (now (passed .exit)) ⌝ }
 {
     let read = tables::read_domain(setting, file, rows);
@@ -65,6 +68,7 @@ fn trace_in(
                 first,
                 low,
                 words,
+                bits,
                 start,
                 arrival,
                 s,
@@ -80,6 +84,7 @@ fn trace_few(
     setting: Setting,
     file: &[u8],
     words: &[u64],
+    bits: &[u8],
     start: ExpanderNumber,
     arrival: PhyId,
     s: u64,
@@ -87,7 +92,7 @@ fn trace_few(
 ) -> TraceAnswer
     requires { ⌜ byte (now file) 1 ≤ 8 ⌝ }
     ensures { λ r. ⌜ TraceDone
-        (traceCall setting (now (file .entry)) (now (words .entry)) (length (now (passed .entry))) (request (start .0) (arrival .0) s))
+        (traceCall setting (now (file .entry)) (entries (now (words .entry)) (now (bits .entry))) (length (now (passed .entry))) (request (start .0) (arrival .0) s))
         r (now (passed .entry)) (now (passed .exit)) ⌝ }
 {
     if tables::stated_count(file) <= 2 {
@@ -101,6 +106,7 @@ fn trace_few(
             &mut first[..],
             &mut low[..],
             words,
+            bits,
             start,
             arrival,
             s,
@@ -117,6 +123,7 @@ fn trace_few(
         &mut first[..],
         &mut low[..],
         words,
+        bits,
         start,
         arrival,
         s,
@@ -129,13 +136,14 @@ fn trace_many(
     setting: Setting,
     file: &[u8],
     words: &[u64],
+    bits: &[u8],
     start: ExpanderNumber,
     arrival: PhyId,
     s: u64,
     passed: &mut [u8],
 ) -> TraceAnswer
     ensures { λ r. ⌜ TraceDone
-        (traceCall setting (now (file .entry)) (now (words .entry)) (length (now (passed .entry))) (request (start .0) (arrival .0) s))
+        (traceCall setting (now (file .entry)) (entries (now (words .entry)) (now (bits .entry))) (length (now (passed .entry))) (request (start .0) (arrival .0) s))
         r (now (passed .entry)) (now (passed .exit)) ⌝ }
 {
     let mut rows = [0u64; 16512];
@@ -148,6 +156,7 @@ fn trace_many(
         &mut first[..],
         &mut low[..],
         words,
+        bits,
         start,
         arrival,
         s,
@@ -155,29 +164,30 @@ fn trace_many(
     )
 }
 
-// The trace call: causes 22, 1 to 12, 23, 14 and 15 to 17, or how the request ends. The numbers of the expanders passed
+// The trace call: causes 22, 1 to 12, 23, 14, 15, 16, 18 and 17, or how the request ends over the words that count. The numbers of the expanders passed
 // fill the first of the lent bytes; the rest stay, and all of them where it is refused. It takes room as `judge` does.
 pub fn trace(
     setting: Setting,
     file: &[u8],
     words: &[u64],
+    bits: &[u8],
     start: ExpanderNumber,
     arrival: PhyId,
     s: u64,
     passed: &mut [u8],
 ) -> TraceAnswer
     ensures { λ r. ⌜ TraceDone
-        (traceCall setting (now (file .entry)) (now (words .entry)) (length (now (passed .entry))) (request (start .0) (arrival .0) s))
+        (traceCall setting (now (file .entry)) (entries (now (words .entry)) (now (bits .entry))) (length (now (passed .entry))) (request (start .0) (arrival .0) s))
         r (now (passed .entry)) (now (passed .exit)) ⌝ }
 {
     let n = tables::stated_count(file);
     if n <= 8 {
-        return trace_few(setting, file, words, start, arrival, s, passed);
+        return trace_few(setting, file, words, bits, start, arrival, s, passed);
     }
     if n > 64 {
         if file.len() > 2 {
-            return trace(setting, &file[..2], words, start, arrival, s, passed);
+            return trace(setting, &file[..2], words, bits, start, arrival, s, passed);
         }
     }
-    trace_many(setting, file, words, start, arrival, s, passed)
+    trace_many(setting, file, words, bits, start, arrival, s, passed)
 }

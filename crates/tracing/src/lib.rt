@@ -1,15 +1,19 @@
 // Connection requests, traced over lent table words.
 mod calls;
+mod reasons;
 mod requests;
+mod step_call;
 mod steps;
 mod stretches;
 mod walks;
 
 pub use calls::trace;
+pub use step_call::explain_step;
 
 // What the layer above uses of the layers below.
 pub use tables::Discover;
 pub use tables::DiscoverRead;
+pub use tables::Entry;
 pub use tables::ExpanderNumber;
 pub use tables::General;
 pub use tables::GeneralRead;
@@ -25,14 +29,17 @@ pub use tables::RouteWrite;
 pub use tables::Setting;
 pub use tables::TablesGiven;
 pub use tables::Wiring;
+pub use tables::WordPlace;
 pub use tables::give_tables;
 pub use tables::judge;
+pub use tables::needed;
 pub use tables::put_route;
 pub use tables::read_discover;
 pub use tables::read_general;
 pub use tables::read_general_sas2;
 pub use tables::read_route;
 pub use tables::wire;
+pub use tables::word_place;
 
 // What an expander does with a request: arrived here; arrived at the end device of a phy; BAD
 // DESTINATION; NO DESTINATION; on to an expander with its arrival phy.
@@ -42,6 +49,20 @@ pub enum Step {
     Bad,
     Lost,
     Onward(ExpanderNumber, PhyId),
+}
+
+// Why an expander does what it does: the rule, 1 to 5 for (i) to (v), the phy picked (255 where there is none), and the
+// route index of the entry that matched (65535 where there is none).
+pub struct Reason {
+    pub rule: u8,
+    pub phy: PhyId,
+    pub index: RouteIndex,
+}
+
+// What the call on one expander's step answers: the reason, and the step.
+pub enum StepAnswer {
+    Refused(Refusal),
+    Told(Reason, Step),
 }
 
 // The outcome of a request: arrived, NO DESTINATION, BAD DESTINATION.

@@ -1,4 +1,4 @@
-// Requests: causes 15 to 17, and the walk.
+// Requests: causes 15 to 18, and the walk.
 use crate::TraceAnswer;
 use crate::walks::walk;
 use tables::Check;
@@ -11,6 +11,7 @@ ghost use Rattle.tables.specs.Wiring.{domainIn, IndexedFirst};
 ghost use Rattle.tables.specs.Wiring.{Refused};
 ghost use Rattle.tables.specs.Wiring.{checkAnswer};
 ghost use Rattle.tables.specs.Wiring.{refusal};
+ghost use Rattle.tables.specs.Entries.{entries};
 ghost use Rattle.tracing.specs.Trace.{request, allowed, requested, tracedRequest, TraceDone};
 
 // Does cause 15 not hold: the start is an expander, and the arrival phy is 255 or attached to an end
@@ -28,7 +29,7 @@ fn is_allowed(rows: &[u64], start: ExpanderNumber, arrival: PhyId) -> bool
 }
 
 // A refusal at place 0, 0.
-fn refuse(number: u8) -> Check
+pub(crate) fn refuse(number: u8) -> Check
     ensures { λ r. ⌜ r ≡ Refused (refusal number 0 0) ⌝ }
 {
     Check::Refused(Refusal {
@@ -38,25 +39,31 @@ fn refuse(number: u8) -> Check
     })
 }
 
-// Causes 15 to 17, with so many table words and bytes lent.
+// Causes 15, 16, 18 and 17, with so many table words, bytes for their bits, and bytes for expanders passed lent.
 fn check_request(
     rows: &[u64],
     words: usize,
+    bits: usize,
     bytes: usize,
     start: ExpanderNumber,
     arrival: PhyId,
     s: u64,
 ) -> Check
-    ensures { λ r. ⌜ checkAnswer (domainIn (now (rows .entry))) r ≡ requested (request (start .0) (arrival .0) s) words bytes (domainIn (now (rows .entry))) ⌝ }
+    ensures { λ r. ⌜ checkAnswer (domainIn (now (rows .entry))) r ≡ requested (request (start .0) (arrival .0) s) (record { words = words; bits = bits }) bytes (domainIn (now (rows .entry))) ⌝ }
 {
     if !is_allowed(rows, start, arrival) {
         return refuse(15);
     }
-    if words < tables::needed_words(rows) {
+    let needed = tables::needed_words(rows);
+    if words < needed {
         return refuse(16);
     }
     if bytes < tables::expander_count(rows) as usize {
         return refuse(16);
+    }
+    let bytes_of_bits = tables::bytes_for(needed);
+    if bits < bytes_of_bits {
+        return refuse(18);
     }
     if s == 0 {
         return refuse(17);
@@ -70,6 +77,7 @@ pub(crate) fn trace_rows(
     rows: &[u64],
     first: &[u16],
     words: &[u64],
+    bits: &[u8],
     start: ExpanderNumber,
     arrival: PhyId,
     s: u64,
@@ -77,11 +85,28 @@ pub(crate) fn trace_rows(
 ) -> TraceAnswer
     requires { ⌜ IndexedFirst (domainIn (now rows)) (now first) ⌝ }
     ensures { λ r. ⌜ TraceDone
-        (tracedRequest (domainIn (now (rows .entry))) (now (words .entry)) (length (now (passed .entry))) (request (start .0) (arrival .0) s))
+        (tracedRequest (domainIn (now (rows .entry))) (entries (now (words .entry)) (now (bits .entry))) (length (now (passed .entry))) (request (start .0) (arrival .0) s))
         r (now (passed .entry)) (now (passed .exit)) ⌝ }
 {
-    match check_request(rows, words.len(), passed.len(), start, arrival, s) {
+    match check_request(
+        rows,
+        words.len(),
+        bits.len(),
+        passed.len(),
+        start,
+        arrival,
+        s,
+    ) {
         Check::Refused(r) => TraceAnswer::Refused(r),
-        Check::Passed => TraceAnswer::Ended(walk(rows, first, words, start, arrival, s, passed)),
+        Check::Passed => TraceAnswer::Ended(walk(
+            rows,
+            first,
+            words,
+            bits,
+            start,
+            arrival,
+            s,
+            passed,
+        )),
     }
 }

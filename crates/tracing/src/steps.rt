@@ -12,12 +12,13 @@ ghost use lib.Dec.{T, eqb};
 ghost use Rattle.tables.specs.Wiring.{domainIn};
 ghost use Rattle.tables.specs.Wiring.{IndexedFirst, phyAt, addressOf, attached, bears, routes, toEnd, toExpander};
 ghost use Rattle.tables.specs.Tables.{offset};
+ghost use Rattle.tables.specs.Entries.{entries, counted};
 ghost use Rattle.tracing.specs.Steps.{bad, endDevice, listing, cameFrom, moveBy, step};
 ghost use Rattle.tracing.specs.Answers.{stepAnswer, pickAnswer, bearingPick, listingPick, subtractingPick};
 ghost use Rattle.tracing.specs.Answers.{subtractiveStep, tableStep, directStep};
 
 // The phy that a step picks, if any.
-enum Pick {
+pub(crate) enum Pick {
     At(PhyId),
     Nowhere,
 }
@@ -43,9 +44,17 @@ fn is_subtracting(f: Phy) -> bool
 }
 
 // Is phy p of expander i a table phy attached to an expander, with s in its stretch, which starts at `at`?
-fn is_listing(rows: &[u64], words: &[u64], i: ExpanderNumber, p: PhyId, at: usize, s: u64) -> bool
+fn is_listing(
+    rows: &[u64],
+    words: &[u64],
+    bits: &[u8],
+    i: ExpanderNumber,
+    p: PhyId,
+    at: usize,
+    s: u64,
+) -> bool
     requires { ⌜ at ≡ offset (domainIn (now rows)) (i .0) (p .0) ⌝ }
-    ensures { λ r. ⌜ r ≡ listing (domainIn (now (rows .entry))) (now (words .entry)) (i .0) s (p .0) ⌝ }
+    ensures { λ r. ⌜ r ≡ listing (domainIn (now (rows .entry))) (counted (entries (now (words .entry)) (now (bits .entry)))) (i .0) s (p .0) ⌝ }
 {
     let f = tables::phy_at(rows, i, p);
     if tables::phy_type(f) < 2 {
@@ -54,11 +63,11 @@ fn is_listing(rows: &[u64], words: &[u64], i: ExpanderNumber, p: PhyId, at: usiz
     if tables::phy_attribute(f) != 2 {
         return false;
     }
-    lists(words, at, tables::index_count(rows, i) as usize, s)
+    lists(words, bits, at, tables::index_count(rows, i) as usize, s)
 }
 
 // (ii): the lowest attached phy that bears the address.
-fn pick_bearing(rows: &[u64], i: ExpanderNumber, s: u64) -> Pick
+pub(crate) fn pick_bearing(rows: &[u64], i: ExpanderNumber, s: u64) -> Pick
     ensures { λ r. ⌜ pickAnswer r ≡ bearingPick (domainIn (now (rows .entry))) (i .0) s ⌝ }
 {
     let n = tables::phy_count(rows, i);
@@ -73,14 +82,20 @@ fn pick_bearing(rows: &[u64], i: ExpanderNumber, s: u64) -> Pick
 }
 
 // (iii): of the table phys attached to an expander, the lowest that has the address in its own stretch.
-fn pick_listing(rows: &[u64], words: &[u64], i: ExpanderNumber, s: u64) -> Pick
-    ensures { λ r. ⌜ pickAnswer r ≡ listingPick (domainIn (now (rows .entry))) (now (words .entry)) (i .0) s ⌝ }
+pub(crate) fn pick_listing(
+    rows: &[u64],
+    words: &[u64],
+    bits: &[u8],
+    i: ExpanderNumber,
+    s: u64,
+) -> Pick
+    ensures { λ r. ⌜ pickAnswer r ≡ listingPick (domainIn (now (rows .entry))) (counted (entries (now (words .entry)) (now (bits .entry)))) (i .0) s ⌝ }
 {
     let n = tables::phy_count(rows, i);
     let mut at = words_before(rows, i);
     let mut p: u8 = 0;
     while p < n {
-        if is_listing(rows, words, i, PhyId(p), at, s) {
+        if is_listing(rows, words, bits, i, PhyId(p), at, s) {
             return Pick::At(PhyId(p));
         }
         at += size_at(rows, i, PhyId(p));
@@ -90,7 +105,7 @@ fn pick_listing(rows: &[u64], words: &[u64], i: ExpanderNumber, s: u64) -> Pick
 }
 
 // (iv): the lowest subtractive phy attached to an expander.
-fn pick_subtracting(rows: &[u64], i: ExpanderNumber) -> Pick
+pub(crate) fn pick_subtracting(rows: &[u64], i: ExpanderNumber) -> Pick
     ensures { λ r. ⌜ pickAnswer r ≡ subtractingPick (domainIn (now (rows .entry))) (i .0) ⌝ }
 {
     let n = tables::phy_count(rows, i);
@@ -105,7 +120,7 @@ fn pick_subtracting(rows: &[u64], i: ExpanderNumber) -> Pick
 }
 
 // The address at the arrival phy; 0 where that is 255.
-fn came_from(rows: &[u64], i: ExpanderNumber, arrival: PhyId) -> u64
+pub(crate) fn came_from(rows: &[u64], i: ExpanderNumber, arrival: PhyId) -> u64
     ensures { λ r. ⌜ r ≡ cameFrom (domainIn (now (rows .entry))) (i .0) (arrival .0) ⌝ }
 {
     if arrival.0 == 255 {
@@ -150,14 +165,15 @@ fn table_step(
     rows: &[u64],
     first: &[u16],
     words: &[u64],
+    bits: &[u8],
     i: ExpanderNumber,
     came: u64,
     s: u64,
 ) -> Step
     requires { ⌜ IndexedFirst (domainIn (now rows)) (now first) ⌝ }
-    ensures { λ r. ⌜ stepAnswer r ≡ tableStep (domainIn (now (rows .entry))) (now (words .entry)) (i .0) came s ⌝ }
+    ensures { λ r. ⌜ stepAnswer r ≡ tableStep (domainIn (now (rows .entry))) (counted (entries (now (words .entry)) (now (bits .entry)))) (i .0) came s ⌝ }
 {
-    match pick_listing(rows, words, i, s) {
+    match pick_listing(rows, words, bits, i, s) {
         Pick::At(p) => move_unless(rows, first, i, p, came, Step::Bad),
         Pick::Nowhere => subtractive_step(rows, first, i, came),
     }
@@ -183,16 +199,17 @@ fn direct_step(
     rows: &[u64],
     first: &[u16],
     words: &[u64],
+    bits: &[u8],
     i: ExpanderNumber,
     came: u64,
     s: u64,
 ) -> Step
     requires { ⌜ IndexedFirst (domainIn (now rows)) (now first) ⌝ }
-    ensures { λ r. ⌜ stepAnswer r ≡ directStep (domainIn (now (rows .entry))) (now (words .entry)) (i .0) came s ⌝ }
+    ensures { λ r. ⌜ stepAnswer r ≡ directStep (domainIn (now (rows .entry))) (counted (entries (now (words .entry)) (now (bits .entry)))) (i .0) came s ⌝ }
 {
     match pick_bearing(rows, i, s) {
         Pick::At(p) => arrive_unless(rows, first, i, p, came),
-        Pick::Nowhere => table_step(rows, first, words, i, came, s),
+        Pick::Nowhere => table_step(rows, first, words, bits, i, came, s),
     }
 }
 
@@ -201,15 +218,16 @@ pub(crate) fn take_step(
     rows: &[u64],
     first: &[u16],
     words: &[u64],
+    bits: &[u8],
     i: ExpanderNumber,
     arrival: PhyId,
     s: u64,
 ) -> Step
     requires { ⌜ IndexedFirst (domainIn (now rows)) (now first) ⌝ }
-    ensures { λ r. ⌜ stepAnswer r ≡ step (domainIn (now (rows .entry))) (now (words .entry)) (i .0) (arrival .0) s ⌝ }
+    ensures { λ r. ⌜ stepAnswer r ≡ step (domainIn (now (rows .entry))) (counted (entries (now (words .entry)) (now (bits .entry)))) (i .0) (arrival .0) s ⌝ }
 {
     if tables::expander_address(rows, i) == s {
         return Step::Here;
     }
-    direct_step(rows, first, words, i, came_from(rows, i, arrival), s)
+    direct_step(rows, first, words, bits, i, came_from(rows, i, arrival), s)
 }

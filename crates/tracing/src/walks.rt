@@ -9,6 +9,7 @@ ghost use mathlib.Core.Path.{_≡_};
 ghost use Prim.Native.Nat.{_≤_};
 ghost use lib.ListN.{length};
 ghost use Rattle.tables.specs.Wiring.{domainIn, IndexedFirst};
+ghost use Rattle.tables.specs.Entries.{entries, counted};
 ghost use Rattle.tracing.specs.Trace.{request, traced};
 ghost use Rattle.tracing.specs.Answers.{endOf, Walked};
 
@@ -30,6 +31,7 @@ pub(crate) fn walk(
     rows: &[u64],
     first: &[u16],
     words: &[u64],
+    bits: &[u8],
     start: ExpanderNumber,
     arrival: PhyId,
     s: u64,
@@ -37,7 +39,7 @@ pub(crate) fn walk(
 ) -> End
     requires { ⌜ IndexedFirst (domainIn (now rows)) (now first) × (length (domainIn (now rows)) ≤ length (now passed)) ⌝ }
     ensures { λ r. ⌜ Walked
-        (traced (domainIn (now (rows .entry))) (now (words .entry)) (request (start .0) (arrival .0) s))
+        (traced (domainIn (now (rows .entry))) (counted (entries (now (words .entry)) (now (bits .entry)))) (request (start .0) (arrival .0) s))
         r (now (passed .entry)) (now (passed .exit)) ⌝ }
 {
     let n = tables::expander_count(rows);
@@ -47,7 +49,7 @@ pub(crate) fn walk(
     while k < n {
         passed[k as usize] = i.0;
         k += 1;
-        let t = take_step(rows, first, words, i, q, s);
+        let t = take_step(rows, first, words, bits, i, q, s);
         match t {
             Step::Here => return ended(Outcome::Arrived, i, PhyId(255), k),
             Step::EndDevice(p) => return ended(Outcome::Arrived, i, p, k),

@@ -2,13 +2,13 @@
 use mathlib.Core.Path.{_≡_, refl, sym, ap, subst, _∙_}
 use mathlib.Core.Logic.{_⊎_, inl, inr, _≢_, _↔_, ⊎-elim, by-cases}
 use mathlib.Core.List.{List, [], _∷_}
-use mathlib.Core.Bool.{Bool, true, false, cond, not, _||_, _&&_}
+use mathlib.Core.Bool.{Bool, cond, not, _||_, _&&_}
 use Prim.Native.Nat.{ℕ, zero, suc, _<_}
 use native.Mathlib.Omega.{arith}
 use native.Mathlib.Decide.{ℕ-discrete, decLt}
 use lib.ListN.{length, getD, take, List·getD-eq-default}
 use lib.Dec.{T, eqb, ltb, eqb→eq, ltb→lt, lt→ltb, not-T, T-not}
-use Rattle.frames.specs.Refusals.{refused, good, refusal}
+use Rattle.frames.specs.Refusals.{good, refusal}
 use Rattle.wiring.specs.declared.Setting.{Setting}
 use Rattle.wiring.specs.declared.Phy.{Phy}
 use Rattle.wiring.specs.declared.Phy.the-variants.{Vacant, Present}
@@ -24,7 +24,7 @@ use Rattle.wiring.specs.Chains.{chainsWithin, unlong, ShortChains}
 use Rattle.wiring.specs.Links.{unlooped, joined, joinedIn, linkedDomain}
 use Rattle.wiring.proofs.Results.{never, good-one, unless-good, good-unless, then-good, good-then, then-same}
 use Rattle.wiring.proofs.Read.{read-good}
-use Rattle.wiring.proofs.Members.{tests, or-cases, not-not, is-true, is-false, was-true, eq→eqb, in-cast, all-cons, any-of, of-any, in-getD, getD-in, in-take, take-in, map-in, in-upTo, numbers-below}
+use Rattle.wiring.proofs.Members.{tests, by-test, or-cases, not-not, is-true, is-false, was-true, was-false, eq→eqb, in-cast, all-cons, any-of, of-any, in-getD, getD-in, in-take, take-in, map-in, in-upTo, numbers-below}
 use Rattle.wiring.proofs.Loops.{loopfree-iff}
 use Rattle.wiring.proofs.Reach.{reached-iff}
 use Rattle.wiring.proofs.LongChains.{within-iff}
@@ -66,15 +66,10 @@ pub firstIn-good : (k : ℕ) (test : ℕ → ℕ → Bool) (qs : List Place) (d 
     → (d ≡ e) × ((i p : ℕ) → In (place i p) qs → ¬ (T (test i p)))
 unfolding firstIn
 firstIn-good k test [] d e f = (good-one d e f, λ i p h. absurd h)
-firstIn-good k test (q ∷ qs) d e f = go (test (q .expander) (q .phy)) refl f (firstIn-good k test qs d e)
-  where
-    go : (b : Bool) → test (q .expander) (q .phy) ≡ b → cond b (refused (refusal k (q .expander) (q .phy))) (firstIn k test qs d) ≡ good e
-        → (firstIn k test qs d ≡ good e → (d ≡ e) × ((i p : ℕ) → In (place i p) qs → ¬ (T (test i p))))
-        → (d ≡ e) × ((i p : ℕ) → In (place i p) (q ∷ qs) → ¬ (T (test i p)))
-    go true o g r = never (refusal k (q .expander) (q .phy)) e g
-    go false o g r =
-        let s = r g in
-        (s .0, λ i p. ⊎-elim (λ h t. subst T o (subst (λ v. T (test (v .expander) (v .phy))) h t)) (s .1 i p))
+firstIn-good k test (q ∷ qs) d e f = by-test (test (q .expander) (q .phy))
+    (λ o. never (refusal k (q .expander) (q .phy)) e (rw o at f))
+    (λ o. let s = firstIn-good k test qs d e (rw o at f) in
+    (s .0, λ i p. ⊎-elim (λ h t. was-false _ o (subst (λ v. T (test (v .expander) (v .phy))) h t)) (s .1 i p)))
 
 pub good-firstIn : (k : ℕ) (test : ℕ → ℕ → Bool) (qs : List Place) (d : Domain) → ((i p : ℕ) → In (place i p) qs → ¬ (T (test i p)))
     → firstIn k test qs d ≡ good d
@@ -160,17 +155,12 @@ clash-address φ ψ t u x y n = rw (is-false (eqb (addressOf φ) (addressOf ψ))
 pub clash-why : (φ ψ : Phy) → (T (attached φ) → T (attached ψ) → addressOf φ ≡ addressOf ψ → attributeOf φ ≡ attributeOf ψ)
     → (T (attached φ) → T (attached ψ) → T (routes 1 φ) → T (routes 1 ψ) → addressOf φ ≡ addressOf ψ) → T (clash φ ψ) → ⊥
 unfolding clash
-clash-why φ ψ k o c = go (eqb (addressOf φ) (addressOf ψ)) refl (search tests)
-  where
-    t : T (attached φ)
-    t = search tests
-
-    u : T (attached ψ)
-    u = search tests
-
-    go : (b : Bool) → eqb (addressOf φ) (addressOf ψ) ≡ b → T (cond b (not (eqb (attributeOf φ) (attributeOf ψ))) (routes 1 φ && routes 1 ψ)) → ⊥
-    go true e v = T-not (eqb (attributeOf φ) (attributeOf ψ)) v (search (tests, k t u))
-    go false e v = subst T e (eq→eqb (addressOf φ) (addressOf ψ) (o t u (search tests) (search tests)))
+clash-why φ ψ k o c =
+    let t : T (attached φ) = search tests in
+    let u : T (attached ψ) = search tests in
+    let v : T (cond (eqb (addressOf φ) (addressOf ψ)) (not (eqb (attributeOf φ) (attributeOf ψ))) (routes 1 φ && routes 1 ψ)) = search tests in
+    by-test (eqb (addressOf φ) (addressOf ψ)) (λ e. T-not (eqb (attributeOf φ) (attributeOf ψ)) (rw e at v) (search (tests, k t u)))
+    (λ e. let x : T (routes 1 φ && routes 1 ψ) = rw e at v in was-false _ e (eq→eqb (addressOf φ) (addressOf ψ) (o t u (search tests) (search tests))))
 
 -- a clash with a lower phy
 pub lower-clash : (d : Domain) (i p q : ℕ) → q < p → T (clash (phyAt d i p) (phyAt d i q)) → T (clashing d i p)
@@ -337,12 +327,9 @@ good-unlooped d f =
 pub joinedIn-good : (l : List ℕ) (d e : Domain) → joinedIn l d ≡ good e → (d ≡ e) × ((i : ℕ) → In i l → T (joined d i))
 unfolding joinedIn
 joinedIn-good [] d e f = (good-one d e f, λ i h. absurd h)
-joinedIn-good (j ∷ l) d e f = go (joined d j) refl f (joinedIn-good l d e)
-  where
-    go : (b : Bool) → joined d j ≡ b → cond b (joinedIn l d) (refused (refusal 12 j 0)) ≡ good e
-        → (joinedIn l d ≡ good e → (d ≡ e) × ((i : ℕ) → In i l → T (joined d i))) → (d ≡ e) × ((i : ℕ) → In i (j ∷ l) → T (joined d i))
-    go true q o r = let s = r o in (s .0, all-cons (λ v. T (joined d v)) j l (was-true (joined d j) q) (s .1))
-    go false q o r = never (refusal 12 j 0) e o
+joinedIn-good (j ∷ l) d e f = by-test (joined d j)
+    (λ q. let s = joinedIn-good l d e (rw q at f) in (s .0, all-cons (λ v. T (joined d v)) j l (was-true (joined d j) q) (s .1)))
+    (λ q. never (refusal 12 j 0) e (rw q at f))
 
 pub good-joinedIn : (l : List ℕ) (d : Domain) → ((i : ℕ) → In i l → T (joined d i)) → joinedIn l d ≡ good d
 unfolding joinedIn

@@ -18,7 +18,7 @@ use Rattle.wiring.specs.Neighbours.{neighbours, setOf, neighbourWord}
 use Rattle.frames.specs.Refusals.{Result, refused, good, refusal}
 use Rattle.wiring.specs.Links.{joined, joinedIn}
 use Rattle.wiring.specs.Rounds.{RoundsRun, hasBit, members, SetBelow, roundTest, nextTest, nextSet, rounds}
-use Rattle.wiring.proofs.Members.{any-same, keep-keep, keep-same, isIn-keep, isIn-of, in-upTo, numbers-below, same-test, is-true}
+use Rattle.wiring.proofs.Members.{by-test, any-same, keep-keep, keep-same, isIn-keep, isIn-of, in-upTo, numbers-below, same-test, is-true}
 use Rattle.wiring.proofs.Sets.{wordBelow, bitOf, set-word, ones-word, and-word, word-bit, neighbour-word}
 use Rattle.wiring.proofs.Wires.{adj-symmetric}
 
@@ -72,11 +72,7 @@ two-counted (x ∷ y ∷ l) = sym (le-leb 2 (suc (suc (length l))) (omega arith)
 any-counted : (f : ℕ → Bool) (l : List ℕ) → any f l ≡ leb 1 (length (keep f l))
 unfolding any keep
 any-counted f [] = refl
-any-counted f (x ∷ l) = go (f x) (any-counted f l)
-  where
-    go : (b : Bool) → any f l ≡ leb 1 (length (keep f l)) → (b || any f l) ≡ leb 1 (length (cond b (x ∷ keep f l) (keep f l)))
-    go true e = sym (le-leb 1 (suc (length (keep f l))) (omega arith))
-    go false e = e
+any-counted f (x ∷ l) = by-test (f x) (λ e. rw e (sym (le-leb 1 (suc (length (keep f l))) (omega arith)))) (λ e. rw e (any-counted f l))
 
 -- the code's test is the definition's
 pub next-test : (d : Domain) (k word set v : ℕ) → v < length d → SetBelow (length d) set → word ≡ neighbourWord d v
@@ -195,9 +191,7 @@ first-only (suc n) h = ap (λ l. 0 ∷ l) (none n 1 (omega arith))
   where
     none : (n i : ℕ) → 1 ≤ i → keep (λ v. eqb v 0) (numbers i n) ≡ []
     none zero i l = refl
-    none (suc n) i l =
-        ap (λ (b : Bool). cond b (i ∷ keep (λ v. eqb v 0) (numbers (i + 1) n)) (keep (λ v. eqb v 0) (numbers (i + 1) n))) (ne-eqb i 0 (λ q. omega arith))
-        ∙ none n (i + 1) (omega arith)
+    none (suc n) i l = rw (ne-eqb i 0 (λ q. omega arith)) (none n (i + 1) (omega arith))
 
 first-set : setOf (0 ∷ []) ≡ 1
 unfolding setOf

@@ -2,7 +2,7 @@
 use Prim.Native.Nat.{ℕ, suc, _+_, _-_, _*_, _/_, _%_, _^_, _≤_, _<_, max}
 use mathlib.Core.Path.{_≡_, refl, sym, _∙_, ap, ap₂}
 use mathlib.Core.Logic.{by-cases}
-use mathlib.Core.Bool.{Bool, true, false, _||_, _&&_}
+use mathlib.Core.Bool.{true, false, _||_, _&&_, or-false}
 use mathlib.Core.List.{List, [], _∷_}
 use native.Mathlib.Decide.{ℕ-discrete, decLt}
 use native.Mathlib.Omega.{arith}
@@ -68,11 +68,7 @@ module _ (d : Domain) where
   module _ (φ : Phy) where
     one-phy : (w : ℕ) → ((m : ℕ) → m < 64 → hasBit w m ≡ leadsTo d m φ) → FarSet d (φ ∷ []) w
     unfolding any
-    one-phy w e = record { bit = λ m h. e m h ∙ sym (or-none (leadsTo d m φ)) }
-      where
-        or-none : (b : Bool) → (b || false) ≡ b
-        or-none true = refl
-        or-none false = refl
+    one-phy w e = record { bit = λ m h. e m h ∙ sym (or-false (leadsTo d m φ)) }
 
     pub far-no : typeOf φ < 2 → FarSet d (φ ∷ []) 0
     far-no h = one-phy 0 (λ m l. no-bit m ∙ rw (lt-leb 2 (typeOf φ) h))

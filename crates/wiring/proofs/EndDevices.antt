@@ -1,27 +1,25 @@
 -- Slots, and what the lowest slot with an address tells: which expander has it, and whether an end device at an earlier expander has it.
-use Prim.Native.Nat.{ℕ, suc, _+_, _-_, _*_, _/_, _%_, _≤_, _<_}
+use Prim.Native.Nat.{ℕ, _+_, _-_, _*_, _/_, _%_, _≤_, _<_}
 use mathlib.Core.Path.{_≡_, refl, sym, _∙_, ap, subst}
 use mathlib.Core.Logic.{_⊎_, inl, inr, _≢_, ⊎-elim, by-cases}
-use mathlib.Core.Bool.{Bool, true, false, cond, _||_, _&&_}
+use mathlib.Core.Bool.{_&&_}
 use mathlib.Core.List.{List}
-use native.Mathlib.Decide.{ℕ-discrete, decLt, decLe}
+use native.Mathlib.Decide.{ℕ-discrete, decLt}
 use native.Mathlib.Omega.{arith}
 use native.Mathlib.Nat.{zero-add}
 use lib.ListN.{length, getD, set, take}
 use lib.Seq.{getD-set-same, getD-set-other}
 use lib.Dec.{T, eqb, ltb, ltb→lt, lt→ltb}
 use borrow.Author.Tests.{lt-ltb, le-ltb, ne-eqb}
-use Rattle.wiring.specs.declared.Phy.{Phy}
-use Rattle.wiring.specs.declared.Phy.the-variants.{Vacant, Present}
+use Rattle.wiring.specs.declared.Phy.the-variants.{Vacant}
 use Rattle.wiring.specs.Lists.{any}
-use Rattle.wiring.specs.Domain.{Domain, noExpander, expanderAt, phyAt, addressOf, attached, toEnd, toExpander, bears, numberOf}
+use Rattle.wiring.specs.Domain.{Domain, noExpander, expanderAt, phyAt, addressOf, attached, toEnd, bears, numberOf}
 use Rattle.wiring.specs.Causes.{endAt}
 use Rattle.wiring.specs.Rows.{phyIn, domainIn}
-use Rattle.wiring.specs.SearchTree.{Tree, Lowest}
-use Rattle.wiring.specs.Addresses.{slotsBefore, slotOf, slotPhy, slotAddress, slotWord, isDevice, listedFrom, addressFrom, LowestFrom, TreeFrom, numberIn, isTaken, FirstOf, LowestPhy, Firsts, Lows}
-use Rattle.wiring.proofs.Members.{tests, and-both, or-cases, or-left, or-right, of-any, any-of, take-in, in-take, in-getD, is-true, is-false, eq→eqb, same-test}
+use Rattle.wiring.specs.Addresses.{slotsBefore, slotOf, slotPhy, slotAddress, slotWord, isDevice, listedFrom, addressFrom, LowestFrom, numberIn, isTaken, LowestPhy}
+use Rattle.wiring.proofs.Members.{tests, by-test, and-both, or-cases, or-left, or-right, of-any, any-of, take-in, in-take, in-getD, is-false, eq→eqb, same-test}
 use Rattle.wiring.proofs.InRows.{head-in, no-head, address-in, phy-at-in}
-use Rattle.wiring.proofs.Wires.{numberOf-is, phy-range, expander-range, end-attached, end-no-expander}
+use Rattle.wiring.proofs.Wires.{numberOf-is, phy-range, expander-range, end-attached}
 use Rattle.wiring.proofs.Accepted.{end-at}
 use Rattle.wiring.proofs.Finding.{number-is, number-none}
 
@@ -150,12 +148,7 @@ lowest-phy d i p v h l low = record {
 
 -- the word of a listed slot is its address
 in-address : (a w : ℕ) → T (attached (phyIn a w)) → addressOf (phyIn a w) ≡ a
-in-address a w = go (eqb (w % 2) 0)
-  where
-    go : (b : Bool) → T (attached (cond b (Vacant (w / 2 % 256)) (Present (record { device = w / 2 % 4; attribute = w / 8 % 4; address = a; far = record { 0 = w / 32 % 256 } }))))
-        → addressOf (cond b (Vacant (w / 2 % 256)) (Present (record { device = w / 2 % 4; attribute = w / 8 % 4; address = a; far = record { 0 = w / 32 % 256 } }))) ≡ a
-    go true t = absurd t
-    go false t = refl
+in-address a w t = by-test (eqb (w % 2) 0) (λ e. absurd (rw e at t)) (λ e. rw e refl)
 
 module _ (ws : List ℕ) where
   expander-word : (t : ℕ) → t < 64 → t < length (domainIn ws) → getD ws (slotWord t) 0 ≡ slotAddress (domainIn ws) t

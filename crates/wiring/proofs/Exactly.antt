@@ -2,12 +2,12 @@
 use Prim.Native.Nat.{ℕ, _≤_}
 use mathlib.Core.Path.{_≡_, refl}
 use mathlib.Core.Logic.{inl, inr, ⊎-elim}
-use mathlib.Core.Bool.{Bool, true, false, cond}
+use mathlib.Core.Bool.{Bool}
 use mathlib.Core.List.{List, [], _∷_}
 use native.Mathlib.Omega.{arith}
 use lib.ListN.{length}
 use lib.Dec.{leb, leb→le, le→leb}
-use Rattle.frames.specs.Refusals.{refused, good, then, refusal}
+use Rattle.frames.specs.Refusals.{good, then, refusal}
 use Rattle.frames.specs.Exactly.{Exactly}
 pub use Rattle.frames.proofs.Exactly.{Numbered, numbered-unless, numbered-then, exactly}
 use Rattle.wiring.specs.declared.Setting.{Setting}
@@ -15,8 +15,9 @@ use Rattle.wiring.specs.declared.Wiring.{Wiring}
 use Rattle.wiring.specs.Domain.{Domain}
 use Rattle.wiring.specs.File.{domainRead}
 use Rattle.wiring.specs.Causes.{Place, unanswered, claimed, clashing, fixed, firstIn, firstOf, wiredDomain, wired}
-use Rattle.wiring.specs.Neighbours.{neighbourWords, bitsIn, wordsFor, wiringCall, wiringAnswer, bitsOf, WiringDone}
+use Rattle.wiring.specs.Neighbours.{neighbourWords, bitsIn, wordsFor, wiringCall, wiringAnswer, bitsSet, WiringDone}
 use Rattle.wiring.specs.Tested.{NoWiringCause, wiringNumber}
+use Rattle.wiring.proofs.Members.{by-test}
 use Rattle.wiring.proofs.Results.{unless-good, good-unless, then-good, good-then}
 use Rattle.wiring.proofs.Read.{read-good, read-numbered}
 use Rattle.wiring.proofs.Accepted.{passed-iff, wired-file}
@@ -25,11 +26,7 @@ use Rattle.wiring.proofs.Accepted.{passed-iff, wired-file}
 pub first-numbered : (P : ℕ → Type 0) (k : ℕ) (test : ℕ → ℕ → Bool) (qs : List Place) (d : Domain) → P k → Numbered P (firstIn k test qs d)
 unfolding firstIn
 first-numbered P k test [] d h = tt
-first-numbered P k test (q ∷ qs) d h = go (test (q .expander) (q .phy)) (first-numbered P k test qs d h)
-  where
-    go : (b : Bool) → Numbered P (firstIn k test qs d) → Numbered P (cond b (refused (refusal k (q .expander) (q .phy))) (firstIn k test qs d))
-    go true r = h
-    go false r = r
+first-numbered P k test (q ∷ qs) d h = by-test (test (q .expander) (q .phy)) (λ e. rw e h) (λ e. rw e (first-numbered P k test qs d h))
 
 -- causes 7 to 10 refuse with their numbers
 pub wired-numbered : (P : ℕ → Type 0) → ((n : ℕ) → 7 ≤ n → n ≤ 10 → P n) → (d : Domain) → Numbered P (wiredDomain d)
@@ -50,27 +47,27 @@ wiring-exactly setting file before after answer w =
     room : ℕ
     room = length before
 
-    numbered : Numbered wiringNumber (then (wiringCall setting file room) bitsOf)
+    numbered : Numbered wiringNumber (then (wiringCall setting file room) bitsSet)
     numbered =
-        numbered-then wiringNumber (wiringCall setting file room) bitsOf
+        numbered-then wiringNumber (wiringCall setting file room) bitsSet
         (numbered-then wiringNumber (wired setting file) (wordsFor room)
         (numbered-then wiringNumber (domainRead setting file) wiredDomain (read-numbered setting file wiringNumber (λ n. ⊎-elim (λ h. inl (h .0, omega arith)) (λ h. inr (inr h))))
         (wired-numbered wiringNumber (λ n a b. inl (omega arith, b))))
         (λ d. numbered-unless wiringNumber (leb (length d) room) (refusal 16 0 0) _ (inr (inl refl)) tt))
         (λ ws. tt)
 
-    from : (n : ℕ) → then (wiringCall setting file room) bitsOf ≡ good n → NoWiringCause setting file room
+    from : (n : ℕ) → then (wiringCall setting file room) bitsSet ≡ good n → NoWiringCause setting file room
     from n e =
-        let a = then-good (wiringCall setting file room) bitsOf n e in
+        let a = then-good (wiringCall setting file room) bitsSet n e in
         let b = then-good (wired setting file) (wordsFor room) (a .0) (a .1) in
         let c = unless-good (leb (length (b .0)) room) (refusal 16 0 0) _ (a .0) (b .2) in
         let r = wired-file setting file (b .0) .0 (b .1) in
         record { domain = b .0; range = read-good setting file (b .0) (r .0) .range; read = r .0; passed = passed-iff (b .0) .0 (r .1); enough = leb→le (length (b .0)) room (c .0) }
 
-    to : NoWiringCause setting file room → (n : ℕ) × (then (wiringCall setting file room) bitsOf ≡ good n)
+    to : NoWiringCause setting file room → (n : ℕ) × (then (wiringCall setting file room) bitsSet ≡ good n)
     to c =
         let d = c .domain in
         let a = wired-file setting file d .1 (c .read, passed-iff d .1 (c .passed)) in
         let b = good-unless (leb (length d) room) (refusal 16 0 0) (good (neighbourWords d)) (le→leb (length d) room (c .enough)) in
         let e = good-then (wired setting file) (wordsFor room) d (neighbourWords d) a b in
-        (bitsIn (neighbourWords d), good-then (wiringCall setting file room) bitsOf (neighbourWords d) (bitsIn (neighbourWords d)) e refl)
+        (bitsIn (neighbourWords d), good-then (wiringCall setting file room) bitsSet (neighbourWords d) (bitsIn (neighbourWords d)) e refl)

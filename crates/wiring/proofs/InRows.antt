@@ -1,17 +1,13 @@
 -- Any words seen as a domain: what stands where.
 use Prim.Native.Nat.{ℕ, zero, suc, _+_, _*_, _/_, _%_, _≤_, _<_, min}
 use mathlib.Core.Path.{_≡_, refl, sym, _∙_, ap, subst}
-use mathlib.Core.List.{List, [], _∷_}
+use mathlib.Core.List.{List}
 use native.Mathlib.Omega.{arith}
 use native.Mathlib.Nat.{add-zero}
-use native.Mathlib.Numerals.{add-one}
-use lib.ListN.{length, getD, drop, drop-of-length-le, List·getD-eq-default}
-use lib.Seq.{getD-drop, drop-drop, drop-cons}
-use lib.Dec.{eqb}
-use borrow.Author.Tests.{eq-eqb, ne-eqb}
-use mathlib.Core.Bool.{Bool, true, false, cond}
+use lib.ListN.{length, getD, drop, List·getD-eq-default}
+use lib.Seq.{getD-drop, drop-drop}
 use Rattle.wiring.specs.declared.Phy.the-variants.{Vacant}
-use Rattle.wiring.specs.Domain.{Domain, Expander, noExpander, expanderAt, phyAt, numberOf}
+use Rattle.wiring.specs.Domain.{Expander, noExpander, expanderAt, phyAt}
 use Rattle.wiring.specs.Rows.{phyIn, phyHeld, physIn, rowIn, rowsIn, domainIn}
 use Rattle.wiring.specs.Checks.{HeadIn}
 use Rattle.wiring.proofs.Wires.{expander-range}
@@ -103,25 +99,6 @@ phy-at-in ws i p h = phy-of-row ws i p (expander-range (domainIn ws) i p h) h
 pub phy-held : (ws : List ℕ) (i p : ℕ) → p < length (expanderAt (domainIn ws) i .phys) → phyHeld ws i p ≡ phyAt (domainIn ws) i p
 unfolding phyHeld
 phy-held ws i p h = sym (phy-at-in ws i p h)
-
--- the search for an address
-cons-at : (d : Domain) (i : ℕ) → i < length d → drop i d ≡ expanderAt d i ∷ drop (i + 1) d
-cons-at d i h = rw add-one (drop-cons d i noExpander h)
-
-module _ (d : Domain) (i s : ℕ) {v : ℕ} (inv : i + numberOf (drop i d) s ≡ v) where
-  number-next : (b : Bool) → i < length d → eqb (expanderAt d i .address) s ≡ b → numberOf (drop i d) s ≡ cond b 0 (suc (numberOf (drop (i + 1) d) s))
-  unfolding numberOf
-  number-next b h q = rw (cons-at d i h, q)
-
-  pub number-stop : expanderAt d i .address ≡ s → i < length d → i ≡ v
-  number-stop q h = let e = number-next true h (eq-eqb _ _ q) in omega arith
-
-  pub number-go : (expanderAt d i .address ≡ s → ⊥) → i < length d → i + 1 + numberOf (drop (i + 1) d) s ≡ v
-  number-go q h = let e = number-next false h (ne-eqb _ _ q) in omega arith
-
-  pub number-end : length d ≤ i → i ≡ v
-  unfolding numberOf
-  number-end h = let e : numberOf (drop i d) s ≡ 0 = rw (drop-of-length-le d h) in omega arith
 
 -- any words are a domain of at most 64 expanders
 pub domain-few : (ws : List ℕ) → length (domainIn ws) ≤ 64

@@ -20,6 +20,7 @@ pub mod Wires
 pub mod Accepted
 pub mod Opening
 pub mod Excess
+pub mod Frames
 pub mod Sets
 pub mod NeighbourWords
 pub mod Bitsets

@@ -2,13 +2,15 @@
 use mathlib.Core.Path.{_≡_, refl, sym, ap, ap₂, subst, _∙_}
 use mathlib.Core.Logic.{_⊎_, inl, inr, _≢_, ⊎-elim, by-cases}
 use mathlib.Core.List.{List, [], _∷_, _++_, flatMap, map}
-use mathlib.Core.Bool.{Bool, true, false, cond, not, _||_, _&&_}
+use mathlib.Core.Bool.{Bool, true, false, not, _||_, _&&_}
 use Prim.Native.Nat.{ℕ, zero, suc, _+_, _≤_, _<_, zero-le, suc-le-suc}
 use native.Mathlib.Decide.{ℕ-discrete}
 use native.Mathlib.Omega.{arith}
 use lib.ListN.{length, getD, take, replicate, length-take}
 use lib.Seq.{getD-take}
 use lib.Dec.{T, eqb, eqb→eq, eqb-refl}
+pub use mir.Facts.{yes-and as and-both, or-yes as or-cases}
+pub use borrow.Author.Tests.{ne-eqb as neqb}
 use Rattle.wiring.specs.Lists.{numbers, any, keep, In, isIn, Distinct, Below, last}
 
 -- tests
@@ -19,14 +21,6 @@ and-left false b t = t
 pub and-right : (a b : Bool) → T (a && b) → T b
 and-right true b t = t
 and-right false b t = absurd t
-
-pub and-both : (a b : Bool) → T a → T b → T (a && b)
-and-both true b s t = t
-and-both false b s t = absurd s
-
-pub or-cases : (a b : Bool) → T (a || b) → T a ⊎ T b
-or-cases true b t = inl tt
-or-cases false b t = inr t
 
 pub or-left : (a b : Bool) → T a → T (a || b)
 or-left true b t = tt
@@ -44,6 +38,11 @@ or-assoc false b c = refl
 pub T? : (b : Bool) → T b ⊎ ¬ (T b)
 T? true = inl tt
 T? false = inr (λ t. t)
+
+-- whichever way a test ends
+pub by-test : {P : Type 0} (b : Bool) → (b ≡ true → P) → (b ≡ false → P) → P
+by-test true f g = f refl
+by-test false f g = g refl
 
 pub is-true : (b : Bool) → T b → b ≡ true
 is-true true t = refl
@@ -66,9 +65,6 @@ not-not false f = f tt
 
 pub eq→eqb : (m n : ℕ) → m ≡ n → T (eqb m n)
 eq→eqb m n e = subst (λ v. T (eqb m v)) e (eqb-refl m)
-
-pub neqb : (m n : ℕ) → m ≢ n → eqb m n ≡ false
-neqb m n d = is-false (eqb m n) (λ t. d (eqb→eq m n t))
 
 -- members of a list
 module _ {A : Type 0} where
@@ -147,55 +143,36 @@ module _ {A : Type 0} where
   pub keeps : (f : A → Bool) (l : List A) (w : A) → In w l → T (f w) → In w (keep f l)
   unfolding keep
   keeps f [] w h t = h
-  keeps f (x ∷ l) w h t = go (f x) refl (λ k. keeps f l w k t) h
-    where
-      go : (b : Bool) → f x ≡ b → (In w l → In w (keep f l)) → In w (x ∷ l) → In w (cond b (x ∷ keep f l) (keep f l))
-      go true e r (inl q) = inl q
-      go true e r (inr k) = inr (r k)
-      go false e r (inl q) = absurd (subst T e (subst (λ v. T (f v)) q t))
-      go false e r (inr k) = r k
+  keeps f (x ∷ l) w h t = by-test (f x)
+      (λ e. rw e (⊎-elim inl (λ k. inr (keeps f l w k t)) h))
+      (λ e. rw e (⊎-elim (λ q. absurd (was-false (f x) e (subst (λ v. T (f v)) q t))) (λ k. keeps f l w k t) h))
 
   pub kept : (f : A → Bool) (l : List A) (w : A) → In w (keep f l) → In w l × T (f w)
   unfolding keep
   kept f [] w h = absurd h
-  kept f (x ∷ l) w h = go (f x) refl (kept f l w) h
-    where
-      go : (b : Bool) → f x ≡ b → (In w (keep f l) → In w l × T (f w)) → In w (cond b (x ∷ keep f l) (keep f l)) → In w (x ∷ l) × T (f w)
-      go true e r (inl q) = (inl q, subst (λ v. T (f v)) (sym q) (subst T (sym e) tt))
-      go true e r (inr k) = let s = r k in (inr (s .0), s .1)
-      go false e r k = let s = r k in (inr (s .0), s .1)
+  kept f (x ∷ l) w h =
+      let more : In w (keep f l) → In w (x ∷ l) × T (f w) = λ k. let s = kept f l w k in (inr (s .0), s .1) in
+      by-test (f x) (λ e. ⊎-elim (λ q. (inl q, subst (λ v. T (f v)) (sym q) (was-true (f x) e))) more (rw e at h)) (λ e. more (rw e at h))
 
   pub keep-shorter : (f : A → Bool) (l : List A) → length (keep f l) ≤ length l
   unfolding keep
   keep-shorter f [] = zero-le
-  keep-shorter f (x ∷ l) = go (f x) (keep-shorter f l)
-    where
-      go : (b : Bool) → length (keep f l) ≤ length l → length (cond b (x ∷ keep f l) (keep f l)) ≤ suc (length l)
-      go true r = omega arith
-      go false r = omega arith
+  keep-shorter f (x ∷ l) = let r = keep-shorter f l in by-test (f x) (λ e. rw e (omega arith)) (λ e. rw e (omega arith))
 
   -- all pass the test, or fewer are kept
   pub all-or-fewer : (f : A → Bool) (l : List A) → ((w : A) → In w l → T (f w)) ⊎ (length (keep f l) < length l)
   unfolding keep
   all-or-fewer f [] = inl (λ w h. absurd h)
-  all-or-fewer f (x ∷ l) = go (f x) refl (all-or-fewer f l)
-    where
-      go : (b : Bool) → f x ≡ b → ((w : A) → In w l → T (f w)) ⊎ (length (keep f l) < length l)
-          → ((w : A) → In w (x ∷ l) → T (f w)) ⊎ (length (cond b (x ∷ keep f l) (keep f l)) < suc (length l))
-      go true e (inl a) = inl (all-cons (λ v. T (f v)) x l (was-true (f x) e) a)
-      go true e (inr a) = inr (omega arith)
-      go false e a = inr (omega (arith, keep-shorter f l))
+  all-or-fewer f (x ∷ l) = by-test (f x)
+      (λ e. rw e (⊎-elim (λ a. inl (all-cons (λ v. T (f v)) x l (was-true (f x) e) a)) (λ a. inr (omega arith)) (all-or-fewer f l)))
+      (λ e. rw e (inr (omega (arith, keep-shorter f l))))
 
   pub keep-keep : (p q : A → Bool) (l : List A) → keep p (keep q l) ≡ keep (λ v. q v && p v) l
   unfolding keep
   keep-keep p q [] = refl
-  keep-keep p q (x ∷ l) = go (q x) (p x) refl (keep-keep p q l)
-    where
-      go : (b c : Bool) → p x ≡ c → keep p (keep q l) ≡ keep (λ v. q v && p v) l
-          → keep p (cond b (x ∷ keep q l) (keep q l)) ≡ cond (b && c) (x ∷ keep (λ v. q v && p v) l) (keep (λ v. q v && p v) l)
-      go true true e r = rw e (ap (λ m. x ∷ m) r)
-      go true false e r = rw e r
-      go false c e r = r
+  keep-keep p q (x ∷ l) = let r = keep-keep p q l in by-test (q x)
+      (λ e. by-test (p x) (λ g. rw (e, g) (ap (λ m. x ∷ m) r)) (λ g. rw (e, g) r))
+      (λ e. rw e r)
 
   -- tests that agree on the members keep the same
   pub keep-same : (p q : A → Bool) (l : List A) → ((w : A) → In w l → p w ≡ q w) → keep p l ≡ keep q l
@@ -206,12 +183,7 @@ module _ {A : Type 0} where
   pub keep-append : (f : A → Bool) (l m : List A) → keep f (l ++ m) ≡ keep f l ++ keep f m
   unfolding keep
   keep-append f [] m = refl
-  keep-append f (x ∷ l) m = go (f x) (keep-append f l m)
-    where
-      go : (b : Bool) → keep f (l ++ m) ≡ keep f l ++ keep f m
-          → cond b (x ∷ keep f (l ++ m)) (keep f (l ++ m)) ≡ cond b (x ∷ keep f l) (keep f l) ++ keep f m
-      go true r = ap (λ v. x ∷ v) r
-      go false r = r
+  keep-append f (x ∷ l) m = let r = keep-append f l m in by-test (f x) (λ e. rw e (ap (λ v. x ∷ v) r)) (λ e. rw e r)
 
 module _ {A B : Type 0} where
   pub in-map : (f : A → B) (l : List A) (w : B) → In w (map f l) → (a : A) × In a l × (w ≡ f a)
@@ -308,11 +280,7 @@ last-in x (y ∷ l) = inr (last-in y l)
 pub keep-distinct : (p : ℕ → Bool) (l : List ℕ) → Distinct l → Distinct (keep p l)
 unfolding keep
 keep-distinct p [] d = tt
-keep-distinct p (x ∷ l) d = go (p x) (keep-distinct p l (d .1))
-  where
-    go : (b : Bool) → Distinct (keep p l) → Distinct (cond b (x ∷ keep p l) (keep p l))
-    go true r = (λ h. d .0 (kept p l x h .0), r)
-    go false r = r
+keep-distinct p (x ∷ l) d = let r = keep-distinct p l (d .1) in by-test (p x) (λ e. rw e (λ h. d .0 (kept p l x h .0), r)) (λ e. rw e r)
 
 pub distinct-append : (l m : List ℕ) → Distinct l → Distinct m → ((w : ℕ) → In w l → In w m → ⊥) → Distinct (l ++ m)
 distinct-append [] m a b f = b

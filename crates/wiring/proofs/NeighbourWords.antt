@@ -2,11 +2,11 @@
 use Prim.Native.Nat.{ℕ, zero, suc, _+_, _*_, _%_, _^_, _<_}
 use mathlib.Core.Path.{_≡_, refl, sym, _∙_, ap, ap₂}
 use mathlib.Core.Bool.{Bool, true, false}
-use mathlib.Core.List.{List, [], _∷_, _++_, map}
+use mathlib.Core.List.{List, [], _∷_, _++_, map, map-append}
 use native.Mathlib.Omega.{arith}
 use native.Mathlib.Nat.{one-mul, mod-eq-of-lt}
 use native.Mathlib.Numerals.{add-one}
-use lib.ListN.{length, getD, drop, set, length-append, List·getD-append}
+use lib.ListN.{length, getD, drop, set, length-append, length-map, List·getD-append}
 use lib.Bits.{bitOr, or-shifted-r}
 use lib.Pow.{pow-lt}
 use lib.Count.{ones}
@@ -40,17 +40,9 @@ store-next l [] v h = absurd (omega arith)
 store-next [] (x ∷ s) v h = refl
 store-next (y ∷ l) (x ∷ s) v h = ap (λ (t : List ℕ). y ∷ t) (store-next l s v (omega arith))
 
-map-last : (f : ℕ → ℕ) (l : List ℕ) (x : ℕ) → map f (l ++ (x ∷ [])) ≡ map f l ++ (f x ∷ [])
-map-last f [] x = refl
-map-last f (y ∷ l) x = ap (λ (t : List ℕ). f y ∷ t) (map-last f l x)
-
-length-map : (f : ℕ → ℕ) (l : List ℕ) → length (map f l) ≡ length l
-length-map f [] = refl
-length-map f (y ∷ l) = ap suc (length-map f l)
-
 -- one word for each of n expanders
 length-row : (f : ℕ → ℕ) (n : ℕ) → length (map f (numbers 0 n)) ≡ n
-length-row f n = length-map f (numbers 0 n) ∙ length-numbers 0 n
+length-row f n = length-map (numbers 0 n) f ∙ length-numbers 0 n
 
 bits-last : (l : List ℕ) (w : ℕ) → bitsIn (l ++ (w ∷ [])) ≡ bitsIn l + ones w
 unfolding bitsIn
@@ -59,7 +51,7 @@ bits-last (x ∷ l) w = omega (arith, bits-last l w)
 
 module _ (f : ℕ → ℕ) (i : ℕ) where
   row-next : map f (numbers 0 (i + 1)) ≡ map f (numbers 0 i) ++ (f i ∷ [])
-  row-next = rw add-one (ap (map f) (upTo-last i) ∙ map-last f (numbers 0 i) i)
+  row-next = rw add-one (ap (map f) (upTo-last i) ∙ map-append f (numbers 0 i) (i ∷ []))
 
   -- a turn of a loop that writes word i
   pub words-next : (words s : List ℕ) (v : ℕ) → words ≡ map f (numbers 0 i) ++ drop i s → v ≡ f i → i < length s

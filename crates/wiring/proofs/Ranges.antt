@@ -1,10 +1,8 @@
 -- The range of a setting, as a test and in numbers.
-use mathlib.Core.Path.{_≡_}
 use mathlib.Core.Logic.{_↔_}
-use mathlib.Core.Bool.{Bool, _&&_}
 use lib.Dec.{T, leb→le, le→leb}
 use Rattle.wiring.specs.declared.Setting.{Setting}
-use Rattle.wiring.specs.Settings.{within, inRange, InRange}
+use Rattle.wiring.specs.Settings.{inRange, InRange}
 use Rattle.wiring.proofs.Members.{tests}
 
 pub range-iff : (setting : Setting) → T (inRange setting) ↔ InRange setting
@@ -17,9 +15,3 @@ range-iff setting = (
   },
   λ r. search (tests, le→leb, r .expanders .0, r .expanders .1, r .phys .0, r .phys .1, r .chain .0, r .chain .1),
 )
-
--- by what its three tests answer
-pub range-by : (setting : Setting) {a b c : Bool} → within 64 (setting .expanders) ≡ a → within 128 (setting .phys) ≡ b → within 64 (setting .chain) ≡ c
-    → inRange setting ≡ (a && (b && c))
-unfolding inRange
-range-by setting p q r = rw (p, q, r)

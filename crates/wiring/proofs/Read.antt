@@ -4,7 +4,7 @@
 use Prim.Native.Nat.{ℕ, zero, suc, _+_, _^_, _≤_, _<_}
 use mathlib.Core.Path.{_≡_, refl, sym, ap, _∙_}
 use mathlib.Core.Logic.{_≢_, inl, inr, ⊎-elim}
-use mathlib.Core.Bool.{Bool, true, false, cond, not, _&&_}
+use mathlib.Core.Bool.{Bool, true, false, not, _&&_}
 use mathlib.Core.List.{List, [], _∷_, _++_}
 use native.Mathlib.Nat.{pow-suc}
 use native.Mathlib.Omega.{arith}
@@ -14,9 +14,9 @@ use lib.Dec.{T, eqb, leb, leb→le}
 use borrow.Author.Tests.{ne-eqb, eqb-false, leb-true, not-true}
 use Rattle.frames.specs.Bytes.{byte, numberAt}
 use Rattle.frames.specs.Refusals.{Result, refused, good, unless, then, refusal}
-use Rattle.frames.specs.Sizes.{shortSize, longSize, longLength, frameSize, byItself}
+use Rattle.frames.specs.Sizes.{longLength, frameSize, byItself}
 use Rattle.frames.specs.ReportGeneral.{generalFixed, generalIn, generalRead}
-use Rattle.frames.specs.Discovery.{Discovered, vacant, fields, discoverFixed, discoverFields, byResult, discoverIn, discoverRead}
+use Rattle.frames.specs.Discovery.{Discovered, vacant, fields, discoverFixed, discoverIn, discoverRead}
 use Rattle.frames.specs.declared.Refusal.{Refusal}
 use Rattle.frames.specs.declared.General.{General}
 use Rattle.frames.specs.declared.Discover.{Discover}
@@ -37,7 +37,7 @@ use Rattle.wiring.specs.Tested.{readNumber}
 use Rattle.wiring.specs.Fill.{physGot, domainGot}
 use Rattle.wiring.proofs.Ranges.{range-iff}
 use Rattle.wiring.proofs.Results.{held, weaker, both}
-use Rattle.wiring.proofs.Members.{tests, was-true, was-false, in-cast, all-cons, in-left, in-right, isIn-of}
+use Rattle.wiring.proofs.Members.{tests, by-test, was-true, was-false, in-cast, all-cons, in-left, in-right, isIn-of}
 
 -- what reading yields: a refusal with a number from 1 to 6 or 22, or something of which P holds
 module _ {A : Type 0} (P : A → Type 0) where
@@ -72,12 +72,8 @@ number-fits s i (suc width) b =
 -- a frame's size is refused with 1 or 2
 size-reads : (kind : Response) (s : List ℕ) → Reads (λ _. Unit {0}) (frameSize kind s)
 unfolding frameSize
-size-reads kind s = tested (λ _. Unit {0}) (leb 4 (length s)) (refusal 1 0 0) _ tt (λ _. go (eqb (byte s 3) 0x00) (eqb (byte s 3) (longLength kind)))
-  where
-    go : (b c : Bool) → Reads (λ _. Unit {0}) (cond b (good (shortSize kind)) (cond c (good (longSize kind)) (refused (refusal 2 0 0))))
-    go true c = tt
-    go false true = tt
-    go false false = inl (omega arith, omega arith)
+size-reads kind s = tested (λ _. Unit {0}) (leb 4 (length s)) (refusal 1 0 0) _ tt (λ _.
+    by-test (eqb (byte s 3) 0x00) (λ e. rw e tt) (λ e. by-test (eqb (byte s 3) (longLength kind)) (λ f. rw (e, f) tt) (λ f. rw (e, f) (inl (omega arith, omega arith)))))
 
 -- one frame
 itself-holds : {A : Type 0} (P : A → Type 0) (kind : Response) (rest : List ℕ → Result A) (s : List ℕ) → Reads P (rest s) → Reads P (byItself kind rest s)
@@ -103,11 +99,7 @@ discover-facts : (s : List ℕ) → Reads (DiscoveredFacts s) (discoverRead s)
 unfolding discoverRead
 discover-facts s =
     itself-holds (DiscoveredFacts s) DiscoverResponse discoverIn s (tested (DiscoveredFacts s) (discoverFixed s) (refusal 2 0 0) _ tt (λ _.
-    go (eqb (byte s 2) 0) refl))
-  where
-    go : (b : Bool) → eqb (byte s 2) 0 ≡ b → DiscoveredFacts s (byResult b (byte s 2) (discoverFields s))
-    go true q = λ b. (number-fits s 24 8 b, b 32)
-    go false q = (eqb-false (byte s 2) 0 q, λ b. b 2)
+    by-test (eqb (byte s 2) 0) (λ q. rw q (λ b. (number-fits s 24 8 b, b 32))) (λ q. rw q (eqb-false (byte s 2) 0 q, λ b. b 2))))
 
 placed-holds : {A : Type 0} (P : A → Type 0) (i p : ℕ) (x : Result A) → Reads P x → Reads P (placed i p x)
 placed-holds P i p (refused r) h = h

@@ -8,7 +8,7 @@ use native.Mathlib.Numerals.{add-one}
 use native.Mathlib.Nat.{zero-add}
 use lib.ListN.{length, getD, take, drop, set, length-drop, drop-of-length-le}
 use lib.Seq.{drop-cons, take-suc-set, take-all}
-use lib.Dec.{eqb, leb}
+use lib.Dec.{eqb, leb, leb→le}
 use borrow.Author.Tests.{eq-eqb, ne-eqb, le-leb, lt-leb, leb-true, leb-false}
 use Rattle.frames.specs.Refusals.{Result, refused, good, unless, then, refusal}
 use Rattle.frames.specs.Bytes.{byte, numberAt}
@@ -29,7 +29,8 @@ use Rattle.wiring.specs.Domain.{Expander, Domain}
 use Rattle.wiring.specs.File.{Parsed, parsed, placed, sizeAt, frameAt, phyOf, phyUnit, phyUnits, unitOf, unitTested, expanderUnit, expanderOf, expanders, headerUnit, domainRead}
 use Rattle.wiring.specs.Rows.{countOf}
 use Rattle.wiring.specs.Units.{physNext, endsAt, expanderChecked}
-use Rattle.wiring.proofs.Results.{never, good-one}
+use Rattle.wiring.proofs.Members.{by-test}
+use Rattle.wiring.proofs.Results.{never, good-one, then-good, unless-good}
 
 -- a number among those that are left
 module _ (a i : ℕ) (s : List ℕ) where
@@ -167,11 +168,9 @@ file-by most file s p q r = rw (s, p, q, r)
 
 -- n bytes are there from offset a on
 pub bytes-there : (a n l : ℕ) → a ≤ l → leb n (l - a) ≡ leb (a + n) l
-bytes-there a n l h = go (leb n (l - a)) refl
-  where
-    go : (b : Bool) → leb n (l - a) ≡ b → b ≡ leb (a + n) l
-    go true q = sym (le-leb (a + n) l (omega (arith, leb-true n (l - a) q)))
-    go false q = sym (lt-leb (a + n) l (omega (arith, leb-false n (l - a) q)))
+bytes-there a n l h = by-test (leb n (l - a))
+    (λ q. q ∙ sym (le-leb (a + n) l (omega (arith, leb-true n (l - a) q))))
+    (λ q. q ∙ sym (lt-leb (a + n) l (omega (arith, leb-false n (l - a) q))))
 
 -- all bytes from an offset on
 pub rest-whole : (file : List ℕ) (from : ℕ) → take (length file - from) (drop from file) ≡ drop from file
@@ -203,19 +202,12 @@ module _ (kind : Response) (file : List ℕ) (from : ℕ) where
 
   pub size-whole : (n : ℕ) → sizeAt kind file from ≡ good n → Whole kind (drop from file) n
   unfolding sizeAt
-  size-whole n e = found (frameSize kind (drop from file)) refl e
-    where
-      there : (m : ℕ) (b : Bool) → frameSize kind (drop from file) ≡ good m → leb m (length (drop from file)) ≡ b → unless b (refusal 1 0 0) (good m) ≡ good n
-          → Whole kind (drop from file) n
-      there m true f q e = let k = good-one m n e in record { size = f ∙ ap good k; bytes = omega (arith, leb-true m (length (drop from file)) q) }
-      there m false f q e = never (refusal 1 0 0) n e
+  size-whole n e =
+      let a = then-good (frameSize kind (drop from file)) _ n e in
+      let b = unless-good (leb (a .0) (length (drop from file))) (refusal 1 0 0) (good (a .0)) n (a .2) in
+      let k = good-one (a .0) n (b .1) in
+      record { size = a .1 ∙ ap good k; bytes = omega (arith, leb→le (a .0) (length (drop from file)) (b .0)) }
 
-      found : (x : Result ℕ) → frameSize kind (drop from file) ≡ x → then x (λ m. unless (leb m (length (drop from file))) (refusal 1 0 0) (good m)) ≡ good n
-          → Whole kind (drop from file) n
-      found (refused r) f e = never r n e
-      found (good m) f e = there m (leb m (length (drop from file))) f refl e
-
-  -- the place after it
   pub size-within : (n : ℕ) → sizeAt kind file from ≡ good n → (28 ≤ n) × (from + n ≤ length file)
   size-within n e =
       let w = size-whole n e in

@@ -14,6 +14,7 @@ use Rattle.wiring.specs.Lists.{any}
 use Rattle.wiring.specs.Domain.{Domain, noExpander, expanderAt}
 use Rattle.wiring.specs.Causes.{Place, phyPlaces, placesFrom, firstIn, firstOf, wiredDomain}
 use Rattle.wiring.specs.Checks.{checkAnswer, causeOf}
+use Rattle.wiring.proofs.Members.{by-test}
 
 -- one turn of `any`, also past the end
 module _ {A : Type 0} (f : A → Bool) (e : A) where
@@ -40,13 +41,7 @@ module _ (k : ℕ) (test : ℕ → ℕ → Bool) (d : Domain) where
   first-append : (xs ys : List Place) → firstIn k test (xs ++ ys) d ≡ then (firstIn k test xs d) (λ _. firstIn k test ys d)
   unfolding firstIn
   first-append [] ys = refl
-  first-append (q ∷ xs) ys = by (test (q .expander) (q .phy)) (first-append xs ys)
-    where
-      by : (b : Bool) → firstIn k test (xs ++ ys) d ≡ then (firstIn k test xs d) (λ _. firstIn k test ys d)
-          → cond b (refused (refusal k (q .expander) (q .phy))) (firstIn k test (xs ++ ys) d)
-          ≡ then (cond b (refused (refusal k (q .expander) (q .phy))) (firstIn k test xs d)) (λ _. firstIn k test ys d)
-      by true h = refl
-      by false h = h
+  first-append (q ∷ xs) ys = by-test (test (q .expander) (q .phy)) (λ e. rw e refl) (λ e. rw e (first-append xs ys))
 
   -- the phys of expander i from p on
   module _ (i n p : ℕ) {v : Result Domain} (inv : firstIn k test (phyPlaces i p (n - p)) d ≡ v) where

@@ -15,7 +15,7 @@ use lib.Count.{ones, ones-cat}
 use Rattle.wiring.specs.Lists.{numbers, upTo, keep}
 use Rattle.wiring.specs.Domain.{Domain}
 use Rattle.wiring.specs.Neighbours.{neighbours, setOf, neighbourWord, neighbourWords, bitsIn}
-use Rattle.wiring.proofs.Members.{keep-append, upTo-last}
+use Rattle.wiring.proofs.Members.{by-test, keep-append, upTo-last}
 
 -- bit j is set for the j below n of which the test holds
 unfoldable pub wordBelow : (ℕ → Bool) → ℕ → ℕ
@@ -66,11 +66,7 @@ set-word t (suc n) =
     ap (λ l. setOf (keep t l)) (upTo-last n)
     ∙ ap setOf (keep-append t (numbers 0 n) (n ∷ []))
     ∙ setOf-append (keep t (numbers 0 n)) (keep t (n ∷ []))
-    ∙ one (t n) (set-word t n)
-  where
-    one : (b : Bool) → setOf (keep t (numbers 0 n)) ≡ wordBelow t n → setOf (keep t (numbers 0 n)) + setOf (cond b (n ∷ []) []) ≡ cond b (2 ^ n) 0 + wordBelow t n
-    one true e = omega arith
-    one false e = omega arith
+    ∙ by-test (t n) (λ q. rw q (omega (arith, set-word t n))) (λ q. rw q (omega (arith, set-word t n)))
 
 -- how many bits are set
 pub ones-bit : (b : Bool) → ones (bitOf b) ≡ bitOf b
@@ -84,11 +80,7 @@ length-keep t n =
     ap (λ l. length (keep t l)) (upTo-last n)
     ∙ ap length (keep-append t (numbers 0 n) (n ∷ []))
     ∙ length-append (keep t (numbers 0 n)) (keep t (n ∷ []))
-    ∙ one (t n)
-  where
-    one : (b : Bool) → length (keep t (numbers 0 n)) + length (cond b (n ∷ []) []) ≡ bitOf b + length (keep t (numbers 0 n))
-    one true = omega arith
-    one false = omega arith
+    ∙ by-test (t n) (λ q. rw q (omega arith)) (λ q. rw q (omega arith))
 
 pub ones-word : (t : ℕ → Bool) (n : ℕ) → ones (wordBelow t n) ≡ length (keep t (numbers 0 n))
 unfolding wordBelow ones keep numbers

@@ -2,18 +2,17 @@
 -- file has from its offset on what the definition makes of the file from the other on.
 use Prim.Native.Nat.{ℕ, zero, suc, _+_, _-_, _*_, _≤_, _<_}
 use mathlib.Core.Path.{_≡_, refl, sym, _∙_, ap}
-use mathlib.Core.Bool.{Bool, true, false, _&&_}
 use mathlib.Core.List.{List, [], _∷_, _++_}
 use native.Mathlib.Omega.{arith}
-use lib.ListN.{length, getD, take, drop, length-append, length-drop, List·getD-append}
+use lib.ListN.{length, take, drop, length-append, length-drop, List·getD-append}
 use lib.Seq.{getD-drop, getD-take, drop-drop, take-at, drop-at, length-take-le}
-use lib.Dec.{eqb, leb}
-use borrow.Author.Tests.{eq-eqb, ne-eqb, le-leb, eqb-true, eqb-false, leb-true}
+use lib.Dec.{eqb, eqb→eq, leb, leb→le}
+use borrow.Author.Tests.{eq-eqb, ne-eqb, le-leb, eqb-true, eqb-false}
 use Rattle.frames.specs.Bytes.{byte, numberAt}
 use Rattle.frames.specs.Refusals.{Result, refused, good, unless, then, refusal}
-use Rattle.frames.specs.Sizes.{shortSize, frameSize, byItself, shortFrame}
-use Rattle.frames.specs.ReportGeneral.{generalIn, generalRead}
-use Rattle.frames.specs.Discovery.{Discovered, discoverIn, discoverRead}
+use Rattle.frames.specs.Sizes.{shortSize, frameSize, shortFrame}
+use Rattle.frames.specs.ReportGeneral.{generalRead}
+use Rattle.frames.specs.Discovery.{discoverRead}
 use Rattle.frames.specs.declared.General.{General}
 use Rattle.frames.specs.declared.Refusal.{Refusal}
 use Rattle.frames.specs.declared.Response.{Response}
@@ -24,10 +23,11 @@ use Rattle.wiring.specs.declared.ExpanderUnit.{ExpanderUnit}
 use Rattle.wiring.specs.declared.Phy.{Phy}
 use Rattle.wiring.specs.Domain.{Domain}
 use Rattle.wiring.specs.Settings.{inRange}
-use Rattle.wiring.specs.File.{Parsed, parsed, placed, sizeAt, frameAt, phyOf, phyUnit, phyUnits, unitOf, unitTested, expanderUnit, expanderOf, expanders, headerUnit, domainRead}
+use Rattle.wiring.specs.File.{Parsed, parsed, placed, sizeAt, phyOf, phyUnit, phyUnits, unitOf, unitTested, expanderUnit, expanderOf, expanders, headerUnit, domainRead}
 use Rattle.wiring.specs.Units.{endsAt}
 use Rattle.wiring.specs.Neighbours.{wiringCall}
 use Rattle.wiring.specs.ShortFile.{orStay, shortPhys, shortExpanders, shortFile}
+use Rattle.wiring.proofs.Members.{by-test}
 use Rattle.wiring.proofs.Results.{never, good-one, unless-good, then-good}
 use Rattle.wiring.proofs.Reading.{size-whole, size-within, unitAt, unit-cut, unit-by}
 
@@ -215,14 +215,10 @@ module _ (most : Setting) (file other : List ℕ) where
 
   -- both files end, or both have bytes left
   ends-alike : (a b : ℕ) → a ≤ length file → b ≤ length other → drop b other ≡ drop a file → eqb b (length other) ≡ eqb a (length file)
-  ends-alike a b h k d = go (eqb a (length file)) refl
-    where
-      left : length other - b ≡ length file - a
-      left = sym (length-drop b other) ∙ ap length d ∙ length-drop a file
-
-      go : (x : Bool) → eqb a (length file) ≡ x → eqb b (length other) ≡ x
-      go true q = let e = eqb-true a (length file) q in let l = left in eq-eqb b (length other) (omega arith)
-      go false q = let n = eqb-false a (length file) q in let l = left in ne-eqb b (length other) (λ e. n (omega arith))
+  ends-alike a b h k d =
+      let l : length other - b ≡ length file - a = sym (length-drop b other) ∙ ap length d ∙ length-drop a file in
+      by-test (eqb a (length file)) (λ q. let e = eqb-true a (length file) q in rw q (eq-eqb b (length other) (omega arith)))
+      (λ q. let n = eqb-false a (length file) q in rw q (ne-eqb b (length other) (λ e. n (omega arith))))
 
   abbrev RestRead : ℕ → ℕ → ℕ → ℕ → List ℕ → Type 0
   RestRead count i a b seen =
@@ -260,11 +256,7 @@ module _ (most : Setting) (file other : List ℕ) where
 module _ (most : Setting) (file more : List ℕ) where
   header-there : (n : ℕ) → headerUnit most file ≡ good n → 2 ≤ length file
   unfolding headerUnit
-  header-there n e = go (leb 2 (length file)) _ refl e
-    where
-      go : (b : Bool) (x : Result ℕ) → leb 2 (length file) ≡ b → unless b (refusal 1 0 0) x ≡ good n → 2 ≤ length file
-      go true x q e = leb-true 2 (length file) q
-      go false x q e = never (refusal 1 0 0) n e
+  header-there n e = leb→le 2 (length file) (unless-good (leb 2 (length file)) (refusal 1 0 0) _ n e .0)
 
   header-same : 2 ≤ length file → headerUnit most (take 2 file ++ more) ≡ headerUnit most file
   unfolding headerUnit
@@ -330,11 +322,11 @@ phys-bytes file own i rest (suc count) p a us e =
 rest-bytes : (most : Setting) (file : List ℕ) (count i a : ℕ) (seen : List ℕ) (d : Domain) → expanders most file count i a seen ≡ good d
     → length (shortExpanders most file count i a seen) ≡ shortBytes d
 unfolding expanders shortExpanders expanderUnit
-rest-bytes most file zero i a seen d e = ends (eqb a (length file)) refl e
-  where
-    ends : (b : Bool) → eqb a (length file) ≡ b → unless b (refusal 1 i 0) (good []) ≡ good d → length (drop a file) ≡ shortBytes d
-    ends true q e = let l = length-drop a file in let h = eqb-true a (length file) q in rw (← good-one [] d e) (omega arith)
-    ends false q e = never (refusal 1 i 0) d e
+rest-bytes most file zero i a seen d e =
+    let u = unless-good (eqb a (length file)) (refusal 1 i 0) (good []) d e in
+    let l = length-drop a file in
+    let h = eqb→eq a (length file) (u .0) in
+    rw (← good-one [] d (u .1)) (omega arith)
 rest-bytes most file (suc count) i a seen d e =
     let own = numberAt file a 8 in
     let one = then-good (unitAt ReportGeneral generalRead (λ g. unitTested most seen i (unitOf own g)) i 0 file (a + 8)) _ d e in

@@ -2,7 +2,7 @@
 use mathlib.Core.Path.{_≡_, refl, sym, ap, subst, _∙_}
 use mathlib.Core.Logic.{_⊎_, inl, inr, _≢_, ⊎-elim, by-cases}
 use mathlib.Core.List.{List, [], _∷_}
-use mathlib.Core.Bool.{Bool, true, false, cond, _&&_}
+use mathlib.Core.Bool.{Bool, _&&_}
 use Prim.Native.Nat.{ℕ, zero, suc, _+_, _≤_, _<_}
 use native.Mathlib.Decide.{ℕ-discrete, decLt}
 use native.Mathlib.Omega.{arith}
@@ -16,7 +16,7 @@ use Rattle.wiring.specs.Causes.{farPhy, place, phyPlaces, placesFrom, pl
 use Rattle.wiring.specs.Graph.{Tail, Symmetric}
 pub use Rattle.wiring.specs.Devices.{LoopIn, ChainIn, Home, To}
 use Rattle.wiring.specs.Neighbours.{cabled, neighbours}
-use Rattle.wiring.proofs.Members.{tests, or-cases, or-left, or-right, any-of, of-any, in-getD, getD-in, in-left, in-right, all-cons, eq→eqb}
+use Rattle.wiring.proofs.Members.{tests, by-test, was-true, or-cases, or-left, or-right, any-of, of-any, in-getD, getD-in, in-left, in-right, all-cons, eq→eqb}
 
 -- a way is a chain without its first
 abbrev pub Way : Domain → ℕ → ℕ → List ℕ → Type 0
@@ -95,12 +95,9 @@ plain-attribute (Present f) h t = h .1
 pub numberOf-is : (d : Domain) (s : ℕ) → numberOf d s < length d → expanderAt d (numberOf d s) .address ≡ s
 unfolding numberOf
 numberOf-is [] s h = absurd (omega arith)
-numberOf-is (e ∷ d) s h = go (eqb (e .address) s) refl h (numberOf-is d s)
-  where
-    go : (b : Bool) → eqb (e .address) s ≡ b → cond b 0 (suc (numberOf d s)) < suc (length d)
-        → (numberOf d s < length d → expanderAt d (numberOf d s) .address ≡ s) → expanderAt (e ∷ d) (cond b 0 (suc (numberOf d s))) .address ≡ s
-    go true q k r = eqb→eq (e .address) s (subst T (sym q) tt)
-    go false q k r = r (omega arith)
+numberOf-is (e ∷ d) s h = by-test (eqb (e .address) s)
+    (λ q. rw q (eqb→eq (e .address) s (was-true _ q)))
+    (λ q. rw q (numberOf-is d s (let k = rw q at h in omega arith)))
 
 -- what is not past the end
 pub expander-range : (d : Domain) (i p : ℕ) → p < length (expanderAt d i .phys) → i < length d

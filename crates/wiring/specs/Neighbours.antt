@@ -53,8 +53,8 @@ abbrev pub wiringAnswer : Wiring → Result ℕ
 wiringAnswer (Refused r) = refused r
 wiringAnswer (Bits n) = good n
 
-abbrev pub bitsOf : List ℕ → Result ℕ
-bitsOf ws = good (bitsIn ws)
+abbrev pub bitsSet : List ℕ → Result ℕ
+bitsSet ws = good (bitsIn ws)
 
 -- the lent words after the call: the neighbour words, and the words after them as they were; all as they were where refused
 abbrev pub wordsAfter : Result (List ℕ) → List ℕ → List ℕ
@@ -63,5 +63,5 @@ wordsAfter (good ws) before = ws ++ drop (length ws) before
 
 -- all that a wiring call with this outcome promises: the answer, and the words after
 pub record WiringDone (outcome : Result (List ℕ)) (answer : Wiring) (before after : List ℕ) : Type 0 where
-  pub answers : wiringAnswer answer ≡ then outcome bitsOf
+  pub answers : wiringAnswer answer ≡ then outcome bitsSet
   pub words : after ≡ wordsAfter outcome before

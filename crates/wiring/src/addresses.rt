@@ -246,9 +246,5 @@ pub fn far_number(rows: &[u64], first: &[u16], i: ExpanderNumber, p: PhyId) -> E
 pub fn lowest_phy(low: &[u8], i: ExpanderNumber, p: PhyId) -> PhyId
     ensures { λ r. ⌜ r .0 ≡ lowestPhy (now (low .entry)) (i .0) (p .0) ⌝ }
 {
-    let k = 128 * (i.0 as usize) + (p.0 as usize);
-    if k >= low.len() {
-        return PhyId(0);
-    }
-    PhyId(low[k])
+    PhyId(view::byte_at(low, 128 * (i.0 as usize) + (p.0 as usize)))
 }

@@ -10,21 +10,11 @@ use frames::PhyId;
 ghost use mathlib.Core.Path.{_≡_};
 ghost use Prim.Native.Nat.{_<_};
 ghost use lib.ListN.{length};
-ghost use lib.Dec.{T};
-ghost use Rattle.wiring.specs.Domain.{expanderAt, phyAt, toExpander};
+ghost use Rattle.wiring.specs.Domain.{expanderAt};
 ghost use Rattle.wiring.specs.Addresses.{IndexedFirst, Indexed};
 ghost use Rattle.wiring.specs.Rows.{domainIn};
-ghost use Rattle.wiring.specs.Causes.{farPhy, names, unanswered, claimed, fixed, firstOf, wiredDomain};
+ghost use Rattle.wiring.specs.Causes.{names, unanswered, claimed, fixed, firstOf, wiredDomain};
 ghost use Rattle.wiring.specs.Checks.{checkAnswer, causeOf, firstAt, Testable};
-
-// The far end of f, phy p of expander i, which is attached to an expander: a vacant phy where it is missing.
-fn far_phy(rows: &[u64], first: &[u16], i: ExpanderNumber, p: PhyId, f: Phy) -> Phy
-    requires { ⌜ IndexedFirst (domainIn (now rows)) (now first) × ((f ≡ phyAt (domainIn (now rows)) (i .0) (p .0)) × (T (toExpander f) × (p .0 < 128))) ⌝ }
-    ensures { λ r. ⌜ r ≡ farPhy (domainIn (now (rows .entry))) f ⌝ }
-{
-    let j = addresses::far_number(rows, first, i, p);
-    view::phy_at(rows, j, view::phy_far(f))
-}
 
 // Whether f names phy p of the expander with this address.
 fn is_naming(s: u64, p: PhyId, f: Phy) -> bool
@@ -51,7 +41,8 @@ fn is_unanswered(rows: &[u64], first: &[u16], i: ExpanderNumber, p: PhyId) -> bo
     if view::phy_attribute(f) == 0 {
         return true;
     }
-    let g = far_phy(rows, first, i, p, f);
+    let j = addresses::far_number(rows, first, i, p);
+    let g = view::phy_at(rows, j, view::phy_far(f));
     !is_naming(view::expander_address(rows, i), p, g)
 }
 

@@ -22,7 +22,7 @@ pub(crate) fn check_chains(rows: &[u64], words: &[u64], chain: u8) -> Check
     if n <= chain {
         return Check::Passed;
     }
-    let all = rounds::all_of(n);
+    let all = rounds::all_of(rows);
     let left = rounds::run_rounds(rows, words, 11, chain / 2, all);
     if u64::count_ones(left) > (chain % 2) as u32 {
         return refusals::check_refused(23, ExpanderNumber(0), PhyId(0));

@@ -27,7 +27,7 @@ fn is_loopfree(rows: &[u64], words: &[u64]) -> bool
     ensures { λ r. ⌜ r ≡ loopfree (length (domainIn (now (rows .entry)))) (neighbours (domainIn (now (rows .entry)))) ⌝ }
 {
     let n = view::expander_count(rows);
-    let all = rounds::all_of(n);
+    let all = rounds::all_of(rows);
     rounds::run_rounds(rows, words, 11, n, all) == 0
 }
 

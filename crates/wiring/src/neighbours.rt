@@ -72,10 +72,8 @@ fn are_neighbours(
 {
     let a = i.0 as usize;
     let b = j.0 as usize;
-    if rounds::has(words[a], ExpanderNumber(first[b] as u8)) {
-        return true;
-    }
-    rounds::has(words[b], ExpanderNumber(first[a] as u8))
+    rounds::has(words[a], ExpanderNumber(first[b] as u8))
+        | rounds::has(words[b], ExpanderNumber(first[a] as u8))
 }
 
 // The neighbours of expander i as a set: bit j for expander j.

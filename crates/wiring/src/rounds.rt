@@ -3,7 +3,7 @@
 use crate::view;
 use frames::ExpanderNumber;
 ghost use mathlib.Core.Path.{_≡_};
-ghost use Prim.Native.Nat.{_≤_, _<_};
+ghost use Prim.Native.Nat.{_<_};
 ghost use lib.ListN.{length};
 ghost use Rattle.wiring.specs.Lists.{upTo};
 ghost use Rattle.wiring.specs.Rows.{domainIn};
@@ -15,14 +15,14 @@ pub(crate) fn has(set: u64, j: ExpanderNumber) -> bool
     requires { ⌜ j .0 < 64 ⌝ }
     ensures { λ r. ⌜ r ≡ hasBit set (j .0) ⌝ }
 {
-    (set >> j.0) & 1 == 1
+    (set >> j.0) % 2 == 1
 }
 
-// The set of all n expanders.
-pub(crate) fn all_of(n: u8) -> u64
-    requires { ⌜ n ≤ 64 ⌝ }
-    ensures { λ r. ⌜ r ≡ setOf (upTo n) ⌝ }
+// The set of all expanders.
+pub(crate) fn all_of(rows: &[u64]) -> u64
+    ensures { λ r. ⌜ r ≡ setOf (upTo (length (domainIn (now (rows .entry))))) ⌝ }
 {
+    let n = view::expander_count(rows);
     if n == 0 {
         return 0;
     }

@@ -40,7 +40,7 @@ fn next_got(unit: PhyRead, at: usize) -> usize
 }
 
 // A phy's second word: the result of a vacant phy, or type, attribute and attached phy.
-fn phy_word(phy: Phy) -> u64
+pub fn phy_word(phy: Phy) -> u64
     ensures { λ r. ⌜ r ≡ phyWord phy ⌝ }
 {
     match phy {
@@ -53,14 +53,14 @@ fn phy_word(phy: Phy) -> u64
 }
 
 // An expander's second word: R, number of phys, configurable bit.
-fn head_word(u: ExpanderUnit) -> u64
+pub fn head_word(u: ExpanderUnit) -> u64
     ensures { λ r. ⌜ r ≡ headWord (u .indexes) (u .phys) (u .configurable) ⌝ }
 {
     (u.indexes as u64) + 65536 * (u.phys as u64) + 16777216 * (u.configurable as u64)
 }
 
 // Zeros in every word.
-fn clear(row: &mut [u64])
+pub fn clear(row: &mut [u64])
     ensures { λ _. ⌜ now (row .exit) ≡ replicate (length (now (row .entry))) 0 ⌝ }
 {
     let mut k: usize = 0;
@@ -149,8 +149,5 @@ pub fn read_domain(setting: Setting, file: &[u8], rows: &mut [u64]) -> DomainRea
 pub fn stated_count(file: &[u8]) -> u8
     ensures { λ r. ⌜ r ≡ byte (now (file .entry)) 1 ⌝ }
 {
-    if file.len() < 2 {
-        return 0;
-    }
-    file[1]
+    view::byte_at(file, 1)
 }

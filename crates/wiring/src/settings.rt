@@ -1,20 +1,15 @@
 // A course's setting: its range, and the widest one.
 use crate::Setting;
-use crate::units;
 ghost use mathlib.Core.Path.{_≡_};
 ghost use Rattle.wiring.specs.Settings.{inRange, widest};
 
 // Whether cause 22 does not hold: expanders 1 to 64, phys 1 to 128, chain 1 to 64.
-pub(crate) fn is_in_range(setting: Setting) -> bool
+pub fn is_in_range(setting: Setting) -> bool
     ensures { λ r. ⌜ r ≡ inRange setting ⌝ }
 {
-    if !units::is_within(setting.expanders, 64) {
-        return false;
-    }
-    if !units::is_within(setting.phys, 128) {
-        return false;
-    }
-    units::is_within(setting.chain, 64)
+    ((setting.expanders >= 1) & (setting.expanders <= 64))
+        & (((setting.phys >= 1) & (setting.phys <= 128))
+            & ((setting.chain >= 1) & (setting.chain <= 64)))
 }
 
 // The limits of document 01.

@@ -10,13 +10,12 @@ use crate::refusals;
 use frames::Discover;
 use frames::DiscoverRead;
 use frames::ExpanderNumber;
-use frames::General;
 use frames::GeneralRead;
 use frames::PhyId;
 use frames::Response;
 use frames::SizeRead;
 ghost use mathlib.Core.Path.{_≡_};
-ghost use mathlib.Core.Bool.{not, _||_, _&&_};
+ghost use mathlib.Core.Bool.{not, _&&_};
 ghost use Prim.Native.Nat.{_+_};
 ghost use lib.ListN.{length};
 ghost use lib.Dec.{eqb, leb};
@@ -25,7 +24,7 @@ ghost use Rattle.frames.specs.Sizes.{sizeAnswer};
 ghost use Rattle.frames.specs.Discovery.{fields};
 ghost use Rattle.wiring.specs.Lists.{isIn};
 ghost use Rattle.wiring.specs.Settings.{within};
-ghost use Rattle.wiring.specs.File.{sizeAt, fieldsOf, ranged, phyOf, phyUnit, unitOf, unitTested, expanderUnit};
+ghost use Rattle.wiring.specs.File.{sizeAt, fieldsOf, ranged, phyOf, phyUnit, unitTested, expanderUnit};
 ghost use Rattle.wiring.specs.Units.{phyAnswer, expanderAnswer, endsAt};
 
 // Whether a file has n bytes from offset `at` on.
@@ -61,27 +60,15 @@ fn size_at(kind: Response, file: &[u8], from: usize) -> SizeRead
 fn is_placed(f: Discover, own: u64, p: PhyId) -> bool
     ensures { λ r. ⌜ r ≡ (eqb (f .identifier .0) (p .0) && eqb (f .own) own) ⌝ }
 {
-    if f.identifier.0 != p.0 {
-        return false;
-    }
-    f.own == own
+    (f.identifier.0 == p.0) & (f.own == own)
 }
 
 // Whether cause 6 does not hold of a phy's fields: type up to 3, attribute up to 2, and not attached with
 // address zero.
-fn is_ranged(f: PhyFields) -> bool
+pub fn is_ranged(f: PhyFields) -> bool
     ensures { λ r. ⌜ r ≡ ranged f ⌝ }
 {
-    if f.device > 3 {
-        return false;
-    }
-    if f.attribute > 2 {
-        return false;
-    }
-    if f.device == 0 {
-        return true;
-    }
-    f.address != 0
+    (f.device <= 3) & ((f.attribute <= 2) & ((f.device == 0) | (f.address != 0)))
 }
 
 // The fields of a phy; where nothing is attached, with address 0 and phy 0.
@@ -156,24 +143,18 @@ pub(crate) fn is_in(seen: &[u64], a: u64) -> bool
 fn is_free(seen: &[u64], own: u64) -> bool
     ensures { λ r. ⌜ r ≡ (not (eqb own 0) && not (isIn own (now (seen .entry)))) ⌝ }
 {
-    if own == 0 {
-        return false;
-    }
-    !is_in(seen, own)
+    (own != 0) & !is_in(seen, own)
 }
 
 // Whether n is 1 to `most`.
-pub(crate) fn is_within(n: u8, most: u8) -> bool
+pub fn is_within(n: u8, most: u8) -> bool
     ensures { λ r. ⌜ r ≡ within most n ⌝ }
 {
-    if n < 1 {
-        return false;
-    }
-    n <= most
+    (n >= 1) & (n <= most)
 }
 
 // Causes 3 and 4 of an expander's fields; `next` is the place after its unit.
-fn test_unit(
+pub fn test_unit(
     most: Setting,
     seen: &[u64],
     u: ExpanderUnit,
@@ -189,18 +170,6 @@ fn test_unit(
         return refusals::expander_refused(4, i);
     }
     ExpanderRead::Read(u, next)
-}
-
-// The fields of an expander with this address.
-fn unit_of(own: u64, g: General) -> ExpanderUnit
-    ensures { λ r. ⌜ r ≡ unitOf own g ⌝ }
-{
-    ExpanderUnit {
-        address: own,
-        indexes: g.indexes,
-        phys: g.phys,
-        configurable: g.configurable,
-    }
 }
 
 // The unit of expander i at offset `at`, where `seen` are the addresses of the expanders before it:
@@ -227,7 +196,15 @@ pub(crate) fn expander_unit(
             let frame = frames::read_general(&file[from..next]);
             match frame {
                 GeneralRead::Refused(r) => refusals::expander_refused(r.number, i),
-                GeneralRead::Read(g) => test_unit(most, seen, unit_of(own, g), i, next),
+                GeneralRead::Read(g) => {
+                    let u = ExpanderUnit {
+                        address: own,
+                        indexes: g.indexes,
+                        phys: g.phys,
+                        configurable: g.configurable,
+                    };
+                    test_unit(most, seen, u, i, next)
+                }
             }
         }
     }

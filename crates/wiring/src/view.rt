@@ -60,6 +60,16 @@ pub(crate) fn word_at(rows: &[u64], k: usize) -> u64
     0
 }
 
+// The byte at k, 0 past the end.
+pub(crate) fn byte_at(bytes: &[u8], k: usize) -> u8
+    ensures { λ r. ⌜ r ≡ getD (now (bytes .entry)) k 0 ⌝ }
+{
+    if k < bytes.len() {
+        return bytes[k];
+    }
+    0
+}
+
 // How many expanders there are.
 pub fn expander_count(rows: &[u64]) -> u8
     ensures { λ r. ⌜ (r ≡ length (domainIn (now (rows .entry)))) × (r ≤ 64) ⌝ }

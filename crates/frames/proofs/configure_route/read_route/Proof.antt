@@ -51,15 +51,18 @@ number-at-requires c κs = search needs
 cast-t14 : tie.Need-cast-t14
 cast-t14 c = search needs
 
-entry-in-requires : tie.Need-entry-in-requires
-entry-in-requires c κs = search needs
+address-at-requires : tie.Need-address-at-requires
+address-at-requires c κs = search needs
+
+is-disabled-requires : tie.Need-is-disabled-requires
+is-disabled-requires c κs = search needs
 
 returns-4 : tie.Need-returns-4
 unfolding routeRead
 returns-4 c =
-    let f = c .before .before .before in
+    let f = c .before .before .before .before in
     let t = f .before .before in
-    simp (eq-eqb _ _ (t .before .before .if1 .left), sym (t .before .is-fixed .ensures) ∙ not-false _ (t .if2 .left), le-leb _ _ (f .if3 .left), c .before .number-at .ensures .0, c .entry-in .ensures)
+    simp (eq-eqb _ _ (t .before .before .if1 .left), sym (t .before .is-fixed .ensures) ∙ not-false _ (t .if2 .left), le-leb _ _ (f .if3 .left), c .before .before .number-at .ensures .0, c .before .address-at .ensures, c .is-disabled .ensures)
 
 pub read-route-spec : {M : Type 1} → statement M
-read-route-spec = tie.close (tie.spec refused-requires returns is-fixed-requires refused-requires-2 returns-2 shared-slice-read-phy refused-requires-3 returns-3 shared-slice-read-t9 number-at-requires cast-t14 entry-in-requires returns-4)
+read-route-spec = tie.close (tie.spec refused-requires returns is-fixed-requires refused-requires-2 returns-2 shared-slice-read-phy refused-requires-3 returns-3 shared-slice-read-t9 number-at-requires cast-t14 address-at-requires is-disabled-requires returns-4)

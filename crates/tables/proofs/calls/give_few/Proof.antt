@@ -22,9 +22,9 @@ slice-aggregate-give-in-3 c = search needs
 
 give-in-requires : tie.Need-give-in-requires
 give-in-requires c κs =
-    let a = c .before .before .before .before .before .before .before .before .args in
+    let a = c .before .before .before .before .before .before .before .before .before .before .args in
     let f = a .file .now in
-    file-room (a .setting) 2 f _ _ _ (λ d e. omega (arith, stated-expanders (a .setting) f d e, (c .before .before .before .before .before .stated-count) .ensures))
+    file-room (a .setting) 2 f _ _ _ (λ d e. omega (arith, stated-expanders (a .setting) f d e, (c .before .before .before .before .before .before .stated-count) .ensures))
     (omega (arith, length-replicate {A = ℕ} 516 0)) (omega (arith, length-replicate {A = ℕ} 320 0)) (omega (arith, length-replicate {A = ℕ} 256 0))
 
 same-length : tie.Need-same-length
@@ -44,9 +44,9 @@ slice-aggregate-give-in-6 c = search needs
 
 give-in-requires-2 : tie.Need-give-in-requires-2
 give-in-requires-2 c κs =
-    let a = c .before .before .before .before .before .before .before .before .args in
+    let a = c .before .before .before .before .before .before .before .before .before .before .args in
     let f = a .file .now in
-    file-room (a .setting) 8 f _ _ _ (λ d e. omega (arith, stated-expanders (a .setting) f d e, (c .before .before .before .before .before .before .before .before .pre)))
+    file-room (a .setting) 8 f _ _ _ (λ d e. omega (arith, stated-expanders (a .setting) f d e, (c .before .before .before .before .before .before .before .before .before .before .pre)))
     (omega (arith, length-replicate {A = ℕ} 2064 0)) (omega (arith, length-replicate {A = ℕ} 1088 0)) (omega (arith, length-replicate {A = ℕ} 1024 0))
 
 same-length-2 : tie.Need-same-length-2
@@ -55,5 +55,11 @@ same-length-2 c = search needs
 returns-2 : tie.Need-returns-2
 returns-2 c = search needs
 
+same-length-3 : tie.Need-same-length-3
+same-length-3 c = search needs
+
+same-length-4 : tie.Need-same-length-4
+same-length-4 c = search needs
+
 pub give-few-spec : {M : Type 1} → statement M
-give-few-spec = tie.close (tie.spec stated-count-requires slice-aggregate-give-in slice-aggregate-give-in-2 slice-aggregate-give-in-3 give-in-requires same-length returns slice-aggregate-give-in-4 slice-aggregate-give-in-5 slice-aggregate-give-in-6 give-in-requires-2 same-length-2 returns-2)
+give-few-spec = tie.close (tie.spec stated-count-requires slice-aggregate-give-in slice-aggregate-give-in-2 slice-aggregate-give-in-3 give-in-requires same-length same-length-2 returns slice-aggregate-give-in-4 slice-aggregate-give-in-5 slice-aggregate-give-in-6 give-in-requires-2 same-length-3 same-length-4 returns-2)

@@ -19,7 +19,7 @@ slice-aggregate-give-in-3 c = search needs
 
 give-in-requires : tie.Need-give-in-requires
 give-in-requires c κs =
-    let a = c .before .before .before .before .before .before .args in
+    let a = c .before .before .before .before .before .before .before .before .args in
     let f = a .file .now in
     file-room (a .setting) 64 f _ _ _ (λ d e. let g = read-good (a .setting) f d e in omega (arith, g .few, g .range .expanders .1))
     (omega (arith, length-replicate {A = ℕ} 16512 0)) (omega (arith, length-replicate {A = ℕ} 8256 0)) (omega (arith, length-replicate {A = ℕ} 8192 0))
@@ -30,5 +30,8 @@ same-length c = search needs
 returns : tie.Need-returns
 returns c = search needs
 
+same-length-2 : tie.Need-same-length-2
+same-length-2 c = search needs
+
 pub give-many-spec : {M : Type 1} → statement M
-give-many-spec = tie.close (tie.spec slice-aggregate-give-in slice-aggregate-give-in-2 slice-aggregate-give-in-3 give-in-requires same-length returns)
+give-many-spec = tie.close (tie.spec slice-aggregate-give-in slice-aggregate-give-in-2 slice-aggregate-give-in-3 give-in-requires same-length same-length-2 returns)

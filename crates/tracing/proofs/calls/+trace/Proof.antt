@@ -17,15 +17,15 @@ use Rattle.tracing.proofs.calls.trace_many.Reads as trace-many-reads
 use Rattle.tracing.proofs.calls.+trace.{statement}
 use Rattle.tracing.proofs.calls.+trace.Tie.{close}
 
-abbrev μ-trace : Measures 3 trace-kinds.ps ℕ
+abbrev μ-trace : Measures 4 trace-kinds.ps ℕ
 μ-trace κs a = length (a .1 .0 .now)
 
 -- what `trace` is given at the measure t, and what a call of it asks below t
-abbrev trace-at : ℕ → In 3 trace-kinds.ps
-trace-at t = and 3 trace-kinds.ps (is 3 trace-kinds.ps μ-trace t) trace.Pre
+abbrev trace-at : ℕ → In 4 trace-kinds.ps
+trace-at t = and 4 trace-kinds.ps (is 4 trace-kinds.ps μ-trace t) trace.Pre
 
-abbrev trace-below : ℕ → In 3 trace-kinds.ps
-trace-below t = and 3 trace-kinds.ps (falls 3 trace-kinds.ps _<_ μ-trace t) trace.Pre
+abbrev trace-below : ℕ → In 4 trace-kinds.ps
+trace-below t = and 4 trace-kinds.ps (falls 4 trace-kinds.ps _<_ μ-trace t) trace.Pre
 
 abbrev claims : ℕ → trace-lts.Claims
 claims t = (stated-count-asked, stated-count-learnt, trace-few-reads.Asked, trace-few-reads.Learnt, trace-below t, trace.Post, trace-many-reads.Asked, trace-many-reads.Learnt)
@@ -44,17 +44,17 @@ module _ (t : ℕ) where
   returns c = search needs
 
   slice-aggregate-trace : trace-lts.Need-slice-aggregate-trace (claims t) (trace-at t) trace.Post
-  slice-aggregate-trace c = sym (length-take-le 2 ((c .before .before .before .before .before .before .before .before .args) .file .now) (omega (arith, (c .before .if3) .taken)))
+  slice-aggregate-trace c = sym (length-take-le 2 ((c .before .before .before .before .before .before .before .before .before .args) .file .now) (omega (arith, (c .before .if3) .taken)))
 
   trace-requires : trace-lts.Need-trace-requires (claims t) (trace-at t) trace.Post
-  trace-requires c κs = (omega (arith, (c .before .before .before .before .before .before .before .before .before .pre) .0, (c .before .before .if3) .taken, length-take-le 2 ((c .before .before .before .before .before .before .before .before .before .args) .file .now) (omega (arith, (c .before .before .if3) .taken))), tt)
+  trace-requires c κs = (omega (arith, (c .before .before .before .before .before .before .before .before .before .before .pre) .0, (c .before .before .if3) .taken, length-take-le 2 ((c .before .before .before .before .before .before .before .before .before .before .args) .file .now) (omega (arith, (c .before .before .if3) .taken))), tt)
 
   same-length-2 : trace-lts.Need-same-length-2 (claims t) (trace-at t) trace.Post
   same-length-2 c = search needs
 
   returns-2 : trace-lts.Need-returns-2 (claims t) (trace-at t) trace.Post
   unfolding traceCall
-  returns-2 c = rw (header-cut ((c .before .before .before .before .before .before .before .before .before .before .before .before .args) .setting) ((c .before .before .before .before .before .before .before .before .before .before .before .before .args) .file .now) ((c .before .before .before .before .before .if3) .taken) (omega (arith, (c .before .before .before .before .before .before .before .before .stated-count) .ensures, (c .before .before .before .before .before .before .if2) .taken))) at ((c .before .before .trace) .ensures)
+  returns-2 c = rw (header-cut ((c .before .before .before .before .before .before .before .before .before .before .before .before .before .args) .setting) ((c .before .before .before .before .before .before .before .before .before .before .before .before .before .args) .file .now) ((c .before .before .before .before .before .if3) .taken) (omega (arith, (c .before .before .before .before .before .before .before .before .stated-count) .ensures, (c .before .before .before .before .before .before .if2) .taken))) at ((c .before .before .trace) .ensures)
 
   trace-many-requires : trace-lts.Need-trace-many-requires (claims t) (trace-at t) trace.Post
   trace-many-requires c κs = search needs

@@ -21,7 +21,7 @@ slice-aggregate-trace-in-3 c = search needs
 
 trace-in-requires : tie.Need-trace-in-requires
 trace-in-requires c κs =
-    let a = c .before .before .before .before .before .before .before .before .before .args in
+    let a = c .before .before .before .before .before .before .before .before .before .before .args in
     let f = a .file .now in
     file-room (a .setting) 2 f _ _ _ (λ d e. omega (arith, stated-expanders (a .setting) f d e, (c .before .before .before .before .before .stated-count) .ensures))
     (omega (arith, length-replicate {A = ℕ} 516 0)) (omega (arith, length-replicate {A = ℕ} 320 0)) (omega (arith, length-replicate {A = ℕ} 256 0))
@@ -43,9 +43,9 @@ slice-aggregate-trace-in-6 c = search needs
 
 trace-in-requires-2 : tie.Need-trace-in-requires-2
 trace-in-requires-2 c κs =
-    let a = c .before .before .before .before .before .before .before .before .before .args in
+    let a = c .before .before .before .before .before .before .before .before .before .before .args in
     let f = a .file .now in
-    file-room (a .setting) 8 f _ _ _ (λ d e. omega (arith, stated-expanders (a .setting) f d e, (c .before .before .before .before .before .before .before .before .before .pre)))
+    file-room (a .setting) 8 f _ _ _ (λ d e. omega (arith, stated-expanders (a .setting) f d e, (c .before .before .before .before .before .before .before .before .before .before .pre)))
     (omega (arith, length-replicate {A = ℕ} 2064 0)) (omega (arith, length-replicate {A = ℕ} 1088 0)) (omega (arith, length-replicate {A = ℕ} 1024 0))
 
 same-length-2 : tie.Need-same-length-2

@@ -18,7 +18,7 @@ slice-aggregate-trace-in-3 c = search needs
 
 trace-in-requires : tie.Need-trace-in-requires
 trace-in-requires c κs =
-    let a = c .before .before .before .before .before .before .before .args in
+    let a = c .before .before .before .before .before .before .before .before .args in
     let f = a .file .now in
     file-room (a .setting) 64 f _ _ _ (λ d e. let g = read-good (a .setting) f d e in omega (arith, g .few, g .range .expanders .1))
     (omega (arith, length-replicate {A = ℕ} 16512 0)) (omega (arith, length-replicate {A = ℕ} 8256 0)) (omega (arith, length-replicate {A = ℕ} 8192 0))

@@ -3,6 +3,7 @@ use lib.ListN.{length}
 use Rattle.tables.specs.Wiring.{Domain}
 use Rattle.tables.specs.Wiring.{domainIn}
 use Rattle.tables.specs.Wiring.{checkAnswer}
+use Rattle.tables.specs.Entries.{entries, roomOf}
 use Rattle.tracing.specs.Trace.{request}
 use Rattle.tracing.proofs.Asked.{room, answer-no, answer-yes}
 use borrow.Author.Needs.{needs}
@@ -20,16 +21,16 @@ enum-told c = search needs
 
 walk-requires : tie.Need-walk-requires
 walk-requires c κs =
-    let a = c .before .before .before .before .before .before .before .before .args in
+    let a = c .before .before .before .before .before .before .before .before .before .args in
     let d : Domain = domainIn (a .rows .now) in
     let e = ap (checkAnswer d) (sym (c .before .enum-told .given .1)) ∙ c .before .before .before .check-request .ensures in
-    (c .before .before .before .before .before .before .before .before .pre, room (length (a .words .now)) (length (a .passed .now)) (request (a .start .0) (a .arrival .0) (a .s)) d e)
+    (c .before .before .before .before .before .before .before .before .before .pre, room (roomOf (entries (a .words .now) (a .bits .now))) (length (a .passed .now)) (request (a .start .0) (a .arrival .0) (a .s)) d e)
 
 returns : tie.Need-returns
 returns c =
-    let a = c .before .before .before .before .before .before .before .before .args in
+    let a = c .before .before .before .before .before .before .before .before .before .args in
     let d : Domain = domainIn (a .rows .now) in
-    answer-no d (a .words .now) (request (a .start .0) (a .arrival .0) (a .s)) (a .passed .now)
+    answer-no d (entries (a .words .now) (a .bits .now)) (request (a .start .0) (a .arrival .0) (a .s)) (a .passed .now)
     (ap (checkAnswer d) (sym (c .before .r .given .1)) ∙ c .before .before .before .check-request .ensures)
 
 same-length : tie.Need-same-length
@@ -37,10 +38,10 @@ same-length c = search needs
 
 returns-2 : tie.Need-returns-2
 returns-2 c =
-    let a = c .before .before .before .before .before .before .before .before .before .before .before .args in
+    let a = c .before .before .before .before .before .before .before .before .before .before .before .before .args in
     let d : Domain = domainIn (a .rows .now) in
     let e = c .before .before .before .before .before .before .check-request .ensures in
-    answer-yes d (a .words .now) (request (a .start .0) (a .arrival .0) (a .s)) (a .passed .now)
+    answer-yes d (entries (a .words .now) (a .bits .now)) (request (a .start .0) (a .arrival .0) (a .s)) (a .passed .now)
     (ap (checkAnswer d) (sym (c .before .before .before .before .enum-told .given .1)) ∙ e) (c .before .before .walk .ensures)
 
 pub trace-rows-spec : {M : Type 1} → statement M

@@ -1,5 +1,6 @@
 use mathlib.Core.Path.{sym, _∙_, ap}
 use Rattle.tables.specs.Wiring.{Domain, domainIn}
+use Rattle.tables.specs.Entries.{entries, counted}
 use Rattle.tracing.specs.Steps.{Step}
 use Rattle.tracing.specs.Answers.{pickAnswer, tableStep}
 use Rattle.tracing.proofs.Picks.{bearing-attached, direct-at, direct-none}
@@ -15,9 +16,9 @@ enum-known-p c = search needs
 
 arrive-unless-requires : tie.Need-arrive-unless-requires
 arrive-unless-requires c κs =
-    let a = c .before .before .before .before .before .before .before .args in
+    let a = c .before .before .before .before .before .before .before .before .args in
     let e = ap pickAnswer (sym (c .before .p .given .1)) ∙ c .before .before .before .pick-bearing .ensures in
-    (c .before .before .before .before .before .before .before .pre, bearing-attached (domainIn (a .rows .now)) (a .i .0) (a .s) e)
+    (c .before .before .before .before .before .before .before .before .pre, bearing-attached (domainIn (a .rows .now)) (a .i .0) (a .s) e)
 
 enum-told : tie.Need-enum-told
 enum-told c = search needs
@@ -27,17 +28,17 @@ table-step-requires c κs = search needs
 
 returns : tie.Need-returns
 returns c =
-    let a = c .before .before .before .before .before .before .before .before .args in
+    let a = c .before .before .before .before .before .before .before .before .before .args in
     let d : Domain = domainIn (a .rows .now) in
-    let after : Step = tableStep d (a .words .now) (a .i .0) (a .came) (a .s) in
+    let after : Step = tableStep d (counted (entries (a .words .now) (a .bits .now))) (a .i .0) (a .came) (a .s) in
     let e = ap pickAnswer (sym (c .before .before .p .given .1)) ∙ c .before .before .before .before .pick-bearing .ensures in
     c .arrive-unless .ensures ∙ direct-at d (a .i .0) (a .came) after e
 
 returns-2 : tie.Need-returns-2
 returns-2 c =
-    let a = c .before .before .before .before .before .before .before .args in
+    let a = c .before .before .before .before .before .before .before .before .args in
     let d : Domain = domainIn (a .rows .now) in
-    let after : Step = tableStep d (a .words .now) (a .i .0) (a .came) (a .s) in
+    let after : Step = tableStep d (counted (entries (a .words .now) (a .bits .now))) (a .i .0) (a .came) (a .s) in
     let e = ap pickAnswer (sym (c .before .enum-told .given .1)) ∙ c .before .before .before .pick-bearing .ensures in
     c .table-step .ensures ∙ direct-none d (a .i .0) (a .came) after e
 

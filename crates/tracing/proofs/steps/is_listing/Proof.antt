@@ -4,6 +4,7 @@ use borrow.Author.Tests.{eq-eqb, ne-eqb, le-leb, lt-leb}
 use Rattle.tables.specs.Wiring.{Phy}
 use Rattle.tables.specs.Wiring.{Domain, phyAt, typeOf, attributeOf}
 use Rattle.tables.specs.Wiring.{domainIn}
+use Rattle.tables.specs.Entries.{entries, counted}
 use Rattle.tracing.proofs.Picks.{in-stretch}
 use borrow.Author.Needs.{needs}
 use Rattle.tracing.proofs.steps.is_listing.Statement.{statement}
@@ -17,7 +18,7 @@ phy-type-requires c κs = search needs
 
 returns : tie.Need-returns
 returns c =
-    let a = c .before .before .before .before .before .args in
+    let a = c .before .before .before .before .before .before .args in
     let φ : Phy = phyAt (domainIn (a .rows .now)) (a .i .0) (a .p .0) in
     let t = c .before .phy-type in
     let y : t .result ≡ typeOf φ = t .ensures ∙ ap typeOf (c .before .before .phy-at .ensures) in
@@ -28,7 +29,7 @@ phy-attribute-requires c κs = search needs
 
 returns-2 : tie.Need-returns-2
 returns-2 c =
-    let a = c .before .before .before .before .before .before .before .args in
+    let a = c .before .before .before .before .before .before .before .before .args in
     let φ : Phy = phyAt (domainIn (a .rows .now)) (a .i .0) (a .p .0) in
     let e = c .before .before .before .before .phy-at .ensures in
     let t = c .before .before .before .phy-type in
@@ -48,17 +49,17 @@ lists-requires c κs = search needs
 
 returns-3 : tie.Need-returns-3
 returns-3 c =
-    let a = c .before .before .before .before .before .before .before .before .before .args in
+    let a = c .before .before .before .before .before .before .before .before .before .before .args in
     let d : Domain = domainIn (a .rows .now) in
     let φ : Phy = phyAt d (a .i .0) (a .p .0) in
-    let o = c .before .before .before .before .before .before .before .before .before .pre in
+    let o = c .before .before .before .before .before .before .before .before .before .before .pre in
     let e = c .before .before .before .before .before .before .phy-at .ensures in
     let t = c .before .before .before .before .before .phy-type in
     let y : t .result ≡ typeOf φ = t .ensures ∙ ap typeOf e in
     let r = c .before .before .before .phy-attribute in
     let z : r .result ≡ attributeOf φ = r .ensures ∙ ap attributeOf e in
     rw (le-leb 2 (typeOf φ) (omega arith), eq-eqb (attributeOf φ) 2 (omega arith))
-    (c .lists .ensures ∙ in-stretch d (a .words .now) (a .i .0) (a .p .0) (a .s) (c .before .index-count .ensures) o)
+    (c .lists .ensures ∙ in-stretch d (counted (entries (a .words .now) (a .bits .now))) (a .i .0) (a .p .0) (a .s) (c .before .index-count .ensures) o)
 
 pub is-listing-spec : {M : Type 1} → statement M
 is-listing-spec = tie.close (tie.spec phy-at-requires phy-type-requires returns phy-attribute-requires returns-2 index-count-requires cast-lists lists-requires returns-3)

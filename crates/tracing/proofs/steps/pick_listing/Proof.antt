@@ -7,6 +7,7 @@ use Rattle.tables.specs.Wiring.{Domain}
 use Rattle.tables.specs.Wiring.{domainIn}
 use Rattle.tables.specs.Wiring.{phyPlaces}
 use Rattle.tables.specs.Tables.{sizes}
+use Rattle.tables.specs.Entries.{entries, counted}
 use Rattle.tracing.specs.Steps.{pick, listing}
 use Rattle.tracing.specs.Answers.{listingPick, wordsBefore}
 use Rattle.tracing.proofs.Offsets.{phys-none, phys-next, offset-is}
@@ -16,14 +17,14 @@ use Rattle.tracing.proofs.steps.pick_listing.Statement.{statement}
 use Rattle.tracing.proofs.steps.pick_listing.Tie as tie
 
 abbrev Inv-loop : tie.InvT-loop
-Inv-loop rows words i s n at₀ p₀ at p =
+Inv-loop rows words bits i s n at₀ p₀ at p =
     (p ≤ n)
     × (at ≤ 8388608 * i .0 + 65536 * p)
     × (at ≡ wordsBefore (domainIn rows) (i .0) + sizes (domainIn rows) (phyPlaces (i .0) 0 p))
-    × (pick (listing (domainIn rows) words (i .0) s) (numbers p (n - p)) ≡ listingPick (domainIn rows) words (i .0) s)
+    × (pick (listing (domainIn rows) (counted (entries words bits)) (i .0) s) (numbers p (n - p)) ≡ listingPick (domainIn rows) (counted (entries words bits)) (i .0) s)
 
 abbrev μ-loop : tie.MeasureT-loop
-μ-loop rows words i s n at₀ p₀ at p = n - p
+μ-loop rows words bits i s n at₀ p₀ at p = n - p
 
 phy-count-requires : tie.Need-phy-count-requires Inv-loop μ-loop
 phy-count-requires c κs = search needs
@@ -33,28 +34,28 @@ words-before-requires c κs = search needs
 
 loop-holds : tie.Need-loop-holds Inv-loop μ-loop
 loop-holds c =
-    let a = c .before .before .before .before .args in
+    let a = c .before .before .before .before .before .args in
     let d : Domain = domainIn (a .rows .now) in
     let n = c .before .phy-count in
     let z = phys-none d (a .i .0) in (
       omega arith,
       omega arith,
       omega arith,
-      ap (λ (m : ℕ). pick (listing d (a .words .now) (a .i .0) (a .s)) (numbers 0 m)) (sub-zero (n .result) ∙ n .ensures .0),
+      ap (λ (m : ℕ). pick (listing d (counted (entries (a .words .now) (a .bits .now))) (a .i .0) (a .s)) (numbers 0 m)) (sub-zero (n .result) ∙ n .ensures .0),
     )
 
 is-listing-requires : tie.Need-is-listing-requires Inv-loop μ-loop
 is-listing-requires c κs =
-    let a = c .before .before .before .before .before .before .args in
+    let a = c .before .before .before .before .before .before .before .args in
     let l = c .before .loop in
     l .inv .2 ∙ sym (offset-is (domainIn (a .rows .now)) (a .i .0) (l .p) (omega arith))
 
 returns : tie.Need-returns Inv-loop μ-loop
 returns c =
-    let a = c .before .before .before .before .before .before .before .before .args in
+    let a = c .before .before .before .before .before .before .before .before .before .args in
     let l = c .before .before .before .loop in
     let n : ℕ = c .before .before .before .before .before .phy-count .result in
-    pick-stop (listing (domainIn (a .rows .now)) (a .words .now) (a .i .0) (a .s)) n (l .p) (l .inv .3)
+    pick-stop (listing (domainIn (a .rows .now)) (counted (entries (a .words .now) (a .bits .now))) (a .i .0) (a .s)) n (l .p) (l .inv .3)
     (sym (c .before .is-listing .ensures) ∙ c .if1 .taken) (omega arith)
 
 size-at-requires : tie.Need-size-at-requires Inv-loop μ-loop
@@ -71,7 +72,7 @@ loop-less c = omega arith
 
 loop-again : tie.Need-loop-again Inv-loop μ-loop
 loop-again c =
-    let a = c .before .before .before .before .before .before .before .before .before .args in
+    let a = c .before .before .before .before .before .before .before .before .before .before .args in
     let d : Domain = domainIn (a .rows .now) in
     let l = c .before .before .before .before .loop in
     let n : ℕ = c .before .before .before .before .before .before .phy-count .result in
@@ -79,16 +80,16 @@ loop-again c =
       omega arith,
       omega arith,
       omega arith,
-      pick-go (listing d (a .words .now) (a .i .0) (a .s)) n (l .p) (l .inv .3)
+      pick-go (listing d (counted (entries (a .words .now) (a .bits .now))) (a .i .0) (a .s)) n (l .p) (l .inv .3)
           (sym (c .before .before .is-listing .ensures) ∙ c .before .if1 .left) (omega arith),
     )
 
 returns-2 : tie.Need-returns-2 Inv-loop μ-loop
 returns-2 c =
-    let a = c .before .before .before .before .before .before .args in
+    let a = c .before .before .before .before .before .before .before .args in
     let l = c .before .loop in
     let n : ℕ = c .before .before .before .phy-count .result in
-    pick-end (listing (domainIn (a .rows .now)) (a .words .now) (a .i .0) (a .s)) n (l .p) (l .inv .3) (omega arith)
+    pick-end (listing (domainIn (a .rows .now)) (counted (entries (a .words .now) (a .bits .now))) (a .i .0) (a .s)) n (l .p) (l .inv .3) (omega arith)
 
 pub pick-listing-spec : {M : Type 1} → statement M
 pick-listing-spec = tie.close (tie.spec Inv-loop μ-loop phy-count-requires words-before-requires loop-holds is-listing-requires returns size-at-requires add-at add-p loop-less loop-again returns-2)

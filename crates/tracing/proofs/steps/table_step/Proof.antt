@@ -1,5 +1,6 @@
 use mathlib.Core.Path.{sym, _∙_, ap}
 use Rattle.tables.specs.Wiring.{Domain, domainIn}
+use Rattle.tables.specs.Entries.{entries, counted}
 use Rattle.tracing.specs.Answers.{pickAnswer, subtractiveStep}
 use Rattle.tracing.proofs.Picks.{listing-far, table-at, table-none}
 use borrow.Author.Needs.{needs}
@@ -14,9 +15,9 @@ enum-known-p c = search needs
 
 move-unless-requires : tie.Need-move-unless-requires
 move-unless-requires c κs =
-    let a = c .before .before .before .before .before .before .before .args in
+    let a = c .before .before .before .before .before .before .before .before .args in
     let e = ap pickAnswer (sym (c .before .p .given .1)) ∙ c .before .before .before .pick-listing .ensures in
-    (c .before .before .before .before .before .before .before .pre, listing-far (domainIn (a .rows .now)) (a .i .0) (a .words .now) (a .s) e)
+    (c .before .before .before .before .before .before .before .before .pre, listing-far (domainIn (a .rows .now)) (a .i .0) (counted (entries (a .words .now) (a .bits .now))) (a .s) e)
 
 enum-told : tie.Need-enum-told
 enum-told c = search needs
@@ -26,14 +27,14 @@ subtractive-step-requires c κs = search needs
 
 returns : tie.Need-returns
 returns c =
-    let a = c .before .before .before .before .before .before .before .before .args in
+    let a = c .before .before .before .before .before .before .before .before .before .args in
     let d : Domain = domainIn (a .rows .now) in
     let e = ap pickAnswer (sym (c .before .before .p .given .1)) ∙ c .before .before .before .before .pick-listing .ensures in
     c .move-unless .ensures ∙ table-at d (a .i .0) (a .came) (subtractiveStep d (a .i .0) (a .came)) e
 
 returns-2 : tie.Need-returns-2
 returns-2 c =
-    let a = c .before .before .before .before .before .before .before .args in
+    let a = c .before .before .before .before .before .before .before .before .args in
     let d : Domain = domainIn (a .rows .now) in
     let e = ap pickAnswer (sym (c .before .enum-told .given .1)) ∙ c .before .before .before .pick-listing .ensures in
     c .subtractive-step .ensures ∙ table-none d (a .i .0) (a .came) (subtractiveStep d (a .i .0) (a .came)) e

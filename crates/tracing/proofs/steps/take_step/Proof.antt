@@ -3,6 +3,7 @@ use mathlib.Core.Path.{sym, _∙_, ap}
 use borrow.Author.Tests.{eq-eqb, ne-eqb}
 use Rattle.tables.specs.Wiring.{Domain, expanderAt}
 use Rattle.tables.specs.Wiring.{domainIn}
+use Rattle.tables.specs.Entries.{entries, counted}
 use Rattle.tracing.specs.Answers.{directStep}
 use Rattle.tracing.proofs.Picks.{step-by}
 use borrow.Author.Needs.{needs}
@@ -14,10 +15,10 @@ expander-address-requires c κs = search needs
 
 returns : tie.Need-returns
 returns c =
-    let a = c .before .before .before .before .before .args in
+    let a = c .before .before .before .before .before .before .args in
     let d : Domain = domainIn (a .rows .now) in
     let e = eq-eqb (expanderAt d (a .i .0) .address) (a .s) (sym (c .before .expander-address .ensures) ∙ c .if1 .taken) in
-    sym (step-by d (a .words .now) (a .i .0) (a .arrival .0) (a .s) e)
+    sym (step-by d (counted (entries (a .words .now) (a .bits .now))) (a .i .0) (a .arrival .0) (a .s) e)
 
 came-from-requires : tie.Need-came-from-requires
 came-from-requires c κs = search needs
@@ -27,12 +28,12 @@ direct-step-requires c κs = search needs
 
 returns-2 : tie.Need-returns-2
 returns-2 c =
-    let a = c .before .before .before .before .before .before .before .args in
+    let a = c .before .before .before .before .before .before .before .before .args in
     let d : Domain = domainIn (a .rows .now) in
     let e = ne-eqb (expanderAt d (a .i .0) .address) (a .s) (λ e. c .before .before .if1 .left (c .before .before .before .expander-address .ensures ∙ e)) in
     c .direct-step .ensures
-    ∙ ap (λ (x : ℕ). directStep d (a .words .now) (a .i .0) x (a .s)) (c .before .came-from .ensures)
-    ∙ sym (step-by d (a .words .now) (a .i .0) (a .arrival .0) (a .s) e)
+    ∙ ap (λ (x : ℕ). directStep d (counted (entries (a .words .now) (a .bits .now))) (a .i .0) x (a .s)) (c .before .came-from .ensures)
+    ∙ sym (step-by d (counted (entries (a .words .now) (a .bits .now))) (a .i .0) (a .arrival .0) (a .s) e)
 
 pub take-step-spec : {M : Type 1} → statement M
 take-step-spec = tie.close (tie.spec expander-address-requires returns came-from-requires direct-step-requires returns-2)

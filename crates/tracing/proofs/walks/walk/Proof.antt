@@ -5,6 +5,7 @@ use native.Mathlib.Nat.{sub-zero}
 use lib.ListN.{length, take, drop, length-set}
 use Rattle.tables.specs.Wiring.{Domain}
 use Rattle.tables.specs.Wiring.{domainIn}
+use Rattle.tables.specs.Entries.{entries, counted}
 use Rattle.tracing.specs.declared.Outcome.the-variants.{Arrived, NoDestination, BadDestination}
 use Rattle.tracing.specs.Trace.{after, afterStep, traceFrom, request, traced}
 use Rattle.tracing.specs.Answers.{stepAnswer}
@@ -14,14 +15,14 @@ use Rattle.tracing.proofs.walks.walk.Statement.{statement}
 use Rattle.tracing.proofs.walks.walk.Tie as tie
 
 abbrev Inv-loop : tie.InvT-loop
-Inv-loop rows first words s passed₀ n i₀ q₀ k₀ passed i q k =
+Inv-loop rows first words bits s passed₀ n i₀ q₀ k₀ passed i q k =
     (k ≤ n)
     × (length passed ≡ length passed₀)
     × (drop k passed ≡ drop k passed₀)
-    × (after (take k passed) (traceFrom (n - k) (domainIn rows) words (i .0) (q .0) s) ≡ traced (domainIn rows) words (request (i₀ .0) (q₀ .0) s))
+    × (after (take k passed) (traceFrom (n - k) (domainIn rows) (counted (entries words bits)) (i .0) (q .0) s) ≡ traced (domainIn rows) (counted (entries words bits)) (request (i₀ .0) (q₀ .0) s))
 
 abbrev μ-loop : tie.MeasureT-loop
-μ-loop rows first words s passed₀ n i₀ q₀ k₀ passed i q k = n - k
+μ-loop rows first words bits s passed₀ n i₀ q₀ k₀ passed i q k = n - k
 
 expander-count-requires : tie.Need-expander-count-requires Inv-loop μ-loop
 expander-count-requires c κs = search needs
@@ -29,13 +30,13 @@ expander-count-requires c κs = search needs
 loop-holds : tie.Need-loop-holds Inv-loop μ-loop
 unfolding traced
 loop-holds c =
-    let a = c .before .before .before .before .before .args in
+    let a = c .before .before .before .before .before .before .args in
     let d : Domain = domainIn (a .rows .now) in
     let n = c .expander-count in (
       omega arith,
       refl,
       refl,
-      ap (λ (m : ℕ). traceFrom m d (a .words .now) (a .start .0) (a .arrival .0) (a .s)) (sub-zero (n .result) ∙ n .ensures .0),
+      ap (λ (m : ℕ). traceFrom m d (counted (entries (a .words .now) (a .bits .now))) (a .start .0) (a .arrival .0) (a .s)) (sub-zero (n .result) ∙ n .ensures .0),
     )
 
 cast-passed : tie.Need-cast-passed Inv-loop μ-loop
@@ -62,12 +63,12 @@ same-length c = simp length-set (c .before .before .before .before .before .loop
 returns : tie.Need-returns Inv-loop μ-loop
 unfolding afterStep
 returns c =
-    let a = c .before .before .before .before .before .before .before .before .before .before .before .args in
+    let a = c .before .before .before .before .before .before .before .before .before .before .before .before .args in
     let l = c .before .before .before .before .before .loop in
     let n : ℕ = c .before .before .before .before .before .before .expander-count .result in
     let e = ap stepAnswer (sym (c .before .enum-told .given .1)) ∙ c .before .before .before .take-step .ensures in
     rw (c .ended .ensures)
-    (walk-stop (domainIn (a .rows .now)) (a .words .now) (a .s) n (l .k) (l .i .0) (l .q .0) (l .passed) (a .passed .now)
+    (walk-stop (domainIn (a .rows .now)) (counted (entries (a .words .now) (a .bits .now))) (a .s) n (l .k) (l .i .0) (l .q .0) (l .passed) (a .passed .now)
     (l .inv .3) (l .inv .2) Arrived 255 e refl (omega arith) (omega arith))
 
 enum-known-t : tie.Need-enum-known-t Inv-loop μ-loop
@@ -82,12 +83,12 @@ same-length-2 c = simp length-set (c .before .before .before .before .before .be
 returns-2 : tie.Need-returns-2 Inv-loop μ-loop
 unfolding afterStep
 returns-2 c =
-    let a = c .before .before .before .before .before .before .before .before .before .before .before .before .args in
+    let a = c .before .before .before .before .before .before .before .before .before .before .before .before .before .args in
     let l = c .before .before .before .before .before .before .loop in
     let n : ℕ = c .before .before .before .before .before .before .before .expander-count .result in
     let e = ap stepAnswer (sym (c .before .before .t .given .1)) ∙ c .before .before .before .before .take-step .ensures in
     rw (c .ended2 .ensures)
-    (walk-stop (domainIn (a .rows .now)) (a .words .now) (a .s) n (l .k) (l .i .0) (l .q .0) (l .passed) (a .passed .now)
+    (walk-stop (domainIn (a .rows .now)) (counted (entries (a .words .now) (a .bits .now))) (a .s) n (l .k) (l .i .0) (l .q .0) (l .passed) (a .passed .now)
     (l .inv .3) (l .inv .2) Arrived _ e refl (omega arith) (omega arith))
 
 enum-told-2 : tie.Need-enum-told-2 Inv-loop μ-loop
@@ -102,12 +103,12 @@ same-length-3 c = simp length-set (c .before .before .before .before .before .lo
 returns-3 : tie.Need-returns-3 Inv-loop μ-loop
 unfolding afterStep
 returns-3 c =
-    let a = c .before .before .before .before .before .before .before .before .before .before .before .args in
+    let a = c .before .before .before .before .before .before .before .before .before .before .before .before .args in
     let l = c .before .before .before .before .before .loop in
     let n : ℕ = c .before .before .before .before .before .before .expander-count .result in
     let e = ap stepAnswer (sym (c .before .enum-told2 .given .1)) ∙ c .before .before .before .take-step .ensures in
     rw (c .ended3 .ensures)
-    (walk-stop (domainIn (a .rows .now)) (a .words .now) (a .s) n (l .k) (l .i .0) (l .q .0) (l .passed) (a .passed .now)
+    (walk-stop (domainIn (a .rows .now)) (counted (entries (a .words .now) (a .bits .now))) (a .s) n (l .k) (l .i .0) (l .q .0) (l .passed) (a .passed .now)
     (l .inv .3) (l .inv .2) BadDestination 255 e refl (omega arith) (omega arith))
 
 enum-told-3 : tie.Need-enum-told-3 Inv-loop μ-loop
@@ -122,12 +123,12 @@ same-length-4 c = simp length-set (c .before .before .before .before .before .lo
 returns-4 : tie.Need-returns-4 Inv-loop μ-loop
 unfolding afterStep
 returns-4 c =
-    let a = c .before .before .before .before .before .before .before .before .before .before .before .args in
+    let a = c .before .before .before .before .before .before .before .before .before .before .before .before .args in
     let l = c .before .before .before .before .before .loop in
     let n : ℕ = c .before .before .before .before .before .before .expander-count .result in
     let e = ap stepAnswer (sym (c .before .enum-told3 .given .1)) ∙ c .before .before .before .take-step .ensures in
     rw (c .ended4 .ensures)
-    (walk-stop (domainIn (a .rows .now)) (a .words .now) (a .s) n (l .k) (l .i .0) (l .q .0) (l .passed) (a .passed .now)
+    (walk-stop (domainIn (a .rows .now)) (counted (entries (a .words .now) (a .bits .now))) (a .s) n (l .k) (l .i .0) (l .q .0) (l .passed) (a .passed .now)
     (l .inv .3) (l .inv .2) NoDestination 255 e refl (omega arith) (omega arith))
 
 enum-known-t-2 : tie.Need-enum-known-t-2 Inv-loop μ-loop
@@ -138,7 +139,7 @@ loop-less c = omega arith
 
 loop-again : tie.Need-loop-again Inv-loop μ-loop
 loop-again c =
-    let a = c .before .before .before .before .before .before .before .before .before .before .before .args in
+    let a = c .before .before .before .before .before .before .before .before .before .before .before .before .args in
     let d : Domain = domainIn (a .rows .now) in
     let l = c .before .before .before .before .before .loop in
     let n : ℕ = c .before .before .before .before .before .before .expander-count .result in
@@ -146,7 +147,7 @@ loop-again c =
       omega arith,
       simp length-set (l .inv .1),
       kept (l .k) (l .i .0) (l .passed) (a .passed .now) (l .inv .2) (omega arith),
-      walk-go d (a .words .now) (a .s) n (l .k) (l .i .0) (l .q .0) (l .passed) (a .passed .now) (l .inv .3) (l .inv .2)
+      walk-go d (counted (entries (a .words .now) (a .bits .now))) (a .s) n (l .k) (l .i .0) (l .q .0) (l .passed) (a .passed .now) (l .inv .3) (l .inv .2)
           e (omega arith) (omega arith),
     )
 
@@ -158,11 +159,11 @@ same-length-5 c = c .before .before .loop .inv .1
 
 returns-5 : tie.Need-returns-5 Inv-loop μ-loop
 returns-5 c =
-    let a = c .before .before .before .before .before .before .before .before .args in
+    let a = c .before .before .before .before .before .before .before .before .before .args in
     let l = c .before .before .loop in
     let n : ℕ = c .before .before .before .expander-count .result in
     rw (c .ended5 .ensures)
-    (walk-end (domainIn (a .rows .now)) (a .words .now) (a .s) n (l .k) (l .i .0) (l .q .0) (l .passed) (a .passed .now)
+    (walk-end (domainIn (a .rows .now)) (counted (entries (a .words .now) (a .bits .now))) (a .s) n (l .k) (l .i .0) (l .q .0) (l .passed) (a .passed .now)
     (l .inv .3) (l .inv .2) (omega arith) (omega arith))
 
 pub walk-spec : {M : Type 1} → statement M

@@ -30,48 +30,22 @@ put-index-below t = and 3 put-index-kinds.ps (falls 3 put-index-kinds.ps _<_ μ-
 abbrev claims : ℕ → put-index-lts.Claims
 claims t = (put-index-below t, put-index.Post, expander-count-reads.Asked, expander-count-reads.Learnt, index-few-reads.Asked, index-few-reads.Learnt, index-many-reads.Asked, index-many-reads.Learnt)
 
-module _ (t : ℕ) where
-  slice-aggregate-put-index : put-index-lts.Need-slice-aggregate-put-index (claims t) (put-index-at t) put-index.Post
-  slice-aggregate-put-index c = sym (length-take-le 16512 ((c .before .before .before .before .before .args) .rows .now) (omega (arith, (c .before .if1) .taken)))
-
-  put-index-requires : put-index-lts.Need-put-index-requires (claims t) (put-index-at t) put-index.Post
-  put-index-requires c κs = let ws = (c .before .before .before .before .before .before .before .args) .rows .now in (omega (arith, (c .before .before .before .before .before .before .before .pre) .0, length-take-le 16512 ws (omega (arith, (c .before .before .before .if1) .taken))), rw (rows-cut ws ((c .before .before .before .if1) .taken)) ((c .before .before .before .before .before .before .before .pre) .1))
-
-  same-length : put-index-lts.Need-same-length (claims t) (put-index-at t) put-index.Post
-  same-length c = search needs
-
-  same-length-2 : put-index-lts.Need-same-length-2 (claims t) (put-index-at t) put-index.Post
-  same-length-2 c = search needs
-
-  returns : put-index-lts.Need-returns (claims t) (put-index-at t) put-index.Post
-  returns c = rw (rows-cut ((c .before .before .before .before .before .before .before .before .before .before .before .before .args) .rows .now) ((c .before .before .before .before .before .before .before .before .if1) .taken)) at ((c .before .before .before .before .put-index) .ensures)
-
-  expander-count-requires : put-index-lts.Need-expander-count-requires (claims t) (put-index-at t) put-index.Post
-  expander-count-requires c κs = search needs
-
-  index-few-requires : put-index-lts.Need-index-few-requires (claims t) (put-index-at t) put-index.Post
-  index-few-requires c κs = ((c .before .before .before .before .before .before .before .before .pre) .1, omega (arith, (c .before .before .before .expander-count) .ensures .0, (c .before .before .if2) .taken))
-
-  same-length-3 : put-index-lts.Need-same-length-3 (claims t) (put-index-at t) put-index.Post
-  same-length-3 c = search needs
-
-  same-length-4 : put-index-lts.Need-same-length-4 (claims t) (put-index-at t) put-index.Post
-  same-length-4 c = search needs
-
-  returns-2 : put-index-lts.Need-returns-2 (claims t) (put-index-at t) put-index.Post
-  returns-2 c = search needs
-
-  index-many-requires : put-index-lts.Need-index-many-requires (claims t) (put-index-at t) put-index.Post
-  index-many-requires c κs = (c .before .before .before .before .before .before .before .before .pre) .1
-
-  same-length-5 : put-index-lts.Need-same-length-5 (claims t) (put-index-at t) put-index.Post
-  same-length-5 c = search needs
-
-  same-length-6 : put-index-lts.Need-same-length-6 (claims t) (put-index-at t) put-index.Post
-  same-length-6 c = search needs
-
-  returns-3 : put-index-lts.Need-returns-3 (claims t) (put-index-at t) put-index.Post
-  returns-3 c = search needs
-
+-- in the order of the body: the first 64 rows, few expanders, and the largest tree
 pub +put-index-spec : {M : Type 1} → statement M
-+put-index-spec = close μ-put-index (λ t. put-index-lts.spec (claims t) (put-index-at t) put-index.Post (slice-aggregate-put-index t) (put-index-requires t) (same-length t) (same-length-2 t) (returns t) (expander-count-requires t) (index-few-requires t) (same-length-3 t) (same-length-4 t) (returns-2 t) (index-many-requires t) (same-length-5 t) (same-length-6 t) (returns-3 t))
++put-index-spec = close μ-put-index (λ t. put-index-lts.spec (claims t) (put-index-at t) put-index.Post
+    (λ c. sym (length-take-le 16512 (c .before .before .before .before .before .args .rows .now) (omega (arith, c .before .if1 .taken))))
+    (λ c κs. let s = c .before .before .before .before .before .before .before in
+    let h = c .before .before .before .if1 .taken in
+    (omega (arith, s .pre .0, length-take-le 16512 (s .args .rows .now) (omega arith)), rw (rows-cut (s .args .rows .now) h) (s .pre .1)))
+    (λ c. search needs)
+    (λ c. search needs)
+    (λ c. let b = c .before .before .before .before .before .before .before .before in rw (rows-cut (b .before .before .before .before .args .rows .now) (b .if1 .taken)) at (c .before .before .before .before .put-index .ensures))
+    (λ c κs. search needs)
+    (λ c κs. (c .before .before .before .before .before .before .before .before .pre .1, omega (arith, c .before .before .before .expander-count .ensures .0, c .before .before .if2 .taken)))
+    (λ c. search needs)
+    (λ c. search needs)
+    (λ c. search needs)
+    (λ c κs. c .before .before .before .before .before .before .before .before .pre .1)
+    (λ c. search needs)
+    (λ c. search needs)
+    (λ c. search needs))

@@ -1,6 +1,5 @@
 -- add meets its contract: where the walk ends at a slot, that is the lowest with the address; else the new slot goes into the free cell.
-use Prim.Native.Nat.{_+_, _-_}
-use mathlib.Core.Path.{refl, sym}
+use mathlib.Core.Path.{refl}
 use Rattle.wiring.proofs.Indexing.{can-search, added-same, added-new}
 use borrow.Author.Needs.{needs}
 use native.Mathlib.Omega.{arith}
@@ -8,7 +7,7 @@ use Rattle.wiring.proofs.addresses.add.Statement.{statement}
 use Rattle.wiring.proofs.addresses.add.Tie as tie
 
 find-requires : tie.Need-find-requires
-find-requires c κs = can-search _ _ _ _ _ _ ((c .before .before .before .pre))
+find-requires c κs = can-search _ _ _ _ _ _ (c .before .before .before .pre)
 
 mul-v : tie.Need-mul-v
 mul-v c = search needs
@@ -17,7 +16,7 @@ slice-read-v : tie.Need-slice-read-v
 slice-read-v c = search needs
 
 cast-v : tie.Need-cast-v
-cast-v c = omega (arith, (c .slice-known2) .given ((c .before .find) .result))
+cast-v c = omega (arith, c .slice-known2 .given (c .before .find .result))
 
 add-result : tie.Need-add-result
 add-result c = omega (arith, c .before .slice-known2 .given (c .before .before .find .result), c .before .before .before .before .before .before .pre .above, c .before .before .before .before .before .before .pre .few)
@@ -29,7 +28,7 @@ same-length : tie.Need-same-length
 same-length c = search needs
 
 returns : tie.Need-returns
-returns c = added-same _ _ _ _ _ _ ((c .before .before .before .before .before .before .pre)) ((c .before .before .find) .result) ((c .before .before .find) .ensures .0) _ refl (omega arith)
+returns c = added-same _ _ _ _ _ _ (c .before .before .before .before .before .before .pre) (c .before .before .find .result) (c .before .before .find .ensures .0) _ refl (omega arith)
 
 sub-cells : tie.Need-sub-cells
 sub-cells c = search needs
@@ -50,7 +49,7 @@ same-length-2 : tie.Need-same-length-2
 same-length-2 c = search needs
 
 returns-2 : tie.Need-returns-2
-returns-2 c = added-new _ _ _ _ _ _ ((c .before .before .before .before .before .before .pre)) ((c .before .before .find) .result) ((c .before .before .find) .ensures .0) (omega arith)
+returns-2 c = added-new _ _ _ _ _ _ (c .before .before .before .before .before .before .pre) (c .before .before .find .result) (c .before .before .find .ensures .0) (omega arith)
 
 pub add-spec : {M : Type 1} → statement M
 add-spec = tie.close (tie.spec find-requires mul-v slice-read-v cast-v add-result sub-result same-length returns sub-cells add-cells cast-cells mul-cells slice-write-cells same-length-2 returns-2)

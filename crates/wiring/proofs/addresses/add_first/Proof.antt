@@ -11,7 +11,7 @@ phy-type-requires : tie.Need-phy-type-requires
 phy-type-requires c κs = search needs
 
 returns : tie.Need-returns
-returns c = (first-nothing _ _ _ _ ((c .before .before .before .before .before .pre) .1 .0) ((c .before .before .before .before .before .pre) .1 .1) _ _ _ ((c .before .before .before .before .before .pre) .0) (sym ((c .before .phy-type) .ensures) ∙ (c .if1) .taken), kept-none _)
+returns c = let s = c .before .before .before .before .before in (first-nothing _ _ _ _ (s .pre .1 .0) (s .pre .1 .1) _ _ _ (s .pre .0) (sym (c .before .phy-type .ensures) ∙ c .if1 .taken), kept-none _)
 
 cast-t : tie.Need-cast-t
 cast-t c = search needs
@@ -32,7 +32,7 @@ phy-address-requires : tie.Need-phy-address-requires
 phy-address-requires c κs = search needs
 
 add-requires : tie.Need-add-requires
-add-requires c κs = rw ((c .before .before .phy-address) .ensures) (first-can _ _ _ _ ((c .before .before .before .before .before .before .before .before .before .before .pre) .1 .0) ((c .before .before .before .before .before .before .before .before .before .before .pre) .1 .1) _ _ _ ((c .before .before .before .before .before .before .before .before .before .before .pre) .0) (sym ((c .before .before .before .before .before .before .phy-type) .ensures) ∙ (c .before .if2) .taken))
+add-requires c κs = let s = c .before .before .before .before .before .before .before .before .before .before in rw (c .before .before .phy-address .ensures) (first-can _ _ _ _ (s .pre .1 .0) (s .pre .1 .1) _ _ _ (s .pre .0) (sym (c .before .before .before .before .before .before .phy-type .ensures) ∙ c .before .if2 .taken))
 
 cast-first : tie.Need-cast-first
 cast-first c = search needs
@@ -41,7 +41,7 @@ mul-first : tie.Need-mul-first
 mul-first c = search needs
 
 slice-write-first : tie.Need-slice-write-first
-slice-write-first c = omega (arith, (c .before .before .before .before .before .before .before .before .before .before .before .before .before .pre) .0 .slots, phy-few _ _ _ _ ((c .before .before .before .before .before .before .before .before .before .before .before .before .before .pre) .1 .0) ((c .before .before .before .before .before .before .before .before .before .before .before .before .before .pre) .1 .1), here-few _ _ _ _ ((c .before .before .before .before .before .before .before .before .before .before .before .before .before .pre) .1 .0) ((c .before .before .before .before .before .before .before .before .before .before .before .before .before .pre) .1 .1) .0)
+slice-write-first c = let s = c .before .before .before .before .before .before .before .before .before .before .before .before .before in omega (arith, s .pre .0 .slots, phy-few _ _ _ _ (s .pre .1 .0) (s .pre .1 .1), here-few _ _ _ _ (s .pre .1 .0) (s .pre .1 .1) .0)
 
 same-length : tie.Need-same-length
 same-length c = search needs
@@ -50,10 +50,10 @@ same-length-2 : tie.Need-same-length-2
 same-length-2 c = search needs
 
 returns-2 : tie.Need-returns-2
-returns-2 c = (first-device _ _ _ _ ((c .before .before .before .before .before .before .before .before .before .before .before .before .before .pre) .1 .0) ((c .before .before .before .before .before .before .before .before .before .before .before .before .before .pre) .1 .1) _ _ _ ((c .before .before .before .before .before .before .before .before .before .before .before .before .before .pre) .0) (sym ((c .before .before .before .before .before .before .before .before .before .phy-type) .ensures) ∙ (c .before .before .before .before .if2) .taken) _ _ (rw ((c .before .before .before .before .before .phy-address) .ensures) at ((c .before .before .add) .ensures)), first-kept _ _ _ _ ((c .before .before .before .before .before .before .before .before .before .before .before .before .before .pre) .1 .0) ((c .before .before .before .before .before .before .before .before .before .before .before .before .before .pre) .1 .1) (λ z. (c .before .before .before .before .before .before .before .before .if1) .left ((c .before .before .before .before .before .before .before .before .before .phy-type) .ensures ∙ z)) _ _)
+returns-2 c = let s = c .before .before .before .before .before .before .before .before .before .before .before .before .before in (first-device _ _ _ _ (s .pre .1 .0) (s .pre .1 .1) _ _ _ (s .pre .0) (sym (c .before .before .before .before .before .before .before .before .before .phy-type .ensures) ∙ c .before .before .before .before .if2 .taken) _ _ (rw (c .before .before .before .before .before .phy-address .ensures) at (c .before .before .add .ensures)), first-kept _ _ _ _ (s .pre .1 .0) (s .pre .1 .1) (λ z. (c .before .before .before .before .before .before .before .before .if1) .left (c .before .before .before .before .before .before .before .before .before .phy-type .ensures ∙ z)) _ _)
 
 find-requires : tie.Need-find-requires
-find-requires c κs = first-look _ _ _ _ ((c .before .before .before .before .before .before .before .before .before .before .pre) .1 .0) ((c .before .before .before .before .before .before .before .before .before .before .pre) .1 .1) _ _ _ ((c .before .before .before .before .before .before .before .before .before .before .pre) .0)
+find-requires c κs = let s = c .before .before .before .before .before .before .before .before .before .before in first-look _ _ _ _ (s .pre .1 .0) (s .pre .1 .1) _ _ _ (s .pre .0)
 
 mul-slot-in : tie.Need-mul-slot-in
 mul-slot-in c = search needs
@@ -68,7 +68,7 @@ mul-first-2 : tie.Need-mul-first-2
 mul-first-2 c = search needs
 
 slice-write-first-2 : tie.Need-slice-write-first-2
-slice-write-first-2 c = omega (arith, (c .before .before .before .before .before .before .before .before .before .before .before .before .before .pre) .0 .slots, phy-few _ _ _ _ ((c .before .before .before .before .before .before .before .before .before .before .before .before .before .pre) .1 .0) ((c .before .before .before .before .before .before .before .before .before .before .before .before .before .pre) .1 .1), here-few _ _ _ _ ((c .before .before .before .before .before .before .before .before .before .before .before .before .before .pre) .1 .0) ((c .before .before .before .before .before .before .before .before .before .before .before .before .before .pre) .1 .1) .0)
+slice-write-first-2 c = let s = c .before .before .before .before .before .before .before .before .before .before .before .before .before in omega (arith, s .pre .0 .slots, phy-few _ _ _ _ (s .pre .1 .0) (s .pre .1 .1), here-few _ _ _ _ (s .pre .1 .0) (s .pre .1 .1) .0)
 
 same-length-3 : tie.Need-same-length-3
 same-length-3 c = search needs
@@ -77,7 +77,7 @@ same-length-4 : tie.Need-same-length-4
 same-length-4 c = search needs
 
 returns-3 : tie.Need-returns-3
-returns-3 c = (first-other _ _ _ _ ((c .before .before .before .before .before .before .before .before .before .before .before .before .before .pre) .1 .0) ((c .before .before .before .before .before .before .before .before .before .before .before .before .before .pre) .1 .1) _ _ _ ((c .before .before .before .before .before .before .before .before .before .before .before .before .before .pre) .0) (omega (arith, (c .before .before .before .before .before .before .before .before .before .phy-type) .ensures, (c .before .before .before .before .before .before .before .before .if1) .left, (c .before .before .before .before .if2) .left)) _ _ (rw ((c .before .before .before .before .before .phy-address) .ensures) at ((c .before .before .find) .ensures .0)) ((c .slot-in) .ensures), first-kept _ _ _ _ ((c .before .before .before .before .before .before .before .before .before .before .before .before .before .pre) .1 .0) ((c .before .before .before .before .before .before .before .before .before .before .before .before .before .pre) .1 .1) (λ z. (c .before .before .before .before .before .before .before .before .if1) .left ((c .before .before .before .before .before .before .before .before .before .phy-type) .ensures ∙ z)) _ _)
+returns-3 c = let s = c .before .before .before .before .before .before .before .before .before .before .before .before .before in (first-other _ _ _ _ (s .pre .1 .0) (s .pre .1 .1) _ _ _ (s .pre .0) (omega (arith, c .before .before .before .before .before .before .before .before .before .phy-type .ensures, c .before .before .before .before .before .before .before .before .if1 .left, c .before .before .before .before .if2 .left)) _ _ (rw (c .before .before .before .before .before .phy-address .ensures) at (c .before .before .find .ensures .0)) (c .slot-in .ensures), first-kept _ _ _ _ (s .pre .1 .0) (s .pre .1 .1) (λ z. (c .before .before .before .before .before .before .before .before .if1) .left (c .before .before .before .before .before .before .before .before .before .phy-type .ensures ∙ z)) _ _)
 
 pub add-first-spec : {M : Type 1} → statement M
 add-first-spec = tie.close (tie.spec phy-type-requires returns cast-t mul-t add-t cast-t-2 add-t-2 phy-address-requires add-requires cast-first mul-first slice-write-first same-length same-length-2 returns-2 find-requires mul-slot-in slice-read-slot-in slot-in-requires mul-first-2 slice-write-first-2 same-length-3 same-length-4 returns-3)

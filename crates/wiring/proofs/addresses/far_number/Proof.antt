@@ -26,7 +26,7 @@ add-t-2 : tie.Need-add-t-2
 add-t-2 c = search needs
 
 returns : tie.Need-returns
-returns c = sym (ap (numberIn (domainIn ((c .before .before .before .before .before .args) .rows .now))) (List·getD-eq-default ((c .before .before .before .before .before .args) .first .now) 0 (omega arith)))
+returns c = sym (ap (numberIn (domainIn (c .before .before .before .before .before .args .rows .now))) (List·getD-eq-default (c .before .before .before .before .before .args .first .now) 0 (omega arith)))
 
 mul-v : tie.Need-mul-v
 mul-v c = search needs
@@ -38,13 +38,13 @@ cast-t14 : tie.Need-cast-t14
 cast-t14 c = search needs
 
 returns-2 : tie.Need-returns-2
-returns-2 c = simp (lt-ltb _ 64 ((c .if2) .taken))
+returns-2 c = simp (lt-ltb _ 64 (c .if2 .taken))
 
 expander-count-requires : tie.Need-expander-count-requires
 expander-count-requires c κs = search needs
 
 returns-3 : tie.Need-returns-3
-returns-3 c = simp (le-ltb (getD ((c .before .before .before .before .before .before .before .before .args) .first .now) (64 + 128 * (c .before .before .before .before .before .before .before .before .args) .i .0 + (c .before .before .before .before .before .before .before .before .args) .p .0) 0) 64 (omega arith)) ((c .expander-count) .ensures .0)
+returns-3 c = let s = c .before .before .before .before .before .before .before .before in simp (le-ltb (getD (s .args .first .now) (64 + 128 * (s .args) .i .0 + (s .args) .p .0) 0) 64 (omega arith)) (c .expander-count .ensures .0)
 
 pub far-number-spec : {M : Type 1} → statement M
 far-number-spec = tie.close (tie.spec cast-t mul-t add-t cast-t-2 add-t-2 returns mul-v shared-slice-read-v cast-t14 returns-2 expander-count-requires returns-3)

@@ -1,5 +1,5 @@
 -- put_all meets its contract. The loop's invariant: all entries of the expanders, and of the phys of those below i, are written.
-use Prim.Native.Nat.{_+_, _-_, _≤_}
+use Prim.Native.Nat.{_-_, _≤_}
 use mathlib.Core.Path.{_≡_, refl, _∙_}
 use lib.ListN.{length}
 use Rattle.wiring.specs.Rows.{domainIn}
@@ -18,19 +18,19 @@ abbrev μ-loop : tie.MeasureT-loop
 μ-loop rows cells₀ size first₀ low₀ n i₀ cells first low i = n - i
 
 put-expanders-requires : tie.Need-put-expanders-requires Inv-loop μ-loop
-put-expanders-requires c κs = (c .before .before .before .before .before .before .pre) .0
+put-expanders-requires c κs = c .before .before .before .before .before .before .pre .0
 
 expander-count-requires : tie.Need-expander-count-requires Inv-loop μ-loop
 expander-count-requires c κs = search needs
 
 loop-holds : tie.Need-loop-holds Inv-loop μ-loop
-loop-holds c = (omega arith, (refl, (refl, (refl, ((phys-start _ _ _ _ ((c .before .before .before .before .before .put-expanders) .ensures .0), kept-none _), ((c .before .before .before .before .before .before .before .before .before .before .before .before .pre) .1, kept-none _))))))
+loop-holds c = (omega arith, (refl, (refl, (refl, ((phys-start _ _ _ _ (c .before .before .before .before .before .put-expanders .ensures .0), kept-none _), (c .before .before .before .before .before .before .before .before .before .before .before .before .pre .1, kept-none _))))))
 
 put-first-requires : tie.Need-put-first-requires Inv-loop μ-loop
-put-first-requires c κs = ((c .before .before .before .loop) .inv .1 .1 .1 .1 .0 .0, omega (arith, (c .before .before .before .before .expander-count) .ensures .0))
+put-first-requires c κs = (c .before .before .before .loop .inv .1 .1 .1 .1 .0 .0, omega (arith, c .before .before .before .before .expander-count .ensures .0))
 
 put-low-requires : tie.Need-put-low-requires Inv-loop μ-loop
-put-low-requires c κs = (c .before .before .before .before .before .before .before .before .before .loop) .inv .1 .1 .1 .1 .1 .0
+put-low-requires c κs = c .before .before .before .before .before .before .before .before .before .loop .inv .1 .1 .1 .1 .1 .0
 
 add-i : tie.Need-add-i Inv-loop μ-loop
 add-i c = omega arith
@@ -39,16 +39,16 @@ loop-less : tie.Need-loop-less Inv-loop μ-loop
 loop-less c = omega arith
 
 loop-again : tie.Need-loop-again Inv-loop μ-loop
-loop-again c = (omega arith, ((c .before .before .before .before .before .before .before .before .put-first) .kept .1 .0 ∙ (c .before .before .before .before .before .before .before .before .before .before .before .before .loop) .inv .1 .0, ((c .before .before .before .before .before .before .before .before .put-first) .kept .1 .1 .1 .1 .0 ∙ (c .before .before .before .before .before .before .before .before .before .before .before .before .loop) .inv .1 .1 .0, ((c .before .before .put-low) .kept .1 .1 .0 ∙ (c .before .before .before .before .before .before .before .before .before .before .before .before .loop) .inv .1 .1 .1 .0, (((c .before .before .before .before .before .before .before .before .put-first) .ensures .0, kept-then ((c .before .before .before .before .before .before .before .before .before .before .before .before .loop) .inv .1 .1 .1 .1 .0 .1) ((c .before .before .before .before .before .before .before .before .put-first) .ensures .1)), ((c .before .before .put-low) .ensures .0, kept-then ((c .before .before .before .before .before .before .before .before .before .before .before .before .loop) .inv .1 .1 .1 .1 .1 .1) ((c .before .before .put-low) .ensures .1)))))))
+loop-again c = let r = c .before .before .before .before .before .before .before .before in let s = c .before .before .before .before .before .before .before .before .before .before .before .before in (omega arith, (r .put-first .kept .1 .0 ∙ s .loop .inv .1 .0, (r .put-first .kept .1 .1 .1 .1 .0 ∙ s .loop .inv .1 .1 .0, (c .before .before .put-low .kept .1 .1 .0 ∙ s .loop .inv .1 .1 .1 .0, ((r .put-first .ensures .0, kept-then (s .loop .inv .1 .1 .1 .1 .0 .1) (r .put-first .ensures .1)), (c .before .before .put-low .ensures .0, kept-then (s .loop .inv .1 .1 .1 .1 .1 .1) (c .before .before .put-low .ensures .1)))))))
 
 same-length : tie.Need-same-length Inv-loop μ-loop
-same-length c = (c .before .loop) .inv .1 .0 ∙ (c .before .before .before .before .before .before .before .put-expanders) .kept .1 .0
+same-length c = c .before .loop .inv .1 .0 ∙ c .before .before .before .before .before .before .before .put-expanders .kept .1 .0
 
 same-length-2 : tie.Need-same-length-2 Inv-loop μ-loop
-same-length-2 c = (c .before .loop) .inv .1 .1 .0 ∙ (c .before .before .before .before .before .before .before .put-expanders) .kept .1 .1 .1 .0
+same-length-2 c = c .before .loop .inv .1 .1 .0 ∙ c .before .before .before .before .before .before .before .put-expanders .kept .1 .1 .1 .0
 
 same-length-3 : tie.Need-same-length-3 Inv-loop μ-loop
-same-length-3 c = (c .before .loop) .inv .1 .1 .1 .0
+same-length-3 c = c .before .loop .inv .1 .1 .1 .0
 
 returns : tie.Need-returns Inv-loop μ-loop
 returns c = record {

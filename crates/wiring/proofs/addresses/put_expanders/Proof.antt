@@ -1,5 +1,5 @@
 -- put_expanders meets its contract. The loop's invariant: the expanders below j are in the tree, and their entries are written.
-use Prim.Native.Nat.{_+_, _-_, _≤_}
+use Prim.Native.Nat.{_-_, _≤_}
 use mathlib.Core.Path.{_≡_, refl, _∙_}
 use lib.ListN.{length, length-set}
 use Rattle.wiring.specs.Rows.{domainIn}
@@ -30,16 +30,16 @@ expander-address-requires : tie.Need-expander-address-requires Inv-loop μ-loop
 expander-address-requires c κs = search needs
 
 add-requires : tie.Need-add-requires Inv-loop μ-loop
-add-requires c κs = rw ((c .before .expander-address) .ensures) (expander-can _ _ _ _ _ (omega arith) ((c .before .before .before .loop) .inv .1 .1 .1 .0))
+add-requires c κs = rw (c .before .expander-address .ensures) (expander-can _ _ _ _ _ (omega arith) (c .before .before .before .loop .inv .1 .1 .1 .0))
 
 cast-first : tie.Need-cast-first Inv-loop μ-loop
-cast-first c = omega (arith, (c .before .before .add) .ensures .upto)
+cast-first c = omega (arith, c .before .before .add .ensures .upto)
 
 mul-first : tie.Need-mul-first Inv-loop μ-loop
-mul-first c = omega (arith, (c .before .before .before .before .before .before .loop) .inv .1 .1 .1 .0 .slots)
+mul-first c = omega (arith, c .before .before .before .before .before .before .loop .inv .1 .1 .1 .0 .slots)
 
 slice-write-first : tie.Need-slice-write-first Inv-loop μ-loop
-slice-write-first c = omega (arith, (c .before .before .before .before .before .before .loop) .inv .1 .1 .1 .0 .slots)
+slice-write-first c = omega (arith, c .before .before .before .before .before .before .loop .inv .1 .1 .1 .0 .slots)
 
 add-j : tie.Need-add-j Inv-loop μ-loop
 add-j c = omega arith
@@ -48,16 +48,16 @@ loop-less : tie.Need-loop-less Inv-loop μ-loop
 loop-less c = omega arith
 
 loop-again : tie.Need-loop-again Inv-loop μ-loop
-loop-again c = (omega arith, ((c .before .before .add) .ensures .same ∙ (c .before .before .before .before .before .before .loop) .inv .1 .0, (length-set ((c .before .before .before .before .before .before .loop) .first) ((c .before .before .before .before .before .before .loop) .j) ((c .before .before .add) .result) ∙ (c .before .before .before .before .before .before .loop) .inv .1 .1 .0, (expander-next _ _ _ _ _ (omega arith) ((c .before .before .before .before .before .before .loop) .inv .1 .1 .1 .0) _ _ (rw ((c .before .before .before .before .expander-address) .ensures) at ((c .before .before .add) .ensures)), kept-then ((c .before .before .before .before .before .before .loop) .inv .1 .1 .1 .1) (expander-kept _ ((c .before .before .before .before .before .before .loop) .first) ((c .before .before .before .before .before .before .loop) .j) ((c .before .before .add) .result) (omega arith) (omega arith))))))
+loop-again c = let r = c .before .before in let s = c .before .before .before .before .before .before in (omega arith, (r .add .ensures .same ∙ s .loop .inv .1 .0, (length-set (s .loop .first) (s .loop .j) (r .add .result) ∙ s .loop .inv .1 .1 .0, (expander-next _ _ _ _ _ (omega arith) (s .loop .inv .1 .1 .1 .0) _ _ (rw (c .before .before .before .before .expander-address .ensures) at (r .add .ensures)), kept-then (s .loop .inv .1 .1 .1 .1) (expander-kept _ (s .loop .first) (s .loop .j) (r .add .result) (omega arith) (omega arith))))))
 
 same-length : tie.Need-same-length Inv-loop μ-loop
-same-length c = (c .before .loop) .inv .1 .0
+same-length c = c .before .loop .inv .1 .0
 
 same-length-2 : tie.Need-same-length-2 Inv-loop μ-loop
-same-length-2 c = (c .before .loop) .inv .1 .1 .0
+same-length-2 c = c .before .loop .inv .1 .1 .0
 
 returns : tie.Need-returns Inv-loop μ-loop
-returns c = (expanders-end _ _ _ _ _ (omega arith) (omega arith) ((c .before .loop) .inv .1 .1 .1 .0), (c .before .loop) .inv .1 .1 .1 .1)
+returns c = (expanders-end _ _ _ _ _ (omega arith) (omega arith) (c .before .loop .inv .1 .1 .1 .0), c .before .loop .inv .1 .1 .1 .1)
 
 pub put-expanders-spec : {M : Type 1} → statement M
 put-expanders-spec = tie.close (tie.spec Inv-loop μ-loop expander-count-requires loop-holds cast-t expander-address-requires add-requires cast-first mul-first slice-write-first add-j loop-less loop-again same-length same-length-2 returns)

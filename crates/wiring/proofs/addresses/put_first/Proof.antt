@@ -1,5 +1,5 @@
 -- put_first meets its contract. The loop's invariant: the entries of the expander's phys below p are written, and its devices are in the tree.
-use Prim.Native.Nat.{_+_, _-_, _≤_}
+use Prim.Native.Nat.{_-_, _≤_}
 use mathlib.Core.Path.{_≡_, refl, _∙_}
 use lib.ListN.{length}
 use Rattle.wiring.proofs.InRows.{phy-held}
@@ -22,13 +22,13 @@ phy-count-requires : tie.Need-phy-count-requires Inv-loop μ-loop
 phy-count-requires c κs = search needs
 
 loop-holds : tie.Need-loop-holds Inv-loop μ-loop
-loop-holds c = (omega arith, (refl, (refl, (firsts-start _ _ _ _ _ ((c .before .before .before .before .pre) .0), kept-none _))))
+loop-holds c = (omega arith, (refl, (refl, (firsts-start _ _ _ _ _ (c .before .before .before .before .pre .0), kept-none _))))
 
 phy-below-requires : tie.Need-phy-below-requires Inv-loop μ-loop
 phy-below-requires c κs = search needs
 
 add-first-requires : tie.Need-add-first-requires Inv-loop μ-loop
-add-first-requires c κs = ((c .before .before .before .before .loop) .inv .1 .1 .1 .0, ((c .before .before .phy-below) .ensures ∙ phy-held _ _ _ (omega (arith, (c .before .before .before .before .before .phy-count) .ensures .0)), omega (arith, (c .before .before .before .before .before .phy-count) .ensures .0)))
+add-first-requires c κs = (c .before .before .before .before .loop .inv .1 .1 .1 .0, (c .before .before .phy-below .ensures ∙ phy-held _ _ _ (omega (arith, c .before .before .before .before .before .phy-count .ensures .0)), omega (arith, c .before .before .before .before .before .phy-count .ensures .0)))
 
 add-p : tie.Need-add-p Inv-loop μ-loop
 add-p c = omega arith
@@ -37,16 +37,16 @@ loop-less : tie.Need-loop-less Inv-loop μ-loop
 loop-less c = omega arith
 
 loop-again : tie.Need-loop-again Inv-loop μ-loop
-loop-again c = (omega arith, ((c .before .before .before .before .add-first) .kept .1 .0 ∙ (c .before .before .before .before .before .before .before .before .before .loop) .inv .1 .0, ((c .before .before .before .before .add-first) .kept .1 .1 .1 .1 .1 .1 .0 ∙ (c .before .before .before .before .before .before .before .before .before .loop) .inv .1 .1 .0, ((c .before .before .before .before .add-first) .ensures .0, kept-then ((c .before .before .before .before .before .before .before .before .before .loop) .inv .1 .1 .1 .1) ((c .before .before .before .before .add-first) .ensures .1)))))
+loop-again c = let r = c .before .before .before .before in let s = c .before .before .before .before .before .before .before .before .before in (omega arith, (r .add-first .kept .1 .0 ∙ s .loop .inv .1 .0, (r .add-first .kept .1 .1 .1 .1 .1 .1 .0 ∙ s .loop .inv .1 .1 .0, (r .add-first .ensures .0, kept-then (s .loop .inv .1 .1 .1 .1) (r .add-first .ensures .1)))))
 
 same-length : tie.Need-same-length Inv-loop μ-loop
-same-length c = (c .before .loop) .inv .1 .0
+same-length c = c .before .loop .inv .1 .0
 
 same-length-2 : tie.Need-same-length-2 Inv-loop μ-loop
-same-length-2 c = (c .before .loop) .inv .1 .1 .0
+same-length-2 c = c .before .loop .inv .1 .1 .0
 
 returns : tie.Need-returns Inv-loop μ-loop
-returns c = (phys-end _ _ _ _ _ _ ((c .before .before .before .before .before .before .pre) .1) (omega (arith, (c .before .before .phy-count) .ensures .1)) (omega (arith, (c .before .before .phy-count) .ensures .0)) ((c .before .loop) .inv .1 .1 .1 .0), (c .before .loop) .inv .1 .1 .1 .1)
+returns c = (phys-end _ _ _ _ _ _ (c .before .before .before .before .before .before .pre .1) (omega (arith, c .before .before .phy-count .ensures .1)) (omega (arith, c .before .before .phy-count .ensures .0)) (c .before .loop .inv .1 .1 .1 .0), c .before .loop .inv .1 .1 .1 .1)
 
 pub put-first-spec : {M : Type 1} → statement M
 put-first-spec = tie.close (tie.spec Inv-loop μ-loop phy-count-requires loop-holds phy-below-requires add-first-requires add-p loop-less loop-again same-length same-length-2 returns)

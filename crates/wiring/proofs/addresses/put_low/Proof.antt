@@ -1,7 +1,7 @@
 -- put_low meets its contract. The loop's invariant: the entries of the expander's phys below p are written, and its attached phys are in its tree.
-use Prim.Native.Nat.{_+_, _-_, _≤_}
+use Prim.Native.Nat.{_-_, _≤_}
 use mathlib.Core.Path.{_≡_, refl, _∙_}
-use lib.ListN.{length, length-replicate}
+use lib.ListN.{length}
 use Rattle.wiring.proofs.InRows.{phy-held}
 use Rattle.wiring.specs.Rows.{domainIn}
 use Rattle.wiring.specs.Addresses.{LowsTo, attachedAt, KeptBut}
@@ -22,16 +22,16 @@ phy-count-requires : tie.Need-phy-count-requires Inv-loop μ-loop
 phy-count-requires c κs = search needs
 
 loop-holds : tie.Need-loop-holds Inv-loop μ-loop
-loop-holds c = (omega arith, (refl, (refl, (lows-start _ _ _ ((c .before .before .before .pre)), kept-none _))))
+loop-holds c = (omega arith, (refl, (refl, (lows-start _ _ _ (c .before .before .before .pre), kept-none _))))
 
 phy-below-requires : tie.Need-phy-below-requires Inv-loop μ-loop
 phy-below-requires c κs = search needs
 
 slice-aggregate-add-low : tie.Need-slice-aggregate-add-low Inv-loop μ-loop
-slice-aggregate-add-low c = search (needs, (c .before .before .before .loop) .inv .1 .0)
+slice-aggregate-add-low c = search (needs, c .before .before .before .loop .inv .1 .0)
 
 add-low-requires : tie.Need-add-low-requires Inv-loop μ-loop
-add-low-requires c κs = ((c .before .before .before .before .loop) .inv .1 .1 .1 .0, ((c .before .before .phy-below) .ensures ∙ phy-held _ _ _ (omega (arith, (c .before .before .before .before .before .phy-count) .ensures .0)), omega (arith, (c .before .before .before .before .before .phy-count) .ensures .0)))
+add-low-requires c κs = (c .before .before .before .before .loop .inv .1 .1 .1 .0, (c .before .before .phy-below .ensures ∙ phy-held _ _ _ (omega (arith, c .before .before .before .before .before .phy-count .ensures .0)), omega (arith, c .before .before .before .before .before .phy-count .ensures .0)))
 
 add-p : tie.Need-add-p Inv-loop μ-loop
 add-p c = omega arith
@@ -40,13 +40,13 @@ loop-less : tie.Need-loop-less Inv-loop μ-loop
 loop-less c = omega arith
 
 loop-again : tie.Need-loop-again Inv-loop μ-loop
-loop-again c = (omega arith, ((c .before .before .before .add-low) .kept .1 .0 ∙ (c .before .before .before .before .before .before .before .before .loop) .inv .1 .0, ((c .before .before .before .add-low) .kept .1 .1 .1 .1 .1 .0 ∙ (c .before .before .before .before .before .before .before .before .loop) .inv .1 .1 .0, ((c .before .before .before .add-low) .ensures .0, kept-then ((c .before .before .before .before .before .before .before .before .loop) .inv .1 .1 .1 .1) ((c .before .before .before .add-low) .ensures .1)))))
+loop-again c = let r = c .before .before .before in let s = c .before .before .before .before .before .before .before .before in (omega arith, (r .add-low .kept .1 .0 ∙ s .loop .inv .1 .0, (r .add-low .kept .1 .1 .1 .1 .1 .0 ∙ s .loop .inv .1 .1 .0, (r .add-low .ensures .0, kept-then (s .loop .inv .1 .1 .1 .1) (r .add-low .ensures .1)))))
 
 same-length : tie.Need-same-length Inv-loop μ-loop
-same-length c = (c .before .loop) .inv .1 .1 .0
+same-length c = c .before .loop .inv .1 .1 .0
 
 returns : tie.Need-returns Inv-loop μ-loop
-returns c = (lows-end _ _ _ _ _ ((c .before .loop) .inv .1 .1 .1 .0) (omega (arith, (c .before .before .phy-count) .ensures .1)) (omega (arith, (c .before .before .phy-count) .ensures .0)), (c .before .loop) .inv .1 .1 .1 .1)
+returns c = (lows-end _ _ _ _ _ (c .before .loop .inv .1 .1 .1 .0) (omega (arith, c .before .before .phy-count .ensures .1)) (omega (arith, c .before .before .phy-count .ensures .0)), c .before .loop .inv .1 .1 .1 .1)
 
 pub put-low-spec : {M : Type 1} → statement M
 put-low-spec = tie.close (tie.spec Inv-loop μ-loop phy-count-requires loop-holds phy-below-requires slice-aggregate-add-low add-low-requires add-p loop-less loop-again same-length returns)

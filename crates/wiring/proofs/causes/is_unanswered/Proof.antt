@@ -4,10 +4,11 @@ use mathlib.Core.Path.{_∙_, ap}
 use lib.Dec.{le→leb}
 use borrow.Author.Tests.{eq-eqb, ne-eqb, le-leb, lt-leb}
 use Rattle.wiring.proofs.InRows.{phy-held}
-use Rattle.wiring.specs.Causes.{farPhy, unanswered}
-use Rattle.wiring.specs.Domain.{typeOf, attributeOf, phyAt}
+use Rattle.wiring.specs.Causes.{unanswered}
+use Rattle.wiring.specs.Domain.{typeOf, attributeOf, farOf, phyAt}
 use Rattle.wiring.specs.Rows.{domainIn}
 use Rattle.wiring.proofs.EndDevices.{short-in}
+use Rattle.wiring.proofs.Entries.{far-told}
 use borrow.Author.Needs.{needs}
 use native.Mathlib.Omega.{arith}
 use Rattle.wiring.proofs.causes.is_unanswered.Statement.{statement}
@@ -39,12 +40,14 @@ returns-2 c =
     let g = c .before .phy-attribute .ensures ∙ ap attributeOf f in
     simp (le-leb 2 (typeOf φ) (omega arith), eq-eqb (attributeOf φ) 0 (omega arith))
 
-far-phy-requires : tie.Need-far-phy-requires
-far-phy-requires c κs =
-    let pre = c .before .before .before .before .before .before .before .pre in
-    let phy-below = c .before .before .before .before .phy-below in
-    let a = c .before .before .before .before .before .before .before .args in
-    (pre .0, (phy-below .ensures ∙ phy-held _ _ _ (pre .1), (le→leb 2 (typeOf (phy-below .result)) (omega arith), omega (arith, pre .1, short-in (a .rows .now) (a .i .0)))))
+far-number-requires : tie.Need-far-number-requires
+far-number-requires c κs = search needs
+
+phy-far-requires : tie.Need-phy-far-requires
+phy-far-requires c κs = search needs
+
+phy-at-requires : tie.Need-phy-at-requires
+phy-at-requires c κs = search needs
 
 expander-address-requires : tie.Need-expander-address-requires
 expander-address-requires c κs = search needs
@@ -55,14 +58,17 @@ is-naming-requires c κs = search needs
 returns-3 : tie.Need-returns-3
 unfolding unanswered
 returns-3 c =
-    let a = c .before .before .before .before .before .before .before .before .before .before .args in
+    let b = c .before .before .before .before .before .before .before .before .before in
+    let s = b .before .before .before in
+    let a = s .args in
     let d = domainIn (a .rows .now) in
-    let f = c .before .before .before .before .before .before .before .phy-below .ensures ∙ phy-held _ _ _ (c .before .before .before .before .before .before .before .before .before .before .pre .1) in
+    let f = b .phy-below .ensures ∙ phy-held _ _ _ (s .pre .1) in
     let φ = phyAt d (a .i .0) (a .p .0) in
-    let e = c .before .before .before .before .before .before .phy-type .ensures ∙ ap typeOf f in
-    let g = c .before .before .before .before .phy-attribute .ensures ∙ ap attributeOf f in
-    let h = c .before .before .far-phy .ensures ∙ ap (farPhy d) f in
+    let e = c .before .before .before .before .before .before .before .before .phy-type .ensures ∙ ap typeOf f in
+    let g = c .before .before .before .before .before .before .phy-attribute .ensures ∙ ap attributeOf f in
+    let n = c .before .before .before .before .far-number .ensures ∙ far-told d (a .i .0) (a .p .0) (omega (arith, s .pre .1, short-in (a .rows .now) (a .i .0))) _ (s .pre .0) (le→leb 2 (typeOf φ) (omega arith)) in
+    let h = rw (c .before .before .before .phy-far .ensures ∙ ap farOf f, n) at (c .before .before .phy-at .ensures) in
     simp (le-leb 2 (typeOf φ) (omega arith), ne-eqb (attributeOf φ) 0 (λ x. omega arith)) (ap not (rw (c .before .expander-address .ensures, h) at (c .is-naming .ensures)))
 
 pub is-unanswered-spec : {M : Type 1} → statement M
-is-unanswered-spec = tie.close (tie.spec phy-below-requires phy-type-requires returns phy-attribute-requires returns-2 far-phy-requires expander-address-requires is-naming-requires returns-3)
+is-unanswered-spec = tie.close (tie.spec phy-below-requires phy-type-requires returns phy-attribute-requires returns-2 far-number-requires phy-far-requires phy-at-requires expander-address-requires is-naming-requires returns-3)

@@ -1,14 +1,11 @@
 -- check_chains meets its contract: the rounds leave a set with as many members as the definition's list.
-use Prim.Native.Nat.{ℕ, _/_}
-use mathlib.Core.Path.{_≡_, sym, _∙_, ap}
+use Prim.Native.Nat.{_/_}
+use mathlib.Core.Path.{sym, _∙_, ap}
 use native.Mathlib.Omega.{arith}
-use lib.ListN.{length}
 use borrow.Author.Needs.{needs}
 use Rattle.wiring.proofs.Bitsets.{all-below, left-count}
 use Rattle.wiring.proofs.Calls.{chains-few, chains-long, chains-short}
 use Rattle.wiring.specs.Checks.{checkAnswer}
-use Rattle.wiring.specs.Lists.{upTo}
-use Rattle.wiring.specs.Neighbours.{setOf}
 use Rattle.wiring.specs.Rows.{domainIn}
 use Rattle.wiring.proofs.chains.check_chains.Statement.{statement}
 use Rattle.wiring.proofs.chains.check_chains.Tie as tie
@@ -27,12 +24,7 @@ all-of-requires : tie.Need-all-of-requires
 all-of-requires c κs = search needs
 
 run-rounds-requires : tie.Need-run-rounds-requires
-run-rounds-requires c κs =
-    let s = c .before .before in
-    let b = s .before .before .before in
-    let d = domainIn (b .args .rows .now) in
-    let e : c .all-of .result ≡ setOf (upTo (length d)) = c .all-of .ensures ∙ ap (λ (m : ℕ). setOf (upTo m)) (s .expander-count .ensures .0) in
-    (b .pre, rw e (all-below (length d)))
+run-rounds-requires c κs = (c .before .before .before .before .before .pre, rw (c .all-of .ensures) (all-below _))
 
 cast-if2 : tie.Need-cast-if2
 cast-if2 c = search needs
@@ -43,26 +35,20 @@ check-refused-requires c κs = search needs
 returns-2 : tie.Need-returns-2
 returns-2 c =
     let r = c .before .before in
-    let t = r .before .before in
-    let s = t .before in
+    let s = r .before .before .before in
     let a = s .before .before .before .args in
-    let d = domainIn (a .rows .now) in
     let n = s .expander-count .ensures .0 in
-    let e : r .before .all-of .result ≡ setOf (upTo (length d)) = r .before .all-of .ensures ∙ ap (λ (m : ℕ). setOf (upTo m)) n in
-    let l = left-count d (a .chain / 2) (r .run-rounds .result) (rw e at (r .run-rounds .ensures)) in
-    ap (checkAnswer d) (c .check-refused .ensures) ∙ sym (chains-long (a .chain) d _ l (omega arith) (c .before .if2 .taken))
+    let l = left-count _ (a .chain / 2) _ (rw (r .before .all-of .ensures) at (r .run-rounds .ensures)) in
+    ap (checkAnswer (domainIn (a .rows .now))) (c .check-refused .ensures) ∙ sym (chains-long (a .chain) _ _ l (omega arith) (c .before .if2 .taken))
 
 returns-3 : tie.Need-returns-3
 returns-3 c =
     let r = c .before in
-    let t = r .before .before in
-    let s = t .before in
+    let s = r .before .before .before in
     let a = s .before .before .before .args in
-    let d = domainIn (a .rows .now) in
     let n = s .expander-count .ensures .0 in
-    let e : r .before .all-of .result ≡ setOf (upTo (length d)) = r .before .all-of .ensures ∙ ap (λ (m : ℕ). setOf (upTo m)) n in
-    let l = left-count d (a .chain / 2) (r .run-rounds .result) (rw e at (r .run-rounds .ensures)) in
-    sym (chains-short (a .chain) d _ l (omega arith) (c .if2 .left))
+    let l = left-count _ (a .chain / 2) _ (rw (r .before .all-of .ensures) at (r .run-rounds .ensures)) in
+    sym (chains-short (a .chain) _ _ l (omega arith) (c .if2 .left))
 
 pub check-chains-spec : {M : Type 1} → statement M
 check-chains-spec = tie.close (tie.spec expander-count-requires returns all-of-requires run-rounds-requires cast-if2 check-refused-requires returns-2 returns-3)

@@ -1,5 +1,5 @@
 -- are_neighbours meets its contract: the set of one has the number of the first expander with the address of the other.
-use mathlib.Core.Path.{sym, _∙_}
+use mathlib.Core.Path.{_∙_}
 use Rattle.wiring.specs.Neighbours.{neighbours}
 use Rattle.wiring.proofs.InRows.{domain-few}
 use Rattle.wiring.proofs.Cables.{first-low, leads-cabled}
@@ -38,45 +38,38 @@ has-requires c κs =
     let pre = c .before .before .before .before .before .before .before .pre in
     first-low _ _ _ (domain-few (a .rows .now)) (pre .0) (a .j .0) (pre .1 .1)
 
-returns : tie.Need-returns
-unfolding neighbours
-returns c =
-    let a = c .before .before .before .before .before .before .before .before .before .args in
-    let p = c .before .before .before .before .before .before .before .before .before .pre in
-    let e = sym (leads-cabled _ _ _ (domain-few (a .rows .now)) (p .0) (a .i .0) (a .j .0) (p .1 .0) (p .1 .1)) ∙ sym (c .before .has .ensures) ∙ c .if1 .taken in
-    rw e
-
 mul-has-2 : tie.Need-mul-has-2
 mul-has-2 c = search needs
 
 shared-slice-read-has-2 : tie.Need-shared-slice-read-has-2
-shared-slice-read-has-2 c = omega (arith, c .before .before .before .before .before .before .before .before .before .before .pre .0 .room)
+shared-slice-read-has-2 c = omega (arith, c .before .before .before .before .before .before .before .before .before .pre .0 .room)
 
-mul-t12-2 : tie.Need-mul-t12-2
-mul-t12-2 c = search needs
+mul-t21 : tie.Need-mul-t21
+mul-t21 c = search needs
 
-shared-slice-read-t14-2 : tie.Need-shared-slice-read-t14-2
-shared-slice-read-t14-2 c = omega (arith, c .before .before .before .before .before .before .before .before .before .before .before .pre .0 .index .slots)
+shared-slice-read-t23 : tie.Need-shared-slice-read-t23
+shared-slice-read-t23 c = omega (arith, c .before .before .before .before .before .before .before .before .before .before .pre .0 .index .slots)
 
-cast-t15-2 : tie.Need-cast-t15-2
-cast-t15-2 c =
-    let a = c .before .before .before .before .before .before .before .before .before .before .before .args in
-    let pre = c .before .before .before .before .before .before .before .before .before .before .before .pre in
-    omega (arith, first-low _ _ _ (domain-few (a .rows .now)) (pre .0) (a .i .0) (pre .1 .0))
+cast-t24 : tie.Need-cast-t24
+cast-t24 c =
+    let s = c .before .before .before .before .before .before .before .before .before .before in
+    omega (arith, first-low _ _ _ (domain-few (s .args .rows .now)) (s .pre .0) (s .args .i .0) (s .pre .1 .0))
 
 has-requires-2 : tie.Need-has-requires-2
 has-requires-2 c κs =
-    let a = c .before .before .before .before .before .before .before .before .before .before .before .args in
-    let pre = c .before .before .before .before .before .before .before .before .before .before .before .pre in
-    first-low _ _ _ (domain-few (a .rows .now)) (pre .0) (a .i .0) (pre .1 .0)
+    let s = c .before .before .before .before .before .before .before .before .before .before in
+    first-low _ _ _ (domain-few (s .args .rows .now)) (s .pre .0) (s .args .i .0) (s .pre .1 .0)
 
-returns-2 : tie.Need-returns-2
+returns : tie.Need-returns
 unfolding neighbours
-returns-2 c =
-    let a = c .before .before .before .before .before .before .before .before .before .before .before .before .args in
-    let p = c .before .before .before .before .before .before .before .before .before .before .before .before .pre in
-    let e = sym (leads-cabled _ _ _ (domain-few (a .rows .now)) (p .0) (a .i .0) (a .j .0) (p .1 .0) (p .1 .1)) ∙ sym (c .before .before .before .before .has .ensures) ∙ c .before .before .before .if1 .left in
-    rw e (c .has2 .ensures ∙ leads-cabled _ _ _ (domain-few (a .rows .now)) (p .0) (a .j .0) (a .i .0) (p .1 .1) (p .1 .0))
+returns c =
+    let a = c .before .before .before .before .before .before .before .before .before .before .before .args in
+    let p = c .before .before .before .before .before .before .before .before .before .before .before .pre in
+    let few = domain-few (a .rows .now) in
+    rw (
+      c .before .before .before .has .ensures ∙ leads-cabled _ _ _ few (p .0) (a .i .0) (a .j .0) (p .1 .0) (p .1 .1),
+      c .has2 .ensures ∙ leads-cabled _ _ _ few (p .0) (a .j .0) (a .i .0) (p .1 .1) (p .1 .0),
+    )
 
 pub are-neighbours-spec : {M : Type 1} → statement M
-are-neighbours-spec = tie.close (tie.spec cast-a cast-b mul-has shared-slice-read-has mul-t12 shared-slice-read-t14 cast-t15 has-requires returns mul-has-2 shared-slice-read-has-2 mul-t12-2 shared-slice-read-t14-2 cast-t15-2 has-requires-2 returns-2)
+are-neighbours-spec = tie.close (tie.spec cast-a cast-b mul-has shared-slice-read-has mul-t12 shared-slice-read-t14 cast-t15 has-requires mul-has-2 shared-slice-read-has-2 mul-t21 shared-slice-read-t23 cast-t24 has-requires-2 returns)

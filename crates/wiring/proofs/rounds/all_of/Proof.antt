@@ -1,15 +1,14 @@
-use Prim.Native.Nat.{ℕ}
-use mathlib.Core.Path.{_≡_, sym, _∙_, ap}
-use native.Mathlib.Omega.{arith}
+use mathlib.Core.Path.{sym}
 use borrow.Author.Needs.{needs}
 use Rattle.wiring.proofs.Bitsets.{set-all, all-shifted}
-use Rattle.wiring.specs.Lists.{upTo}
-use Rattle.wiring.specs.Neighbours.{setOf}
 use Rattle.wiring.proofs.rounds.all_of.Statement.{statement}
 use Rattle.wiring.proofs.rounds.all_of.Tie as tie
 
+expander-count-requires : tie.Need-expander-count-requires
+expander-count-requires c κs = search needs
+
 returns : tie.Need-returns
-returns c = let e : c .before .args .n ≡ 0 = omega arith in sym (ap (λ (m : ℕ). setOf (upTo m)) e ∙ set-all 0)
+returns c = rw (← c .before .expander-count .ensures .0, c .if1 .taken) (sym (set-all 0))
 
 sub-result : tie.Need-sub-result
 sub-result c = search needs
@@ -21,7 +20,7 @@ shr-result : tie.Need-shr-result
 shr-result c = search needs
 
 returns-2 : tie.Need-returns-2
-returns-2 c = all-shifted (c .before .args .n) (omega arith)
+returns-2 c = rw (← c .before .expander-count .ensures .0) (all-shifted _ (c .before .expander-count .ensures .1))
 
 pub all-of-spec : {M : Type 1} → statement M
-all-of-spec = tie.close (tie.spec returns sub-result cast-result shr-result returns-2)
+all-of-spec = tie.close (tie.spec expander-count-requires returns sub-result cast-result shr-result returns-2)

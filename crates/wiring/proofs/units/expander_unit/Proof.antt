@@ -1,17 +1,15 @@
 -- expander_unit tests that the address is there, finds the size of the frame after it, and hands the frame's part of the file to read_general: one return for
 -- each answer of these.
 use Prim.Native.Nat.{_+_}
-use mathlib.Core.Path.{_≡_, refl, sym, _∙_, ap}
+use mathlib.Core.Path.{refl, sym, _∙_, ap}
 use native.Mathlib.Nat.{add-sub-cancel-left}
 use native.Mathlib.Omega.{arith}
 use lib.ListN.{length}
 use borrow.Author.Tests.{leb-true, leb-false, not-true, not-false}
-use Rattle.frames.specs.Refusals.{then, refusal}
+use Rattle.frames.specs.Refusals.{refusal}
 use Rattle.frames.specs.Sizes.{sizeAnswer}
 use Rattle.frames.specs.ReportGeneral.{generalAnswer}
 use Rattle.frames.specs.declared.Response.the-variants.{ReportGeneral}
-use Rattle.wiring.specs.File.{unitTested}
-use Rattle.wiring.specs.Units.{endsAt}
 use Rattle.wiring.proofs.Reading.{size-cut, size-within, expander-unit-cut, expander-unit-by}
 use borrow.Author.Needs.{needs}
 use Rattle.wiring.proofs.units.expander_unit.Statement.{statement}
@@ -88,9 +86,6 @@ expander-refused-requires-3 c κs = search needs
 enum-known-frame-2 : tie.Need-enum-known-frame-2
 enum-known-frame-2 c = search needs
 
-unit-of-requires : tie.Need-unit-of-requires
-unit-of-requires c κs = search needs
-
 test-unit-requires : tie.Need-test-unit-requires
 test-unit-requires c κs = search needs
 
@@ -111,15 +106,12 @@ returns-3 c =
 
 returns-4 : tie.Need-returns-4
 returns-4 c =
-    let x = c .before .before .before in
+    let x = c .before .before in
     let g = x .before .before in
     let m = g .before .before .before in
     let f = m .before .before in
     let q = simp add-sub-cancel-left at (sym (g .read-general .ensures) ∙ ap generalAnswer (x .frame2 .given .1)) in
-    let k = f .before .before .before .before .before in
-    let a = k .before .args in
-    c .test-unit .ensures ∙ ap (λ u. then (unitTested (a .most) (a .seen .now) (a .i .0) u) (endsAt (a .at + 8 + m .size2 .given .0 .0))) (c .before .unit-of .ensures)
-    ∙ sym (expander-unit-by _ _ _ _ _ _ (sym (f .before .address-at .ensures)) _ _ (sym (f .size-at .ensures) ∙ ap sizeAnswer (m .size2 .given .1)) q)
+    c .test-unit .ensures ∙ sym (expander-unit-by _ _ _ _ _ _ (sym (f .before .address-at .ensures)) _ _ (sym (f .size-at .ensures) ∙ ap sizeAnswer (m .size2 .given .1)) q)
 
 pub expander-unit-spec : {M : Type 1} → statement M
-expander-unit-spec = tie.close (tie.spec has-bytes-requires expander-refused-requires returns address-at-requires add-from size-at-requires enum-known-size expander-refused-requires-2 enum-known-size-2 add-next sub-read-general part-read-general-start part-read-general-end read-general-requires enum-known-frame expander-refused-requires-3 enum-known-frame-2 unit-of-requires test-unit-requires returns-2 returns-3 returns-4)
+expander-unit-spec = tie.close (tie.spec has-bytes-requires expander-refused-requires returns address-at-requires add-from size-at-requires enum-known-size expander-refused-requires-2 enum-known-size-2 add-next sub-read-general part-read-general-start part-read-general-end read-general-requires enum-known-frame expander-refused-requires-3 enum-known-frame-2 test-unit-requires returns-2 returns-3 returns-4)

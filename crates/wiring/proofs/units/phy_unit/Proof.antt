@@ -1,6 +1,5 @@
 -- phy_unit finds the size of its frame, and hands the frame's part of the file to read_discover: one return for each answer of these two.
-use Prim.Native.Nat.{_+_}
-use mathlib.Core.Path.{_≡_, sym, _∙_, ap}
+use mathlib.Core.Path.{sym, _∙_, ap}
 use native.Mathlib.Nat.{add-sub-cancel-left}
 use native.Mathlib.Omega.{arith}
 use Rattle.frames.specs.Sizes.{sizeAnswer}

@@ -31,40 +31,20 @@ wire-below t = and 2 wire-kinds.ps (falls 2 wire-kinds.ps _<_ μ-wire t) wire.Pr
 abbrev claims : ℕ → wire-lts.Claims
 claims t = (stated-count-reads.Asked, stated-count-reads.Learnt, wire-few-reads.Asked, wire-few-reads.Learnt, wire-below t, wire.Post, wire-many-reads.Asked, wire-many-reads.Learnt)
 
-module _ (t : ℕ) where
-  stated-count-requires : wire-lts.Need-stated-count-requires (claims t) (wire-at t) wire.Post
-  stated-count-requires c κs = search needs
-
-  wire-few-requires : wire-lts.Need-wire-few-requires (claims t) (wire-at t) wire.Post
-  wire-few-requires c κs = omega (arith, (c .before .before .stated-count) .ensures, (c .before .if1) .taken)
-
-  same-length : wire-lts.Need-same-length (claims t) (wire-at t) wire.Post
-  same-length c = search needs
-
-  returns : wire-lts.Need-returns (claims t) (wire-at t) wire.Post
-  returns c = search needs
-
-  slice-aggregate-wire : wire-lts.Need-slice-aggregate-wire (claims t) (wire-at t) wire.Post
-  slice-aggregate-wire c = sym (length-take-le 2 ((c .before .before .before .before .before .before .before .args) .file .now) (omega (arith, (c .before .if3) .taken)))
-
-  wire-requires : wire-lts.Need-wire-requires (claims t) (wire-at t) wire.Post
-  wire-requires c κs = (omega (arith, (c .before .before .before .before .before .before .before .before .pre) .0, (c .before .before .if3) .taken, length-take-le 2 ((c .before .before .before .before .before .before .before .before .args) .file .now) (omega (arith, (c .before .before .if3) .taken))), tt)
-
-  same-length-2 : wire-lts.Need-same-length-2 (claims t) (wire-at t) wire.Post
-  same-length-2 c = search needs
-
-  returns-2 : wire-lts.Need-returns-2 (claims t) (wire-at t) wire.Post
-  unfolding wiringCall
-  returns-2 c = rw (header-cut ((c .before .before .before .before .before .before .before .before .before .before .before .args) .setting) ((c .before .before .before .before .before .before .before .before .before .before .before .args) .file .now) ((c .before .before .before .before .before .if3) .taken) (omega (arith, (c .before .before .before .before .before .before .before .before .stated-count) .ensures, (c .before .before .before .before .before .before .if2) .taken))) at ((c .before .before .wire) .ensures)
-
-  wire-many-requires : wire-lts.Need-wire-many-requires (claims t) (wire-at t) wire.Post
-  wire-many-requires c κs = search needs
-
-  same-length-3 : wire-lts.Need-same-length-3 (claims t) (wire-at t) wire.Post
-  same-length-3 c = search needs
-
-  returns-3 : wire-lts.Need-returns-3 (claims t) (wire-at t) wire.Post
-  returns-3 c = search needs
-
+-- in the order of the body: few expanders, the first two bytes of a file that states too many, and all room
 pub +wire-spec : {M : Type 1} → statement M
-+wire-spec = close μ-wire (λ t. wire-lts.spec (claims t) (wire-at t) wire.Post (stated-count-requires t) (wire-few-requires t) (same-length t) (returns t) (slice-aggregate-wire t) (wire-requires t) (same-length-2 t) (returns-2 t) (wire-many-requires t) (same-length-3 t) (returns-3 t))
+unfolding wiringCall
++wire-spec = close μ-wire (λ t. wire-lts.spec (claims t) (wire-at t) wire.Post
+    (λ c κs. search needs)
+    (λ c κs. omega (arith, c .before .before .stated-count .ensures, c .before .if1 .taken))
+    (λ c. search needs)
+    (λ c. search needs)
+    (λ c. sym (length-take-le 2 (c .before .before .before .before .before .before .before .args .file .now) (omega (arith, c .before .if3 .taken))))
+    (λ c κs. let s = c .before .before .before .before .before .before .before .before in let h = c .before .before .if3 .taken in (omega (arith, s .pre .0, length-take-le 2 (s .args .file .now) (omega arith)), tt))
+    (λ c. search needs)
+    (λ c. let b = c .before .before .before .before .before in
+    let s = b .before .before .before in
+    rw (header-cut (s .before .before .before .args .setting) (s .before .before .before .args .file .now) (b .if3 .taken) (omega (arith, s .stated-count .ensures, b .before .if2 .taken))) at (c .before .before .wire .ensures))
+    (λ c κs. search needs)
+    (λ c. search needs)
+    (λ c. search needs))

@@ -8,39 +8,12 @@ use native.Mathlib.Omega.{arith}
 use Rattle.wiring.proofs.wiring_call.wire_few.Statement.{statement}
 use Rattle.wiring.proofs.wiring_call.wire_few.Tie as tie
 
-stated-count-requires : tie.Need-stated-count-requires
-stated-count-requires c κs = search needs
-
-slice-aggregate-wire-in : tie.Need-slice-aggregate-wire-in
-slice-aggregate-wire-in c = search needs
-
-slice-aggregate-wire-in-2 : tie.Need-slice-aggregate-wire-in-2
-slice-aggregate-wire-in-2 c = search needs
-
-slice-aggregate-wire-in-3 : tie.Need-slice-aggregate-wire-in-3
-slice-aggregate-wire-in-3 c = search needs
-
 wire-in-requires : tie.Need-wire-in-requires
 wire-in-requires c κs =
     let a = c .before .before .before .before .before .before .before .before .args in
     let f = a .file .now in
     file-room (a .setting) 2 f _ _ _ (λ d e. omega (arith, stated-expanders (a .setting) f d e, (c .before .before .before .before .before .stated-count) .ensures))
     (omega (arith, length-replicate {A = ℕ} 516 0)) (omega (arith, length-replicate {A = ℕ} 320 0)) (omega (arith, length-replicate {A = ℕ} 256 0))
-
-same-length : tie.Need-same-length
-same-length c = search needs
-
-returns : tie.Need-returns
-returns c = search needs
-
-slice-aggregate-wire-in-4 : tie.Need-slice-aggregate-wire-in-4
-slice-aggregate-wire-in-4 c = search needs
-
-slice-aggregate-wire-in-5 : tie.Need-slice-aggregate-wire-in-5
-slice-aggregate-wire-in-5 c = search needs
-
-slice-aggregate-wire-in-6 : tie.Need-slice-aggregate-wire-in-6
-slice-aggregate-wire-in-6 c = search needs
 
 wire-in-requires-2 : tie.Need-wire-in-requires-2
 wire-in-requires-2 c κs =
@@ -49,11 +22,5 @@ wire-in-requires-2 c κs =
     file-room (a .setting) 8 f _ _ _ (λ d e. omega (arith, stated-expanders (a .setting) f d e, (c .before .before .before .before .before .before .before .before .pre)))
     (omega (arith, length-replicate {A = ℕ} 2064 0)) (omega (arith, length-replicate {A = ℕ} 1088 0)) (omega (arith, length-replicate {A = ℕ} 1024 0))
 
-same-length-2 : tie.Need-same-length-2
-same-length-2 c = search needs
-
-returns-2 : tie.Need-returns-2
-returns-2 c = search needs
-
 pub wire-few-spec : {M : Type 1} → statement M
-wire-few-spec = tie.close (tie.spec stated-count-requires slice-aggregate-wire-in slice-aggregate-wire-in-2 slice-aggregate-wire-in-3 wire-in-requires same-length returns slice-aggregate-wire-in-4 slice-aggregate-wire-in-5 slice-aggregate-wire-in-6 wire-in-requires-2 same-length-2 returns-2)
+wire-few-spec = tie.close (tie.spec (λ c κs. search needs) (λ c. search needs) (λ c. search needs) (λ c. search needs) wire-in-requires (λ c. search needs) (λ c. search needs) (λ c. search needs) (λ c. search needs) (λ c. search needs) wire-in-requires-2 (λ c. search needs) (λ c. search needs))

@@ -8,15 +8,6 @@ use native.Mathlib.Omega.{arith}
 use Rattle.wiring.proofs.wiring_call.wire_many.Statement.{statement}
 use Rattle.wiring.proofs.wiring_call.wire_many.Tie as tie
 
-slice-aggregate-wire-in : tie.Need-slice-aggregate-wire-in
-slice-aggregate-wire-in c = search needs
-
-slice-aggregate-wire-in-2 : tie.Need-slice-aggregate-wire-in-2
-slice-aggregate-wire-in-2 c = search needs
-
-slice-aggregate-wire-in-3 : tie.Need-slice-aggregate-wire-in-3
-slice-aggregate-wire-in-3 c = search needs
-
 wire-in-requires : tie.Need-wire-in-requires
 wire-in-requires c κs =
     let a = c .before .before .before .before .before .before .args in
@@ -24,11 +15,5 @@ wire-in-requires c κs =
     file-room (a .setting) 64 f _ _ _ (λ d e. let g = read-good (a .setting) f d e in omega (arith, g .few, g .range .expanders .1))
     (omega (arith, length-replicate {A = ℕ} 16512 0)) (omega (arith, length-replicate {A = ℕ} 8256 0)) (omega (arith, length-replicate {A = ℕ} 8192 0))
 
-same-length : tie.Need-same-length
-same-length c = search needs
-
-returns : tie.Need-returns
-returns c = search needs
-
 pub wire-many-spec : {M : Type 1} → statement M
-wire-many-spec = tie.close (tie.spec slice-aggregate-wire-in slice-aggregate-wire-in-2 slice-aggregate-wire-in-3 wire-in-requires same-length returns)
+wire-many-spec = tie.close (tie.spec (λ c. search needs) (λ c. search needs) (λ c. search needs) wire-in-requires (λ c. search needs) (λ c. search needs))

@@ -1,0 +1,59 @@
+-- table_reason is the definition's choice over the phy that (iii) picks; the index is found from the start of its stretch.
+use Prim.Native.Nat.{ℕ}
+use mathlib.Core.Path.{sym, _∙_, ap}
+use native.Mathlib.Omega.{arith}
+use borrow.Author.Needs.{needs}
+use Rattle.tables.specs.Wiring.{Domain, domainIn}
+use Rattle.tables.specs.Entries.{entries, counted}
+use Rattle.tracing.specs.Answers.{pickAnswer, subtractingPick}
+use Rattle.tracing.specs.Reasons.{because, bySubtraction}
+use Rattle.tracing.proofs.Picks.{listing-range}
+use Rattle.tracing.proofs.WhichRule.{entry-at, entry-none, index-stretch}
+use Rattle.tracing.proofs.reasons.table_reason.Statement.{statement}
+use Rattle.tracing.proofs.reasons.table_reason.Tie as tie
+
+stretch-start-requires : tie.Need-stretch-start-requires
+stretch-start-requires c κs =
+    listing-range (domainIn (c .before .before .before .before .before .before .before .args .rows .now)) (c .before .before .before .before .before .before .before .args .i .0) (counted (entries (c .before .before .before .before .before .before .before .args .words .now) (c .before .before .before .before .before .before .before .args .bits .now))) (c .before .before .before .before .before .before .before .args .s)
+    (ap pickAnswer (sym (c .before .p .given .1)) ∙ c .before .before .before .pick-listing .ensures)
+
+index-of-requires : tie.Need-index-of-requires
+index-of-requires c κs = omega (arith, c .before .stretch-start .ensures .1)
+
+returns : tie.Need-returns
+returns c =
+    let a = c .before .before .before .before .before .before .before .before .before .before .before .args in
+    let d : Domain = domainIn (a .rows .now) in
+    let w = counted (entries (a .words .now) (a .bits .now)) in
+    let e = ap pickAnswer (sym (c .before .before .before .before .before .p .given .1)) ∙ c .before .before .before .before .before .before .before .pick-listing .ensures in
+    c .told .ensures ∙ ap (because 3 _) (c .before .index-of .ensures ∙ index-stretch d w (a .i .0) _ (a .s) (c .before .before .index-count .ensures) (c .before .before .before .stretch-start .ensures .0))
+    ∙ entry-at d w (a .i .0) (a .s) (bySubtraction d (a .i .0) (a .came) (subtractingPick d (a .i .0))) e
+
+returns-2 : tie.Need-returns-2
+returns-2 c =
+    let a = c .before .before .before .before .before .before .before .args in
+    let d : Domain = domainIn (a .rows .now) in
+    c .subtractive-reason .ensures
+    ∙ entry-none d (counted (entries (a .words .now) (a .bits .now))) (a .i .0) (a .s) (bySubtraction d (a .i .0) (a .came) (subtractingPick d (a .i .0)))
+    (ap pickAnswer (sym (c .before .enum-told .given .1)) ∙ c .before .before .before .pick-listing .ensures)
+
+pick-listing-requires : tie.Need-pick-listing-requires
+pick-listing-requires c κs = search needs
+
+enum-known-p : tie.Need-enum-known-p
+enum-known-p c = search needs
+
+index-count-requires : tie.Need-index-count-requires
+index-count-requires c κs = search needs
+
+told-requires : tie.Need-told-requires
+told-requires c κs = search needs
+
+enum-told : tie.Need-enum-told
+enum-told c = search needs
+
+subtractive-reason-requires : tie.Need-subtractive-reason-requires
+subtractive-reason-requires c κs = search needs
+
+pub table-reason-spec : {M : Type 1} → statement M
+table-reason-spec = tie.close (tie.spec pick-listing-requires enum-known-p stretch-start-requires index-count-requires index-of-requires told-requires enum-told subtractive-reason-requires returns returns-2)

@@ -1,0 +1,58 @@
+-- step_in meets its contract: the rows that the file is read into are its domain, and there is room for the entries.
+use mathlib.Core.Path.{sym}
+use lib.Seq.{length-take-le}
+use Rattle.tables.proofs.Wiring.{opened-as, opened-fits}
+use Rattle.tables.proofs.Lawful.{judged-own}
+use Rattle.tracing.proofs.WhichRule.{file-no, file-yes}
+use borrow.Author.Needs.{needs}
+use Rattle.tracing.proofs.step_call.step_in.Statement.{statement}
+use Rattle.tracing.proofs.step_call.step_in.Tie as tie
+
+slice-reshare-prefix-judged-step : tie.Need-slice-reshare-prefix-judged-step
+slice-reshare-prefix-judged-step c = opened-fits _ _ _ _ _ _ ((c .before .before .before .before .before .before .before .before .before .before .before .before .before .pre) .rows) ((c .before .before .before .before .before .read-domain) .ensures) ((c .before .read2) .given .1) ((c .before .before .before .before .before .read-domain) .kept .1 .1 .0)
+
+slice-aggregate-judged-step : tie.Need-slice-aggregate-judged-step
+slice-aggregate-judged-step c =
+    let r = (c .before .before .before .before .before .before .read-domain) in
+    sym (length-take-le _ (r .last .1 .1 .0) (opened-fits _ _ _ _ _ _ ((c .before .before .before .before .before .before .before .before .before .before .before .before .before .before .pre) .rows) (r .ensures) ((c .before .before .read2) .given .1) (r .kept .1 .1 .0)))
+
+returns : tie.Need-returns
+returns c = file-no _ _ _ _ _ (opened-as _ _ _ _ _ _ ((c .before .before .before .before .before .before .before .before .before .before .before .before .before .pre) .rows) ((c .before .before .before .before .before .read-domain) .ensures) ((c .before .read) .given .1))
+
+returns-2 : tie.Need-returns-2
+returns-2 c =
+    let o = opened-as _ _ _ _ _ _ ((c .before .before .before .before .before .before .before .before .before .before .before .before .before .before .before .before .before .before .before .before .before .pre) .rows) ((c .before .before .before .before .before .before .before .before .before .before .before .before .before .read-domain) .ensures) ((c .before .before .before .before .before .before .before .before .before .read2) .given .1) in
+    file-yes _ _ _ _ _ _ _ _ (o .0) (judged-own _ _ _ _ _ (o .0) ((c .before .before .before .before .before .before .before .before .before .before .before .before .before .before .before .before .before .before .before .before .before .pre) .index _ (o .0))) ((c .before .before .before .before .judged-step) .ensures)
+
+read-domain-requires : tie.Need-read-domain-requires
+read-domain-requires c κs = search needs
+
+enum-known-read : tie.Need-enum-known-read
+enum-known-read c = search needs
+
+enum-known-read-2 : tie.Need-enum-known-read-2
+enum-known-read-2 c = search needs
+
+cast-e : tie.Need-cast-e
+cast-e c = search needs
+
+mul-e : tie.Need-mul-e
+mul-e c = search needs
+
+judged-step-requires : tie.Need-judged-step-requires
+judged-step-requires c κs = search needs
+
+same-length : tie.Need-same-length
+same-length c = search needs
+
+same-length-2 : tie.Need-same-length-2
+same-length-2 c = search needs
+
+same-length-3 : tie.Need-same-length-3
+same-length-3 c = search needs
+
+same-length-4 : tie.Need-same-length-4
+same-length-4 c = search needs
+
+pub step-in-spec : {M : Type 1} → statement M
+step-in-spec = tie.close (tie.spec read-domain-requires enum-known-read enum-known-read-2 cast-e mul-e slice-reshare-prefix-judged-step slice-aggregate-judged-step judged-step-requires same-length returns same-length-2 same-length-3 same-length-4 returns-2)
