@@ -2,6 +2,7 @@
 // answers.
 mod packing;
 
+use shelves::Shelf;
 use tracing::DiscoverRead;
 use tracing::ExpanderNumber;
 use tracing::GeneralRead;
@@ -24,6 +25,8 @@ ghost use Rattle.tracing.specs.Tables.{Entries, entries, roomOf};
 ghost use Rattle.tracing.specs.Tables.{wiringCall, bitsSet, wordsAfter, judged, expandersIn, tableCall, countsIn, tablesAfter, wordPlace};
 ghost use Rattle.tracing.specs.Reasons.{stepCall};
 ghost use Rattle.tracing.specs.Trace.{request, traceCall, report, bytesAfter};
+ghost use Rattle.shelves.specs.Shelf.{shelfBytes, made, stepped, entryAt, disabledAt};
+ghost use Rattle.exports.specs.Shelves.{ShelfDone};
 ghost use Rattle.exports.specs.Packing.{version, settingOf, packed, number, counts, entryPacked, endPacked, stepPacked, forty, general, generalSas2, discovered, ownAddress, attachedAddress, route, routeTold, routeAddress};
 
 // The version of this interface.
@@ -284,4 +287,51 @@ pub extern "C" fn metzurgo_discover_attached(frame: &[u8]) -> u64
         DiscoverRead::Vacant(_) => 0,
         DiscoverRead::Read(d) => d.attached,
     }
+}
+
+// How many bytes a shelf takes.
+#[no_mangle]
+pub extern "C" fn metzurgo_shelf_size() -> u64
+    ensures { λ r. ⌜ r ≡ shelfBytes ⌝ }
+{
+    9240
+}
+
+// Makes a fresh shelf where the owner holds it: 0, or refusal 3.
+#[no_mangle]
+pub extern "C" fn metzurgo_shelf_fresh(
+    shelf: &mut Shelf,
+    phys: u8,
+    indexes: u16,
+    kinds: &[u8],
+) -> u64
+    ensures { λ r. ⌜ ShelfDone (made (now (shelf .entry)) phys indexes (now (kinds .entry))) r (now (shelf .exit)) ⌝ }
+{
+    let answer = shelves::fresh(shelf, phys, indexes, kinds);
+    packing::shelf_answer(answer)
+}
+
+// Obeys one frame: the function result, or the reader's refusal.
+#[no_mangle]
+pub extern "C" fn metzurgo_shelf_obey(shelf: &mut Shelf, frame: &[u8]) -> u64
+    ensures { λ r. ⌜ ShelfDone (stepped (now (shelf .entry)) (now (frame .entry))) r (now (shelf .exit)) ⌝ }
+{
+    let answer = shelves::obey(shelf, frame);
+    packing::shelf_answer(answer)
+}
+
+// The address of an entry, 0 where there is none.
+#[no_mangle]
+pub extern "C" fn metzurgo_shelf_entry(shelf: &Shelf, phy: u8, index: u16) -> u64
+    ensures { λ r. ⌜ r ≡ entryAt (now (shelf .entry)) phy index ⌝ }
+{
+    packing::shelf_entry(*shelf, phy, index)
+}
+
+// 1 where an entry is disabled, 0 where it is not, 2 where there is none.
+#[no_mangle]
+pub extern "C" fn metzurgo_shelf_disabled(shelf: &Shelf, phy: u8, index: u16) -> u64
+    ensures { λ r. ⌜ r ≡ disabledAt (now (shelf .entry)) phy index ⌝ }
+{
+    packing::shelf_disabled(*shelf, phy, index)
 }

@@ -1,17 +1,23 @@
 // Settings and answers packed into one number.
+use shelves::Answer;
+use shelves::Shelf;
 use tracing::Discover;
 use tracing::End;
 use tracing::Entry;
 use tracing::General;
 use tracing::LongGeneral;
 use tracing::Outcome;
+use tracing::PhyId;
 use tracing::Reason;
 use tracing::Refusal;
 use tracing::Route;
+use tracing::RouteIndex;
 use tracing::Setting;
 use tracing::Step;
 ghost use mathlib.Core.Path.{_≡_};
 ghost use Prim.Native.Nat.{_≤_, _<_, _^_};
+ghost use Rattle.shelves.specs.Shelf.{entryAt, disabledAt};
+ghost use Rattle.exports.specs.Shelves.{packAnswer};
 ghost use Rattle.tracing.specs.Answers.{stepAnswer};
 ghost use Rattle.exports.specs.Packing.{settingOf, packRefusal, packEnd, packOutcome, packBad, packNext, packReason, stepPacked, counts, entryPacked, packFields, packLong, general, route};
 
@@ -147,4 +153,28 @@ pub(crate) fn request(q: Route) -> u64
         return 4294967296 + fields;
     }
     fields
+}
+
+// What a shelf answers: a refusal, or the function result.
+pub(crate) fn shelf_answer(answer: Answer) -> u64
+    ensures { λ n. ⌜ n ≡ packAnswer answer ⌝ }
+{
+    match answer {
+        Answer::Refused(r) => refusal(r),
+        Answer::Result(n) => n as u64,
+    }
+}
+
+// An entry of a shelf, by numbers.
+pub(crate) fn shelf_entry(shelf: Shelf, phy: u8, index: u16) -> u64
+    ensures { λ n. ⌜ n ≡ entryAt shelf phy index ⌝ }
+{
+    shelves::entry_at(shelf, PhyId(phy), RouteIndex(index))
+}
+
+// Whether an entry of a shelf is disabled, by numbers.
+pub(crate) fn shelf_disabled(shelf: Shelf, phy: u8, index: u16) -> u64
+    ensures { λ n. ⌜ n ≡ disabledAt shelf phy index ⌝ }
+{
+    shelves::disabled_at(shelf, PhyId(phy), RouteIndex(index)) as u64
 }

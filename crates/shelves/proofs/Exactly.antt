@@ -1,0 +1,74 @@
+-- When a shelf refuses, and with which numbers: a frame exactly where the reader refuses it, and what a fresh shelf is told with 3
+-- exactly where it cannot be told.
+use Prim.Native.Nat.{ℕ, _≤_}
+use mathlib.Core.Path.{_≡_, refl, sym, ap, subst, _∙_}
+use mathlib.Core.Logic.{_⊎_}
+use mathlib.Core.Bool.{Bool, true, false}
+use mathlib.Core.List.{List}
+use native.Mathlib.Omega.{arith}
+use lib.ListN.{length}
+use lib.Dec.{T}
+use Rattle.frames.specs.Bytes.{byte}
+use Rattle.frames.specs.Refusals.{Result, refused, good, refusal}
+use Rattle.frames.specs.Exactly.{Exactly}
+use Rattle.frames.specs.ConfigureRoute.{routeAnswer, routeFixed, routeRead}
+use Rattle.frames.specs.declared.Refusal.{Refusal}
+use Rattle.frames.specs.declared.Route.{Route}
+use Rattle.frames.specs.declared.RouteRead.{RouteRead}
+use Rattle.frames.specs.declared.RouteRead.the-variants.{Refused as NotRead, Read}
+use Rattle.frames.proofs.Exactly.{never, route-exactly}
+use Rattle.shelves.specs.Shelf.{Told, told, shelfAnswer, made, afterRead, stepped, Done}
+use Rattle.shelves.specs.declared.Shelf.{Shelf}
+use Rattle.shelves.specs.declared.Answer.{Answer}
+use Rattle.shelves.proofs.Telling.{told-says, says-told, made-fresh, made-refused}
+
+-- the reader's answer that says this
+reader : Result Route → RouteRead
+reader (refused r) = NotRead r
+reader (good q) = Read q
+
+reader-says : (x : Result Route) → routeAnswer (reader x) ≡ x
+unfolding reader
+reader-says (refused r) = refl
+reader-says (good q) = refl
+
+same-refusal : {A : Type 0} (r t : Refusal) → _≡_ {A = Result A} (refused r) (refused t) → r ≡ t
+same-refusal r t e = cc
+
+-- a shelf refuses where the reader does
+as-read : (s : Shelf) (x : Result Route) (N : Type 0) (P : ℕ → Type 0) → Exactly x N P → Exactly (shelfAnswer (afterRead s x .answer)) N P
+unfolding afterRead
+as-read s (refused r) N P e = record {
+  answers = (λ a. never r (a .0) (a .1), λ n. let a = e .answers .1 n in never r (a .0) (a .1));
+  numbers = λ t q. e .numbers t (ap refused (same-refusal r t q));
+}
+as-read s (good q) N P e = record { answers = (λ _. e .answers .0 (q, refl), λ _. (_, refl)); numbers = λ r z. never r _ (sym z) }
+
+-- a frame: its length (1), bytes 0, 1 and 3 (2), its phy (15), whatever stands in the shelf
+abbrev Frame : List ℕ → Type 0
+Frame frame = (length frame ≡ 40) × (T (routeFixed frame) × (byte frame 9 ≤ 127))
+
+abbrev frameNumber : ℕ → Type 0
+frameNumber n = (n ≡ 1) ⊎ ((n ≡ 2) ⊎ (n ≡ 15))
+
+pub obey-exactly : (s t : Shelf) (frame : List ℕ) (answer : Answer) → Done (stepped s frame) answer t → Exactly (shelfAnswer answer) (Frame frame) frameNumber
+obey-exactly s t frame answer d =
+    let x = routeRead frame in
+    let r : Exactly (routeRead frame) (Frame frame) frameNumber = subst (λ (y : Result Route). Exactly y (Frame frame) frameNumber) (reader-says x) (route-exactly frame (reader x) (reader-says x)) in
+    subst (λ (a : Answer). Exactly (shelfAnswer a) (Frame frame) frameNumber) (sym (d .answers)) (as-read s x (Frame frame) frameNumber r)
+
+-- what a fresh shelf is told
+pub fresh-exactly : (s t : Shelf) (phys indexes : ℕ) (kinds : List ℕ) (answer : Answer) → Done (made s phys indexes kinds) answer t
+    → Exactly (shelfAnswer answer) (Told phys indexes kinds) (λ n. n ≡ 3)
+fresh-exactly s t phys indexes kinds answer d = subst (λ (a : Answer). Exactly (shelfAnswer a) (Told phys indexes kinds) (λ n. n ≡ 3)) (sym (d .answers)) (go (told phys indexes kinds) refl)
+  where
+    go : (b : Bool) → told phys indexes kinds ≡ b → Exactly (shelfAnswer (made s phys indexes kinds .answer)) (Told phys indexes kinds) (λ n. n ≡ 3)
+    go true e =
+        rw (made-fresh s phys indexes kinds e)
+        (record { answers = (λ _. told-says phys indexes kinds e, λ _. (0, refl)); numbers = λ r z. never r _ (sym z) })
+    go false e =
+        rw (made-refused s phys indexes kinds e)
+        (record {
+          answers = (λ a. never (refusal 3 0 0) (a .0) (a .1), λ n. let z : true ≡ false = sym (says-told phys indexes kinds n) ∙ e in let y : _≡_ {A = ℕ} 0 1 = cc in absurd (omega arith));
+          numbers = λ r z. sym (ap (λ (x : Refusal). x .number) (same-refusal (refusal 3 0 0) r z));
+        })

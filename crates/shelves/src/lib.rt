@@ -1,0 +1,59 @@
+// A software shelf: an expander without cables that answers CONFIGURE ROUTE INFORMATION requests, and holds what they
+// load.
+mod entries;
+mod loading;
+mod making;
+
+pub use entries::disabled_at;
+pub use entries::entry_at;
+
+// What users of a shelf need of a frame.
+pub use frames::PhyId;
+pub use frames::Refusal;
+pub use frames::RouteIndex;
+ghost use Rattle.shelves.specs.Shelf.{Done, stepped, made};
+
+// A shelf has at most 16 phys and 64 route indexes: 64 entries for each phy, and for each entry a byte that is 0 where it
+// is not disabled; each phy's kind (0 vacant, 1 table, 2 other); how many route indexes each phy has (R); and how many
+// phys there are. Every byte belongs to a field, and whatever stands there is a shelf: phys past 16 and route indexes past
+// 64 do not exist.
+#[repr(C)]
+pub struct Shelf {
+    pub entries: [u64; 1024],
+    pub disabled: [u8; 1024],
+    pub kinds: [u8; 16],
+    pub indexes: u32,
+    pub phys: u32,
+}
+
+// What a shelf answers: a refusal, or a function result.
+pub enum Answer {
+    Refused(Refusal),
+    Result(u8),
+}
+
+// A shelf, and what it answered.
+pub struct Stepped {
+    pub shelf: Shelf,
+    pub answer: Answer,
+}
+
+// Obeys one frame: the reader's refusal (1, 2, 15), or a function result (10h, 16h, 11h, in this order, else 00h). With
+// 00h one entry and its disable bit are replaced where they are; anything else changes nothing.
+pub fn obey(shelf: &mut Shelf, frame: &[u8]) -> Answer
+    ensures { λ r. ⌜ Done (stepped (now (shelf .entry)) (now (frame .entry))) r (now (shelf .exit)) ⌝ }
+{
+    let next = loading::step(*shelf, frame);
+    *shelf = next.shelf;
+    next.answer
+}
+
+// Makes a fresh shelf, all entries zero and disabled, and answers 00h. It is told 1 to 16 phys, R up to 64, and one kind
+// for each phy. Told anything else it answers 3, and what was there stays.
+pub fn fresh(shelf: &mut Shelf, phys: u8, indexes: u16, kinds: &[u8]) -> Answer
+    ensures { λ r. ⌜ Done (made (now (shelf .entry)) phys indexes (now (kinds .entry))) r (now (shelf .exit)) ⌝ }
+{
+    let next = making::make(*shelf, phys, indexes, kinds);
+    *shelf = next.shelf;
+    next.answer
+}
