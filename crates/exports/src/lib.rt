@@ -2,6 +2,7 @@
 // answers.
 mod packing;
 
+use cards::Made;
 use shelves::Shelf;
 use tracing::DiscoverRead;
 use tracing::ExpanderNumber;
@@ -25,6 +26,7 @@ ghost use Rattle.tracing.specs.Tables.{Entries, entries, roomOf};
 ghost use Rattle.tracing.specs.Tables.{wiringCall, bitsSet, wordsAfter, judged, expandersIn, tableCall, countsIn, tablesAfter, wordPlace};
 ghost use Rattle.tracing.specs.Reasons.{stepCall};
 ghost use Rattle.tracing.specs.Trace.{request, traceCall, report, bytesAfter};
+ghost use Rattle.cards.specs.Calls.{cardCall, fileCall, lengthOf, newAfter};
 ghost use Rattle.shelves.specs.Shelf.{shelfBytes, made, stepped, entryAt, disabledAt};
 ghost use Rattle.exports.specs.Shelves.{ShelfDone};
 ghost use Rattle.exports.specs.Packing.{version, settingOf, packed, number, counts, entryPacked, endPacked, stepPacked, forty, general, generalSas2, discovered, ownAddress, attachedAddress, route, routeTold, routeAddress};
@@ -286,6 +288,34 @@ pub extern "C" fn metzurgo_discover_attached(frame: &[u8]) -> u64
         DiscoverRead::Refused(_) => 0,
         DiscoverRead::Vacant(_) => 0,
         DiscoverRead::Read(d) => d.attached,
+    }
+}
+
+// Makes a card of a file, and answers how many bytes it has: 22, 1 to 6, 16.
+#[no_mangle]
+pub extern "C" fn metzurgo_card_of_file(setting: u32, file: &[u8], card: &mut [u8]) -> u64
+    ensures { λ r. ⌜ (r ≡ packed number (then (cardCall (settingOf setting) (now (file .entry)) (length (now (card .entry)))) lengthOf))
+        × (now (card .exit) ≡ newAfter (cardCall (settingOf setting) (now (file .entry)) (length (now (card .entry)))) (now (card .entry))) ⌝ }
+{
+    let course = packing::setting(setting);
+    let answer = cards::card_of_file(course, file, card);
+    match answer {
+        Made::Refused(r) => packing::refusal(r),
+        Made::Bytes(n) => n as u64,
+    }
+}
+
+// Makes a file of short frames of a card, and answers how many bytes it has: 22, 19, then 3, 4 and 6 unit by unit, 16.
+#[no_mangle]
+pub extern "C" fn metzurgo_file_of_card(setting: u32, card: &[u8], file: &mut [u8]) -> u64
+    ensures { λ r. ⌜ (r ≡ packed number (then (fileCall (settingOf setting) (now (card .entry)) (length (now (file .entry)))) lengthOf))
+        × (now (file .exit) ≡ newAfter (fileCall (settingOf setting) (now (card .entry)) (length (now (file .entry)))) (now (file .entry))) ⌝ }
+{
+    let course = packing::setting(setting);
+    let answer = cards::file_of_card(course, card, file);
+    match answer {
+        Made::Refused(r) => packing::refusal(r),
+        Made::Bytes(n) => n as u64,
     }
 }
 

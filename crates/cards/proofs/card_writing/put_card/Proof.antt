@@ -1,0 +1,54 @@
+-- put_card puts the header, the expanders and the zero bits that fill the last byte.
+use native.Mathlib.Omega.{arith}
+use borrow.Author.Needs.{needs}
+use Prim.Native.Nat.{ℕ, suc, _+_, _-_, _*_, _/_, _%_, _^_, _≤_, _<_, min}
+use mathlib.Core.Path.{_≡_, refl, sym, _∙_, ap, subst}
+use mathlib.Core.List.{List, [], _∷_, _++_}
+use lib.ListN.{length, take, drop, set, replicate, length-set, length-take, length-drop, length-replicate}
+use lib.Seq.{sets, length-take-le}
+use Rattle.wiring.specs.Domain.{Domain, Expander, expanderAt, phyAt}
+use Rattle.wiring.specs.Rows.{domainIn}
+use Rattle.frames.specs.Bits.{numberBits, field, bitsOf, bytesFor}
+use Rattle.cards.specs.Card.{cardSize}
+use Rattle.cards.proofs.Puts.{card-put, fill-few}
+use Rattle.cards.proofs.card_writing.put_card.Statement.{statement}
+use Rattle.cards.proofs.card_writing.put_card.Tie as tie
+
+put-bits-requires : tie.Need-put-bits-requires
+put-bits-requires c κs = search needs
+
+expander-count-requires : tie.Need-expander-count-requires
+expander-count-requires c κs = search needs
+
+less-one-requires : tie.Need-less-one-requires
+less-one-requires c κs = search needs
+
+put-bits-requires-2 : tie.Need-put-bits-requires-2
+put-bits-requires-2 c κs = search needs
+
+put-bits-requires-3 : tie.Need-put-bits-requires-3
+put-bits-requires-3 c κs = search needs
+
+put-expanders-requires : tie.Need-put-expanders-requires
+put-expanders-requires c κs = search needs
+
+sub-put-bits : tie.Need-sub-put-bits
+sub-put-bits c = search needs
+
+put-bits-requires-4 : tie.Need-put-bits-requires-4
+put-bits-requires-4 c κs = search needs
+
+same-length : tie.Need-same-length
+same-length c = search needs
+
+returns : tie.Need-returns
+returns c =
+    let d : Domain = domainIn (c .before .before .before .before .before .before .before .before .before .before .before .before .before .before .before .before .before .before .before .before .before .before .before .before .args .rows .now) in
+    let at : c .before .before .before .before .before .before .put-expanders .result ≡ cardSize d = c .before .before .before .before .before .before .put-expanders .ensures .1 .0 in
+    let n : c .before .before .before .before .before .before .before .before .before .before .before .before .before .before .before .less-one .result ≡ length d - 1 = c .before .before .before .before .before .before .before .before .before .before .before .before .before .before .before .less-one .ensures ∙ ap (λ (m : ℕ). m - 1) (c .before .before .before .before .before .before .before .before .before .before .before .before .before .before .before .before .expander-count .ensures .0) in
+    card-put d (c .before .before .before .before .before .before .before .before .before .before .before .before .before .before .before .before .before .before .before .before .before .before .before .before .args .card .now) _ _ _ _ _ _ _ _ (λ j. c .before .before .before .before .before .before .before .before .before .before .before .before .before .before .before .before .before .before .before .before .before .before .before .slice-known .given j .fits) (λ j. c .slice-known6 .given j .fits) (c .before .before .before .before .before .before .before .before .before .before .before .before .before .before .before .before .before .before .before .before .before .before .before .before .pre) n at (omega arith)
+    (c .before .before .before .before .before .before .before .before .before .before .before .before .before .before .before .before .before .before .before .before .put-bits .ensures) (c .before .before .before .before .before .before .before .before .before .before .before .before .before .before .put-bits2 .ensures) (c .before .before .before .before .before .before .before .before .before .before .put-bits3 .ensures) (c .before .before .before .before .before .before .put-expanders .ensures .0) (c .before .before .put-bits4 .ensures ∙ fill-few _ _ _ (omega arith))
+
+pub put-card-spec : {M : Type 1} → statement M
+put-card-spec =
+    tie.close (tie.spec put-bits-requires expander-count-requires less-one-requires put-bits-requires-2 put-bits-requires-3 put-expanders-requires sub-put-bits put-bits-requires-4 same-length returns)

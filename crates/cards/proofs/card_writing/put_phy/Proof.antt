@@ -1,0 +1,48 @@
+-- put_phy puts a vacant phy's bit and result, or what put_present puts.
+use native.Mathlib.Omega.{arith}
+use borrow.Author.Needs.{needs}
+use mathlib.Core.Path.{_≡_, refl, sym, _∙_, ap, subst}
+use lib.Seq.{sets}
+use Rattle.wiring.specs.declared.Phy.{Phy}
+use Rattle.frames.specs.Bits.{numberBits, field, bitsOf, bytesFor}
+use Rattle.cards.specs.Card.{phyBits}
+use Rattle.cards.proofs.Puts.{vacant-put}
+use Rattle.cards.proofs.card_writing.put_phy.Statement.{statement}
+use Rattle.cards.proofs.card_writing.put_phy.Tie as tie
+
+enum-known-f : tie.Need-enum-known-f
+enum-known-f c = search needs
+
+put-bits-requires : tie.Need-put-bits-requires
+put-bits-requires c κs = search needs
+
+add-put-bits : tie.Need-add-put-bits
+add-put-bits c = search needs
+
+cast-put-bits : tie.Need-cast-put-bits
+cast-put-bits c = search needs
+
+put-bits-requires-2 : tie.Need-put-bits-requires-2
+put-bits-requires-2 c κs = search needs
+
+enum-known-f-2 : tie.Need-enum-known-f-2
+enum-known-f-2 c = search needs
+
+put-present-requires : tie.Need-put-present-requires
+put-present-requires c κs = search needs
+
+same-length : tie.Need-same-length
+same-length c = search needs
+
+returns : tie.Need-returns
+returns c = vacant-put (c .before .before .before .before .before .before .before .before .before .f .given .0 .0) (c .before .before .before .before .before .before .before .before .before .before .before .before .args .at) _ _ _ (c .before .before .before .before .before .before .put-bits .ensures) (c .before .before .put-bits2 .ensures) ∙ ap (λ (φ : Phy). sets (bitsOf (c .before .before .before .before .before .before .before .before .before .before .before .before .args .card .now)) (c .before .before .before .before .before .before .before .before .before .before .before .before .args .at) (phyBits φ)) (sym (c .before .before .before .before .before .before .before .before .before .f .given .1))
+
+same-length-2 : tie.Need-same-length-2
+same-length-2 c = search needs
+
+returns-2 : tie.Need-returns-2
+returns-2 c = c .before .before .put-present .ensures ∙ ap (λ (φ : Phy). sets (bitsOf (c .before .before .before .before .before .before .before .before .args .card .now)) (c .before .before .before .before .before .before .before .before .args .at) (phyBits φ)) (sym (c .before .before .before .before .before .f2 .given .1))
+
+pub put-phy-spec : {M : Type 1} → statement M
+put-phy-spec =
+    tie.close (tie.spec enum-known-f put-bits-requires add-put-bits cast-put-bits put-bits-requires-2 enum-known-f-2 put-present-requires same-length returns same-length-2 returns-2)

@@ -1,0 +1,90 @@
+-- put_head writes the address and the response into the parts of the file that they fill.
+use native.Mathlib.Omega.{arith}
+use borrow.Author.Needs.{needs}
+use Prim.Native.Nat.{ℕ, suc, _+_, _-_, _*_, _/_, _%_, _^_, _≤_, _<_, min}
+use mathlib.Core.Path.{_≡_, refl, sym, _∙_, ap, subst}
+use mathlib.Core.List.{List, [], _∷_, _++_}
+use lib.ListN.{length, take, drop, set, replicate, length-set, length-take, length-drop, length-replicate}
+use lib.Seq.{sets, length-take-le}
+use borrow.Rule.Slice.PartMut.{putMid, same-len-mid}
+use Rattle.frames.specs.Bytes.{bytesOf}
+use Rattle.frames.specs.ShortFrames.{shortGeneral}
+use Rattle.frames.specs.declared.General.{General}
+use Rattle.frames.proofs.Numbers.{length-bytesOf}
+use Rattle.frames.proofs.ShortFrames.{length-general}
+use Rattle.wiring.specs.Domain.{Domain, Expander, expanderAt}
+use Rattle.wiring.specs.Rows.{domainIn}
+use Rattle.cards.specs.FileOf.{generalOf}
+use Rattle.cards.proofs.FilePuts.{front-whole, head-put, general-same}
+use Rattle.cards.proofs.file_writing.put_head.Statement.{statement}
+use Rattle.cards.proofs.file_writing.put_head.Tie as tie
+
+add-m : tie.Need-add-m
+add-m c = omega arith
+
+add-e : tie.Need-add-e
+add-e c = omega arith
+
+sub-put-address : tie.Need-sub-put-address
+sub-put-address c = omega arith
+
+part-put-address-start : tie.Need-part-put-address-start
+part-put-address-start c = omega arith
+
+part-put-address-end : tie.Need-part-put-address-end
+part-put-address-end c = omega arith
+
+sub-put-general : tie.Need-sub-put-general
+sub-put-general c = omega arith
+
+part-put-general-start : tie.Need-part-put-general-start
+part-put-general-start c = omega arith
+
+part-put-general-end : tie.Need-part-put-general-end
+part-put-general-end c =
+    let a = c .before .before .before .before .before .before .before .before .before .before .args in
+    let t = a .to in
+    let l = same-len-mid t (t + 8 - t) (a .file .now) (c .before .before .put-address .last .0) (c .before .before .put-address .kept .0) in
+    omega arith
+
+same-length : tie.Need-same-length
+same-length c =
+    let a = c .before .before .before .before .before .before .before .before .before .before .before .before .before .before .args in
+    let t = a .to in
+    let s = putMid t (t + 8 - t) (a .file .now) (c .before .before .before .before .before .before .put-address .last .0) in
+    same-len-mid (t + 8) (t + 36 - (t + 8)) s (c .before .before .put-general .last .0) (c .before .before .put-general .kept .0) ∙ same-len-mid t (t + 8 - t) (a .file .now) (c .before .before .before .before .before .before .put-address .last .0) (c .before .before .before .before .before .before .put-address .kept .0)
+
+returns : tie.Need-returns
+returns c =
+    let a = c .before .before .before .before .before .before .before .before .before .before .before .before .before .before .args in
+    let t = a .to in
+    let e : Expander = expanderAt (domainIn (a .rows .now)) (a .i .0) in
+    let s = putMid t (t + 8 - t) (a .file .now) (c .before .before .before .before .before .before .put-address .last .0) in
+    let n = same-len-mid t (t + 8 - t) (a .file .now) (c .before .before .before .before .before .before .put-address .last .0) (c .before .before .before .before .before .before .put-address .kept .0) in
+    let x = c .before .before .before .before .before .before .before .expander-address .result in
+    let g = general-same e _ _ _ (c .before .before .before .before .before .before .before .before .before .before .before .index-count .ensures) (c .before .before .before .before .before .before .before .before .before .before .phy-count .ensures .0) (c .before .before .before .before .before .before .before .before .before .configurable-bit .ensures) in
+    let gen : General = record { indexes = c .before .before .before .before .before .before .before .before .before .before .before .index-count .result; phys = c .before .before .before .before .before .before .before .before .before .before .phy-count .result; configurable = c .before .before .before .before .before .before .before .before .before .configurable-bit .result } in
+    let f1 = c .before .before .before .before .before .before .put-address .ensures ∙ front-whole (bytesOf 8 x) (take (t + 8 - t) (drop t (a .file .now))) (simp (length-take, length-drop) (omega (arith, length-bytesOf 8 x))) in
+    let f2 = c .before .before .put-general .ensures ∙ front-whole (shortGeneral gen) (take (t + 36 - (t + 8)) (drop (t + 8) s)) (simp (length-take, length-drop) (omega (arith, n, length-general gen))) in
+    head-put e (a .file .now) s _ (c .before .before .before .before .before .before .put-address .last .0) (c .before .before .put-general .last .0) t (t + 8 - t) (t + 36 - (t + 8)) x gen (c .before .before .before .before .before .before .before .before .before .before .before .before .before .before .pre .1) n (c .before .before .before .before .before .before .before .expander-address .ensures) g (omega arith) f1 refl (omega arith) f2 refl
+
+index-count-requires : tie.Need-index-count-requires
+index-count-requires c κs = search needs
+
+phy-count-requires : tie.Need-phy-count-requires
+phy-count-requires c κs = search needs
+
+configurable-bit-requires : tie.Need-configurable-bit-requires
+configurable-bit-requires c κs = search needs
+
+expander-address-requires : tie.Need-expander-address-requires
+expander-address-requires c κs = search needs
+
+put-address-requires : tie.Need-put-address-requires
+put-address-requires c κs = search needs
+
+put-general-requires : tie.Need-put-general-requires
+put-general-requires c κs = search needs
+
+pub put-head-spec : {M : Type 1} → statement M
+put-head-spec = tie.close (tie.spec index-count-requires phy-count-requires configurable-bit-requires add-m add-e sub-put-address part-put-address-start part-put-address-end expander-address-requires put-address-requires sub-put-general part-put-general-start part-put-general-end put-general-requires same-length returns)

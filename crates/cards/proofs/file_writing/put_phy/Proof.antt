@@ -1,0 +1,53 @@
+-- put_phy writes the response of a vacant phy, or of one that is not.
+use native.Mathlib.Omega.{arith}
+use borrow.Author.Needs.{needs}
+use Prim.Native.Nat.{ℕ, suc, _+_, _-_, _*_, _/_, _%_, _^_, _≤_, _<_, min}
+use mathlib.Core.Path.{_≡_, refl, sym, _∙_, ap, subst}
+use mathlib.Core.List.{List, [], _∷_, _++_}
+use lib.ListN.{length, take, drop, set, replicate, length-set, length-take, length-drop, length-replicate}
+use lib.Seq.{sets, length-take-le}
+use Rattle.frames.specs.ShortFrames.{shortVacant, shortDiscover, atFront}
+use Rattle.frames.proofs.ShortFrames.{length-vacant, length-discover}
+use Rattle.frames.specs.declared.Discover.{Discover}
+use Rattle.wiring.specs.declared.Phy.{Phy}
+use Rattle.cards.specs.FileOf.{discoverOf, phyFrame}
+use Rattle.cards.proofs.FilePuts.{front-whole}
+use Rattle.cards.proofs.file_writing.put_phy.Statement.{statement}
+use Rattle.cards.proofs.file_writing.put_phy.Tie as tie
+
+same-length : tie.Need-same-length
+same-length c = search needs
+
+returns : tie.Need-returns
+returns c =
+    let a = c .before .before .before .before .before .before .before .before .args in
+    let r = c .before .before .before .before .before .f .given .0 .0 in
+    c .before .before .put-vacant .ensures ∙ front-whole (shortVacant r) (a .frame .now) (c .before .before .before .before .before .before .before .before .pre ∙ sym (length-vacant r)) ∙ sym (ap (phyFrame (a .own) (a .p .0)) (c .before .before .before .before .before .f .given .1))
+
+returns-2 : tie.Need-returns-2
+returns-2 c =
+    let a = c .before .before .before .before .before .before .before .before .before .args in
+    let x = c .before .before .before .before .before .before .f2 .given .0 .0 in
+    c .before .before .put-discover .ensures ∙ ap (λ (d : Discover). atFront (shortDiscover d) (a .frame .now)) (c .before .before .before .discover-of .ensures)
+    ∙ front-whole (shortDiscover (discoverOf (a .own) (a .p .0) x)) (a .frame .now) (c .before .before .before .before .before .before .before .before .before .pre ∙ sym (length-discover (discoverOf (a .own) (a .p .0) x))) ∙ sym (ap (phyFrame (a .own) (a .p .0)) (c .before .before .before .before .before .before .f2 .given .1))
+
+enum-known-f : tie.Need-enum-known-f
+enum-known-f c = search needs
+
+put-vacant-requires : tie.Need-put-vacant-requires
+put-vacant-requires c κs = search needs
+
+enum-known-f-2 : tie.Need-enum-known-f-2
+enum-known-f-2 c = search needs
+
+discover-of-requires : tie.Need-discover-of-requires
+discover-of-requires c κs = search needs
+
+put-discover-requires : tie.Need-put-discover-requires
+put-discover-requires c κs = search needs
+
+same-length-2 : tie.Need-same-length-2
+same-length-2 c = search needs
+
+pub put-phy-spec : {M : Type 1} → statement M
+put-phy-spec = tie.close (tie.spec enum-known-f put-vacant-requires enum-known-f-2 discover-of-requires put-discover-requires same-length returns same-length-2 returns-2)

@@ -1,0 +1,6 @@
+pub mod Card
+pub mod CardRead
+pub mod FileOf
+pub mod KeptBytes
+pub mod Calls
+pub mod Walks

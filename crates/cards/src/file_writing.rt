@@ -1,0 +1,134 @@
+// Writes the file of a domain in rows: short frames, every ignored byte and bit zero.
+use crate::Made;
+use crate::refusals;
+use wiring::Discover;
+use wiring::ExpanderNumber;
+use wiring::General;
+use wiring::Phy;
+use wiring::PhyFields;
+use wiring::PhyId;
+ghost use mathlib.Core.Path.{_≡_};
+ghost use mathlib.Core.List.{_++_};
+ghost use Prim.Native.Nat.{_+_, _*_, _≤_, _<_};
+ghost use lib.ListN.{length, drop};
+ghost use lib.Seq.{sets};
+ghost use Rattle.wiring.specs.Domain.{expanderAt};
+ghost use Rattle.wiring.specs.Rows.{domainIn};
+ghost use Rattle.cards.specs.FileOf.{discoverOf, phyFrame, physFrames, unitHead, unitsOf, fileOf};
+ghost use Rattle.cards.specs.Calls.{fileFor, MadeDone};
+
+// The fields of the DISCOVER response of phy p, which is not vacant, of the expander with address `own`.
+fn discover_of(own: u64, p: PhyId, x: PhyFields) -> Discover
+    ensures { λ r. ⌜ r ≡ discoverOf own (p .0) x ⌝ }
+{
+    let far = x.far;
+    Discover {
+        identifier: p,
+        device: x.device,
+        own: own,
+        attached: x.address,
+        far: far,
+        attribute: x.attribute,
+    }
+}
+
+// Writes the DISCOVER response of phy p of the expander with address `own` into 52 bytes.
+fn put_phy(frame: &mut [u8], own: u64, p: PhyId, f: Phy)
+    requires { ⌜ length (now frame) ≡ 52 ⌝ }
+    ensures { λ _. ⌜ now (frame .exit) ≡ phyFrame own (p .0) f ⌝ }
+{
+    match f {
+        Phy::Vacant(result) => {
+            wiring::put_vacant(frame, result);
+        }
+        Phy::Present(x) => {
+            wiring::put_discover(frame, discover_of(own, p, x));
+        }
+    }
+}
+
+// Writes expander i's address and its REPORT GENERAL response from byte `to` on.
+fn put_head(file: &mut [u8], to: usize, rows: &[u64], i: ExpanderNumber)
+    requires { ⌜ (to < 1000000) × (to + 36 ≤ length (now file)) ⌝ }
+    ensures { λ _. ⌜ now (file .exit) ≡ sets (now (file .entry)) to (unitHead (expanderAt (domainIn (now (rows .entry))) (i .0))) ⌝ }
+{
+    let g = General {
+        indexes: wiring::index_count(rows, i),
+        phys: wiring::phy_count(rows, i),
+        configurable: wiring::configurable_bit(rows, i),
+    };
+    let m = to + 8;
+    let e = to + 36;
+    wiring::put_address(&mut file[to..m], wiring::expander_address(rows, i));
+    wiring::put_general(&mut file[m..e], g);
+}
+
+// Writes the DISCOVER responses of expander i's phys from byte `to` on.
+fn put_frames(file: &mut [u8], to: usize, rows: &[u64], i: ExpanderNumber)
+    requires { ⌜ (to < 1000000) × (to + 52 * length (expanderAt (domainIn (now rows)) (i .0) .phys) ≤ length (now file)) ⌝ }
+    ensures { λ _. ⌜ now (file .exit) ≡ sets (now (file .entry)) to (physFrames (expanderAt (domainIn (now (rows .entry))) (i .0) .address) 0 (expanderAt (domainIn (now (rows .entry))) (i .0) .phys)) ⌝ }
+{
+    let own = wiring::expander_address(rows, i);
+    let n = wiring::phy_count(rows, i);
+    let mut p: u8 = 0;
+    while p < n {
+        let f = wiring::phy_at(rows, i, PhyId(p));
+        let a = to + 52 * (p as usize);
+        let e = a + 52;
+        put_phy(&mut file[a..e], own, PhyId(p), f);
+        p += 1;
+    }
+}
+
+// Writes the units of all expanders from byte 2 on.
+fn put_units(file: &mut [u8], rows: &[u64])
+    requires { ⌜ 2 + length (unitsOf (domainIn (now rows))) ≤ length (now file) ⌝ }
+    ensures { λ _. ⌜ now (file .exit) ≡ sets (now (file .entry)) 2 (unitsOf (domainIn (now (rows .entry)))) ⌝ }
+{
+    let n = wiring::expander_count(rows);
+    let mut to: usize = 2;
+    let mut i: u8 = 0;
+    while i < n {
+        let x = ExpanderNumber(i);
+        put_head(file, to, rows, x);
+        put_frames(file, to + 36, rows, x);
+        to += 36 + 52 * (wiring::phy_count(rows, x) as usize);
+        i += 1;
+    }
+}
+
+// How many bytes the file of a domain has.
+fn file_size(rows: &[u64]) -> usize
+    ensures { λ r. ⌜ (r ≡ length (fileOf (domainIn (now (rows .entry))))) × (r ≤ 430000) ⌝ }
+{
+    let n = wiring::expander_count(rows);
+    let mut size: usize = 2;
+    let mut i: u8 = 0;
+    while i < n {
+        size += 36 + 52 * (wiring::phy_count(rows, ExpanderNumber(i)) as usize);
+        i += 1;
+    }
+    size
+}
+
+// Writes the file of a domain at the front of bytes that have room for it. The bytes after stay.
+fn put_file(file: &mut [u8], rows: &[u64])
+    requires { ⌜ length (fileOf (domainIn (now rows))) ≤ length (now file) ⌝ }
+    ensures { λ _. ⌜ now (file .exit) ≡ fileOf (domainIn (now (rows .entry))) ++ drop (length (fileOf (domainIn (now (rows .entry))))) (now (file .entry)) ⌝ }
+{
+    file[0] = 0x10;
+    file[1] = wiring::expander_count(rows);
+    put_units(file, rows);
+}
+
+// The file of the domain in rows, where it fits: 16 otherwise. The bytes after it stay, and all of them where it is refused.
+pub fn file_of_rows(rows: &[u64], file: &mut [u8]) -> Made
+    ensures { λ r. ⌜ MadeDone (fileFor (length (now (file .entry))) (domainIn (now (rows .entry)))) r (now (file .entry)) (now (file .exit)) ⌝ }
+{
+    let size = file_size(rows);
+    if file.len() < size {
+        return refusals::made_refused(16);
+    }
+    put_file(file, rows);
+    Made::Bytes(size)
+}

@@ -1,0 +1,32 @@
+// Refusals of the calls.
+use crate::Made;
+use wiring::ExpanderNumber;
+use wiring::PhyId;
+use wiring::PhysCheck;
+use wiring::Refusal;
+ghost use mathlib.Core.Path.{_≡_};
+ghost use Rattle.frames.specs.Refusals.{refused, refusal};
+ghost use Rattle.wiring.specs.Units.{physAnswer};
+ghost use Rattle.cards.specs.Calls.{madeAnswer};
+
+// Number k, with place 0, 0.
+pub(crate) fn made_refused(k: u8) -> Made
+    ensures { λ r. ⌜ madeAnswer r ≡ refused (refusal k 0 0) ⌝ }
+{
+    Made::Refused(Refusal {
+        number: k,
+        expander: ExpanderNumber(0),
+        phy: PhyId(0),
+    })
+}
+
+// 6 at phy p of expander i.
+pub(crate) fn phys_refused(i: ExpanderNumber, p: u8) -> PhysCheck
+    ensures { λ r. ⌜ physAnswer r ≡ refused (refusal 6 (i .0) p) ⌝ }
+{
+    PhysCheck::Refused(Refusal {
+        number: 6,
+        expander: i,
+        phy: PhyId(p),
+    })
+}
