@@ -9,9 +9,6 @@ use std::path::Path;
 fn main() {
     println!("cargo:rerun-if-changed=build.rs");
     println!("cargo:rerun-if-env-changed=METZURGO_LIB_DIR");
-    if env::var_os("CARGO_FEATURE_STUB").is_some() {
-        return;
-    }
     let given = env::var("METZURGO_LIB_DIR").unwrap_or_else(|_| "../../target/staticlib".into());
     let crate_dir = env::var("CARGO_MANIFEST_DIR").expect("set by cargo");
     let dir = Path::new(&crate_dir).join(given);

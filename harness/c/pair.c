@@ -1,6 +1,7 @@
 /*
  * Runs the pair rig of document 01 through the C interface: prints its route
- * table and one trace. Exits with 1 where an answer is not the expected one.
+ * table and some traces, with a route switched off and on among them, and loads the
+ * table into a shelf. Exits with 1 where an answer is not the expected one.
  *
  *     cc -o pair pair.c -L<archive directory> -lexports
  */
@@ -49,33 +50,89 @@ static void expect(const char *what, uint64_t expected, uint64_t got)
     }
 }
 
+/* A shelf of the two phys of expander 0 obeys the frames of its table. */
+static void load_shelf(const uint64_t *words, const uint8_t *bits)
+{
+    const uint8_t kinds[2] = { METZURGO_SHELF_TABLE, METZURGO_SHELF_OTHER };
+    uint64_t shelf[METZURGO_SHELF_SIZE / 8] = { 0 }, before[METZURGO_SHELF_SIZE / 8];
+    uint8_t frame[40] = { 0 };
+
+    expect("shelf_size", METZURGO_SHELF_SIZE, metzurgo_shelf_size());
+    expect("shelf_fresh, three kinds", METZURGO_REFUSED + 3 * 65536,
+           metzurgo_shelf_fresh(shelf, 3, 4, kinds, 2));
+    expect("shelf_disabled, no phys", 2, metzurgo_shelf_disabled(shelf, 0, 0));
+    expect("shelf_fresh", 0, metzurgo_shelf_fresh(shelf, 2, 4, kinds, 2));
+    for (uint16_t index = 0; index < 4; index++) {
+        expect("shelf_disabled, fresh", 1, metzurgo_shelf_disabled(shelf, 0, index));
+        metzurgo_write_route(frame, 40, 0x09, 0, index, words[index],
+                             METZURGO_DISABLED(bits, index));
+        expect("shelf_obey", METZURGO_SMP_FUNCTION_ACCEPTED,
+               metzurgo_shelf_obey(shelf, frame, 40));
+    }
+    for (uint16_t index = 0; index < 4; index++) {
+        expect("shelf_entry", words[index], metzurgo_shelf_entry(shelf, 0, index));
+        expect("shelf_disabled", METZURGO_DISABLED(bits, index),
+               metzurgo_shelf_disabled(shelf, 0, index));
+    }
+    memcpy(before, shelf, sizeof shelf);
+    frame[7] = 4;
+    expect("shelf_obey, index 4", METZURGO_INDEX_DOES_NOT_EXIST,
+           metzurgo_shelf_obey(shelf, frame, 40));
+    frame[9] = 2;
+    expect("shelf_obey, phy 2", METZURGO_PHY_DOES_NOT_EXIST,
+           metzurgo_shelf_obey(shelf, frame, 40));
+    expect("shelf_obey, no frame", METZURGO_REFUSED + 1 * 65536,
+           metzurgo_shelf_obey(shelf, NULL, 0));
+    expect("shelf_fresh, no kinds", METZURGO_REFUSED + 3 * 65536,
+           metzurgo_shelf_fresh(shelf, 0, 4, NULL, 0));
+    expect("shelf after these", 0, memcmp(before, shelf, sizeof shelf) != 0);
+}
+
 /* A slice of length 0 may be NULL in every call. */
 static void empty_slices(void)
 {
     const uint64_t cut = METZURGO_REFUSED + 1 * 65536;
     const uint64_t room = METZURGO_REFUSED + 16 * 65536;
+    const uint64_t no_bits = METZURGO_REFUSED + 18 * 65536;
     const size_t size = sizeof pair_rig;
     uint64_t words[4] = { 0 };
+    uint8_t bits[1] = { 0 };
     uint8_t passed[2];
 
     expect("wire, no file", cut, metzurgo_wire(WIDEST, NULL, 0, NULL, 0));
     expect("wire, no words", room,
            metzurgo_wire(WIDEST, pair_rig, size, NULL, 0));
-    expect("tables, no file", cut, metzurgo_tables(WIDEST, NULL, 0, NULL, 0));
+    expect("tables, no file", cut,
+           metzurgo_tables(WIDEST, NULL, 0, NULL, 0, NULL, 0));
     expect("tables, no words", room,
-           metzurgo_tables(WIDEST, pair_rig, size, NULL, 0));
+           metzurgo_tables(WIDEST, pair_rig, size, NULL, 0, bits, 1));
+    expect("tables, no disable bits", no_bits,
+           metzurgo_tables(WIDEST, pair_rig, size, words, 4, NULL, 0));
+    expect("tables, no words and no disable bits", room,
+           metzurgo_tables(WIDEST, pair_rig, size, NULL, 0, NULL, 0));
     expect("trace, no file", cut,
-           metzurgo_trace(WIDEST, NULL, 0, NULL, 0, 0, 255, A1, NULL, 0));
-    expect("trace, no words", room,
-           metzurgo_trace(WIDEST, pair_rig, size, NULL, 0, 0, 255, A1, passed,
-                          2));
-    expect("trace, no bytes", room,
-           metzurgo_trace(WIDEST, pair_rig, size, words, 4, 0, 255, A1, NULL,
+           metzurgo_trace(WIDEST, NULL, 0, NULL, 0, NULL, 0, 0, 255, A1, NULL,
                           0));
+    expect("trace, no words", room,
+           metzurgo_trace(WIDEST, pair_rig, size, NULL, 0, bits, 1, 0, 255, A1,
+                          passed, 2));
+    expect("trace, no bytes", room,
+           metzurgo_trace(WIDEST, pair_rig, size, words, 4, bits, 1, 0, 255, A1,
+                          NULL, 0));
+    expect("trace, no disable bits", no_bits,
+           metzurgo_trace(WIDEST, pair_rig, size, words, 4, NULL, 0, 0, 255, A1,
+                          passed, 2));
+    expect("trace, no words and no disable bits", room,
+           metzurgo_trace(WIDEST, pair_rig, size, NULL, 0, NULL, 0, 0, 255, A1,
+                          passed, 2));
+    expect("trace, no disable bits and address 0", no_bits,
+           metzurgo_trace(WIDEST, pair_rig, size, words, 4, NULL, 0, 0, 255, 0,
+                          passed, 2));
     expect("write_route, no bytes", room,
-           metzurgo_write_route(NULL, 0, 0, 0, 0, A1));
+           metzurgo_write_route(NULL, 0, 0, 0, 0, A1, 0));
     expect("read_route, no frame", cut, metzurgo_read_route(NULL, 0));
-    expect("read_route_entry, no frame", 0, metzurgo_read_route_entry(NULL, 0));
+    expect("read_route_address, no frame", 0,
+           metzurgo_read_route_address(NULL, 0));
     expect("read_general, no frame", cut, metzurgo_read_general(NULL, 0));
     expect("read_general_sas2, no frame", cut,
            metzurgo_read_general_sas2(NULL, 0));
@@ -90,11 +147,57 @@ static void empty_slices(void)
         [20] = 1, [38] = 0x41, [39] = 0x10, [54] = 0x50, [61] = 0x10, [82] = 2,
     };
     expect("tables of no words", UINT64_C(1) << 32,
-           metzurgo_tables(WIDEST, wordless, sizeof wordless, NULL, 0));
+           metzurgo_tables(WIDEST, wordless, sizeof wordless, NULL, 0, NULL,
+                           0));
     expect("trace over no words", (1 << 24) + 255 * 256 + 1,
-           metzurgo_trace(WIDEST, wordless, sizeof wordless, NULL, 0, 0, 255,
-                          A1,
-                          passed, 1));
+           metzurgo_trace(WIDEST, wordless, sizeof wordless, NULL, 0, NULL, 0,
+                          0, 255, A1, passed, 1));
+}
+
+/* Traces a request on the pair rig, over its four words, and prints its end. */
+static uint64_t trace(const uint64_t *words, const uint8_t *bits, uint8_t start,
+                      uint8_t arrival, uint64_t address, uint8_t *passed)
+{
+    static const char *const outcomes[] = {
+        "arrived", "NO DESTINATION", "BAD DESTINATION",
+    };
+    uint64_t answer = metzurgo_trace(WIDEST, pair_rig, sizeof pair_rig, words,
+                                     4, bits, METZURGO_BIT_BYTES(4), start,
+                                     arrival, address, passed, 3);
+    if (answer >> 24 < 3) {
+        printf("%s at %u, phy %u, passed:", outcomes[answer >> 24],
+               (unsigned)(answer >> 16 & 0xff), (unsigned)(answer >> 8 & 0xff));
+        for (unsigned count = 0; count < (answer & 0xff) && count < 3; count++)
+            printf(" %u", passed[count]);
+        printf("\n");
+    }
+    return answer;
+}
+
+/* Entry 0, the route from expander 0 to B1h, switched off and on again. */
+static void switch_route(const uint64_t *words, uint8_t *bits)
+{
+    uint8_t passed[3] = { 9, 9, 9 };
+    expect("entry 0, switched on", 0, METZURGO_DISABLED(bits, 0));
+    expect("entry 3, zero", 1, METZURGO_DISABLED(bits, 3));
+    METZURGO_DISABLE(bits, 0);
+    expect("bits, entry 0 switched off", 0xf0, bits[0]);
+    expect("entry 0, switched off", 1, METZURGO_DISABLED(bits, 0));
+    expect("trace, entry 0 switched off", (1 << 24) + 255 * 256 + 1,
+           trace(words, bits, 0, 255, B1, passed));
+    expect("expander passed", 0, passed[0]);
+    expect("byte after that", 9, passed[1]);
+    METZURGO_ENABLE(bits, 0);
+    expect("bits, entry 0 switched on", 0x70, bits[0]);
+    expect("trace, entry 0 switched on", 1 * 65536 + 1 * 256 + 2,
+           trace(words, bits, 0, 255, B1, passed));
+    expect("bytes of the bits of 0 words", 0, METZURGO_BIT_BYTES(0));
+    expect("bytes of the bits of 8 words", 1, METZURGO_BIT_BYTES(8));
+    expect("bytes of the bits of 9 words", 2, METZURGO_BIT_BYTES(9));
+    METZURGO_ENABLE(bits, 6 + 7);
+    expect("bits, word 13 switched on", 0xfb, bits[1]);
+    METZURGO_DISABLE(bits, 6 + 7);
+    expect("bits, word 13 switched off", 0xff, bits[1]);
 }
 
 int main(void)
@@ -129,10 +232,19 @@ int main(void)
     expect("a setting with a limit above 255", 0, METZURGO_SETTING(2, 259, 2));
     expect("the widest setting", 64 * 65536 + 128 * 256 + 64, METZURGO_WIDEST);
 
+    uint8_t bits[2] = { 0xff, 0xff };
     expect("tables, 3 words", METZURGO_REFUSED + 16 * 65536,
-           metzurgo_tables(WIDEST, pair_rig, sizeof pair_rig, words, 3));
-    answer = metzurgo_tables(WIDEST, pair_rig, sizeof pair_rig, words, 5);
+           metzurgo_tables(WIDEST, pair_rig, sizeof pair_rig, words, 3, bits,
+                           2));
+    expect("tables, 0 bytes of disable bits", METZURGO_REFUSED + 18 * 65536,
+           metzurgo_tables(WIDEST, pair_rig, sizeof pair_rig, words, 5, bits,
+                           0));
+    expect("bits after a refusal", 0xff, bits[0]);
+    answer = metzurgo_tables(WIDEST, pair_rig, sizeof pair_rig, words, 5, bits,
+                             2);
     expect("tables", (UINT64_C(1) << 32) + 4, answer);
+    expect("disable bits", 0x70, bits[0]);
+    expect("byte after the disable bits", 0xff, bits[1]);
     expect("entry 0", B1, words[0]);
     expect("entry 1", 0, words[1]);
     expect("entry 2", 0, words[2]);
@@ -145,32 +257,27 @@ int main(void)
 
     /* B1h's phy (expander 1 phy 1) to A1h (expander 0 phy 1). */
     uint8_t passed[3] = { 9, 9, 9 };
-    answer = metzurgo_trace(WIDEST, pair_rig, sizeof pair_rig, words, 5, 1, 1,
-                            A1,
-                            passed, 3);
-    expect("trace", 0 * 65536 + 1 * 256 + 2, answer);
+    expect("trace", 0 * 65536 + 1 * 256 + 2,
+           trace(words, bits, 1, 1, A1, passed));
     expect("first expander passed", 1, passed[0]);
     expect("second expander passed", 0, passed[1]);
     expect("byte after those passed", 9, passed[2]);
-    static const char *const outcomes[] = {
-        "arrived", "NO DESTINATION", "BAD DESTINATION",
-    };
-    if (answer >> 24 < 3) {
-        printf("%s at %u, phy %u, passed:", outcomes[answer >> 24],
-               (unsigned)(answer >> 16 & 0xff), (unsigned)(answer >> 8 & 0xff));
-        for (unsigned count = 0; count < (answer & 0xff) && count < 3; count++)
-            printf(" %u", passed[count]);
-        printf("\n");
+    switch_route(words, bits);
+
+    /* The loading frame of entry 0, switched off and on, written and read back. */
+    uint8_t frame[41];
+    for (uint8_t disabled = 0; disabled < 2; disabled++) {
+        memset(frame, 9, sizeof frame);
+        expect("write_route", 40,
+               metzurgo_write_route(frame, 41, 0x09, 0, 0, words[0], disabled));
+        expect("byte 12 of the frame", disabled ? 0x80 : 0x00, frame[12]);
+        expect("byte after the frame", 9, frame[40]);
+        expect("read_route", ((uint64_t)disabled << 32) + (0x09 << 24),
+               metzurgo_read_route(frame, 40));
+        expect("read_route_address", B1, metzurgo_read_route_address(frame, 40));
     }
 
-    /* The loading frame of entry 0, written and read back. */
-    uint8_t frame[41];
-    memset(frame, 9, sizeof frame);
-    expect("write_route", 40,
-           metzurgo_write_route(frame, 41, 0x09, 0, 0, words[0]));
-    expect("byte after the frame", 9, frame[40]);
-    expect("read_route", 0x09 << 24, metzurgo_read_route(frame, 40));
-    expect("read_route_entry", B1, metzurgo_read_route_entry(frame, 40));
+    load_shelf(words, bits);
 
     /* Frames inside the file. */
     expect("read_general", 4 * 65536 + 2 * 256 + 1,

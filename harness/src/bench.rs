@@ -76,13 +76,18 @@ pub fn run() {
     for case in &cases {
         let mut words = vec![0; words_needed(case)];
         let mut other = words.clone();
+        let mut bits = vec![0; words.len().div_ceil(8)];
+        let mut other_bits = bits.clone();
         let mut passed = vec![0; 64];
         let file = &case.file[..];
 
         // Both must answer alike before they are timed.
         let judged = agree(case, "judge", |calls| calls.judge(WIDEST, file));
-        let written = Archive.tables(WIDEST, file, &mut words);
-        if written != Fast.tables(WIDEST, file, &mut other) || words != other {
+        let written = Archive.tables(WIDEST, file, &mut words, &mut bits);
+        if written != Fast.tables(WIDEST, file, &mut other, &mut other_bits)
+            || words != other
+            || bits != other_bits
+        {
             fail(case, "tables");
         }
         let (start, arrival) = case.start;
@@ -91,6 +96,7 @@ pub fn run() {
                 WIDEST,
                 file,
                 &words,
+                &bits,
                 start,
                 arrival,
                 case.address,
@@ -126,8 +132,8 @@ pub fn run() {
         );
         row(
             "tables",
-            measure(|| Archive.tables(WIDEST, black_box(file), &mut words)),
-            measure(|| Fast.tables(WIDEST, black_box(file), &mut other)),
+            measure(|| Archive.tables(WIDEST, black_box(file), &mut words, &mut bits)),
+            measure(|| Fast.tables(WIDEST, black_box(file), &mut other, &mut other_bits)),
         );
         let mut trace = |calls: &dyn Calls| {
             measure(|| {
@@ -135,6 +141,7 @@ pub fn run() {
                     WIDEST,
                     black_box(file),
                     &words,
+                    &bits,
                     start,
                     arrival,
                     case.address,
@@ -148,7 +155,10 @@ pub fn run() {
         "The time is the shortest of all calls within {LONG_ENOUGH:?}; a slow call is made 3 times, \
          or fewer when these take {TOO_LONG:?}."
     );
-    println!("No buffer was cleared between calls; the table call writes all its words each time.");
+    println!(
+        "No buffer was cleared between calls; the table call writes all its words and disable \
+         bits each time."
+    );
     println!(
         "The stack is in bytes, from the top of a stack painted before the call down to the lowest \
          word that it changed; a call that does nothing changes {}.",
@@ -159,7 +169,8 @@ pub fn run() {
 
 fn words_needed(case: &Case) -> usize {
     let mut room = vec![0; 8_000_000];
-    let answer = Fast.tables(WIDEST, &case.file, &mut room);
+    let mut bits = vec![0; 1_000_000];
+    let answer = Fast.tables(WIDEST, &case.file, &mut room, &mut bits);
     if answer >> 63 == 1 {
         fail(case, "tables");
     }

@@ -2,27 +2,39 @@
 //!
 //!     judge                                       expanders 2
 //!     wire WORDS                                  bits 2
-//!     tables WORDS                                tables 1 entries 4
-//!     trace START ARRIVAL ADDRESS [words WORDS] [bytes BYTES]
-//!                                                 arrived 1 1 count 2
+//!     tables WORDS [bits BYTES]                   tables 1 entries 4
+//!     trace START ARRIVAL ADDRESS [words WORDS] [bits BYTES] [bytes BYTES]
+//!           [disable ENTRY] [enable ENTRY]        arrived 1 1 count 2
 //!                                                 NO DESTINATION 0 count 2
 //!                                                 BAD DESTINATION 1 count 1
+//!     card_of_file [bytes BYTES]                  bytes 64
+//!     file_of_card CARD [bytes BYTES]             bytes 334
 //!
 //! Before the call may stand `setting EXPANDERS PHYS CHAIN`; without it the
-//! setting is 64 128 64. WORDS and BYTES are the lengths of the lent buffers. A trace goes over the
-//! words that the table call gives for the file; without lengths the buffers are
-//! as long as needed. A second line has the words written, or the expanders
-//! passed. A refusal is the line `refused` with number, expander and phy.
+//! setting is 64 128 64. WORDS and BYTES are the lengths of the lent buffers:
+//! table words, `bits` disable bits, `bytes` expanders passed. A trace goes over the
+//! words and bits that the table call gives for the file. An ENTRY is
+//! EXPANDER.PHY.INDEX; `disable` sets its bit before the trace, `enable` clears it,
+//! as often as they stand there and in that order. Without lengths the buffers are
+//! as long as needed, the bits of the table call as long as WORDS need. A CARD is in
+//! hexadecimal; `file_of_card` reads it in place of the file. Further lines have the
+//! words and the bits written, the expanders passed, or the card or file made. A
+//! refusal is the line `refused` with number, expander and phy.
 
 use crate::calls::Calls;
-use crate::compare::{Difference, Lent};
+use crate::compare::{hex, Difference, Lent};
 use crate::generate::WIDEST;
+use crate::reference;
+use metzurgo::{LONGEST_CARD, LONGEST_CARD_FILE};
 
 /// The most words that the table call is lent for a trace.
 const MOST_WORDS: usize = 1 << 24;
 
-const USAGE: &str = "[setting EXPANDERS PHYS CHAIN] judge | wire WORDS | tables WORDS | \
-                     trace START ARRIVAL ADDRESS [words WORDS] [bytes BYTES]";
+const USAGE: &str = "[setting EXPANDERS PHYS CHAIN] judge | wire WORDS | \
+                     tables WORDS [bits BYTES] | trace START ARRIVAL ADDRESS [words WORDS] \
+                     [bits BYTES] [bytes BYTES] [disable EXPANDER.PHY.INDEX] \
+                     [enable EXPANDER.PHY.INDEX] | card_of_file [bytes BYTES] | \
+                     file_of_card CARD [bytes BYTES]";
 
 pub enum Failed {
     /// The words do not state a call.
@@ -67,70 +79,194 @@ fn under(subject: &dyn Calls, setting: u32, file: &[u8], call: &[&str]) -> Resul
             Ok(format!("bits {answer}\n{}", list(&written)))
         }
         ["tables", length] => {
-            let mut lent = Lent::new(number(length)?, || 0x7777_7777_7777_7777);
-            let before = lent.after(&[]);
-            let answer = subject.tables(setting, file, lent.part());
-            if let Some(refused) = refusal(answer) {
-                lent.check(|| "tables".into(), &before)?;
-                return Ok(refused);
-            }
-            let (tables, words) = (answer >> 32, answer & 0xffff_ffff);
-            let written = lent.written(|| "tables".into(), &before, words as usize)?;
-            Ok(format!(
-                "tables {tables} entries {words}\n{}",
-                list(&written)
-            ))
+            let length: usize = number(length)?;
+            tables(subject, setting, file, length, length.div_ceil(8))
         }
-        ["trace", start, arrival, address, ref lengths @ ..] => {
-            let (start, arrival) = (number(start)?, number(arrival)?);
-            let address = u64::from_str_radix(address, 16)
-                .map_err(|_| Failed::Usage(format!("not an address: {address}")))?;
-            let given = given_words(subject, setting, file);
-            let (mut words, mut bytes) = (given.len(), usize::from(*file.get(1).unwrap_or(&0)));
-            for pair in lengths.chunks(2) {
-                match *pair {
-                    ["words", length] => words = number(length)?,
-                    ["bytes", length] => bytes = number(length)?,
-                    _ => return Err(usage()),
-                }
-            }
-            let mut table_words = Lent::new(words, || 0);
-            for (word, given) in table_words.part().iter_mut().zip(&given) {
-                *word = *given;
-            }
-            let kept = table_words.after(&[]);
-            let mut passed = Lent::new(bytes, || 0x77);
-            let before = passed.after(&[]);
-            let answer = subject.trace(
-                setting,
-                file,
-                table_words.part(),
-                start,
-                arrival,
-                address,
-                passed.part(),
-            );
-            table_words.check(|| "trace, words".into(), &kept)?;
-            if let Some(refused) = refusal(answer) {
-                passed.check(|| "trace".into(), &before)?;
-                return Ok(refused);
-            }
-            let (last, phy, count) = (answer >> 16 & 0xff, answer >> 8 & 0xff, answer & 0xff);
-            let outcome = match (answer >> 24, phy) {
-                (0, _) => format!("arrived {last} {phy}"),
-                (1, 255) => format!("NO DESTINATION {last}"),
-                (2, 255) => format!("BAD DESTINATION {last}"),
-                (outcome, _) => format!("outcome {outcome} {last} {phy}"),
+        ["tables", length, "bits", bytes] => {
+            tables(subject, setting, file, number(length)?, number(bytes)?)
+        }
+        ["trace", start, arrival, address, ref rest @ ..] => {
+            let request = Request {
+                start: number(start)?,
+                arrival: number(arrival)?,
+                address: u64::from_str_radix(address, 16)
+                    .map_err(|_| Failed::Usage(format!("not an address: {address}")))?,
             };
-            let written = passed.written(|| "trace".into(), &before, count as usize)?;
-            let numbers: Vec<String> = written.iter().map(u8::to_string).collect();
-            Ok(format!(
-                "{outcome} count {count}\npassed {}",
-                numbers.join(" ")
-            ))
+            trace(subject, setting, file, request, rest)
+        }
+        ["card_of_file", ref rest @ ..] => {
+            let call = |room: &mut [u8]| subject.card_of_file(setting, file, room);
+            made("card", room(rest, LONGEST_CARD)?, call)
+        }
+        ["file_of_card", card, ref rest @ ..] => {
+            let card = bytes(card)?;
+            let call = |room: &mut [u8]| subject.file_of_card(setting, &card, room);
+            made("file", room(rest, LONGEST_CARD_FILE)?, call)
         }
         _ => Err(usage()),
     }
+}
+
+/// The bytes to lend that `rest` states, or so many.
+fn room(rest: &[&str], most: usize) -> Result<usize, Failed> {
+    match *rest {
+        [] => Ok(most),
+        ["bytes", length] => number(length),
+        _ => Err(usage()),
+    }
+}
+
+/// A call that makes a card or a file, with so many bytes lent.
+fn made(what: &str, length: usize, call: impl FnOnce(&mut [u8]) -> u64) -> Result<String, Failed> {
+    let mut lent = Lent::new(length, || 0x77);
+    let before = lent.after(&[]);
+    let answer = call(lent.part());
+    if let Some(refused) = refusal(answer) {
+        lent.check(|| what.into(), &before)?;
+        return Ok(refused);
+    }
+    let written = lent.written(|| what.into(), &before, answer as usize)?;
+    Ok(format!("bytes {answer}\n{what} {}", hex(&written)))
+}
+
+/// The bytes of hexadecimal digits.
+fn bytes(text: &str) -> Result<Vec<u8>, Failed> {
+    let pair = |at| u8::from_str_radix(text.get(at..at + 2)?, 16).ok();
+    (0..text.len())
+        .step_by(2)
+        .map(pair)
+        .collect::<Option<_>>()
+        .ok_or_else(|| Failed::Usage(format!("not bytes in hexadecimal: {text}")))
+}
+
+/// The table call with so many words and bytes of disable bits.
+fn tables(
+    subject: &dyn Calls,
+    setting: u32,
+    file: &[u8],
+    length: usize,
+    bytes: usize,
+) -> Result<String, Failed> {
+    let mut words = Lent::new(length, || 0x7777_7777_7777_7777);
+    let mut bits = Lent::new(bytes, || 0x77);
+    let before = (words.after(&[]), bits.after(&[]));
+    let answer = subject.tables(setting, file, words.part(), bits.part());
+    if let Some(refused) = refusal(answer) {
+        words.check(|| "tables".into(), &before.0)?;
+        bits.check(|| "tables, disable bits".into(), &before.1)?;
+        return Ok(refused);
+    }
+    let (tables, count) = (answer >> 32, (answer & 0xffff_ffff) as usize);
+    let words = words.written(|| "tables".into(), &before.0, count)?;
+    let bits = bits.written(
+        || "tables, disable bits".into(),
+        &before.1,
+        count.div_ceil(8),
+    )?;
+    let bits: Vec<String> = bits.iter().map(|byte| format!(" {byte:02x}")).collect();
+    Ok(format!(
+        "tables {tables} entries {count}\n{}\nbits{}",
+        list(&words),
+        bits.concat()
+    ))
+}
+
+struct Request {
+    start: u8,
+    arrival: u8,
+    address: u64,
+}
+
+/// A trace over what the table call gives, with the lengths and bits that `rest`
+/// states.
+fn trace(
+    subject: &dyn Calls,
+    setting: u32,
+    file: &[u8],
+    request: Request,
+    rest: &[&str],
+) -> Result<String, Failed> {
+    let (words, mut bits) = given(subject, setting, file);
+    let (mut length, mut bytes) = (words.len(), bits.len());
+    let mut room = usize::from(*file.get(1).unwrap_or(&0));
+    for pair in rest.chunks(2) {
+        match *pair {
+            ["words", number] => length = self::number(number)?,
+            ["bits", number] => bytes = self::number(number)?,
+            ["bytes", number] => room = self::number(number)?,
+            [switch @ ("disable" | "enable"), entry] => {
+                let word = word_of(setting, file, entry)?;
+                let byte = bits.get_mut(word / 8).ok_or_else(|| missing(entry))?;
+                match switch {
+                    "disable" => *byte |= 0x80 >> (word % 8),
+                    _ => *byte &= !(0x80 >> (word % 8)),
+                }
+            }
+            _ => return Err(usage()),
+        }
+    }
+    let mut words = lent_of(&words, length);
+    let mut bits = lent_of(&bits, bytes);
+    let mut passed = Lent::new(room, || 0x77);
+    let before = (words.after(&[]), bits.after(&[]), passed.after(&[]));
+    let answer = subject.trace(
+        setting,
+        file,
+        words.part(),
+        bits.part(),
+        request.start,
+        request.arrival,
+        request.address,
+        passed.part(),
+    );
+    words.check(|| "trace, words".into(), &before.0)?;
+    bits.check(|| "trace, disable bits".into(), &before.1)?;
+    if let Some(refused) = refusal(answer) {
+        passed.check(|| "trace".into(), &before.2)?;
+        return Ok(refused);
+    }
+    let (last, phy, count) = (answer >> 16 & 0xff, answer >> 8 & 0xff, answer & 0xff);
+    let outcome = match (answer >> 24, phy) {
+        (0, _) => format!("arrived {last} {phy}"),
+        (1, 255) => format!("NO DESTINATION {last}"),
+        (2, 255) => format!("BAD DESTINATION {last}"),
+        (outcome, _) => format!("outcome {outcome} {last} {phy}"),
+    };
+    let written = passed.written(|| "trace".into(), &before.2, count as usize)?;
+    let numbers: Vec<String> = written.iter().map(u8::to_string).collect();
+    Ok(format!(
+        "{outcome} count {count}\npassed {}",
+        numbers.join(" ")
+    ))
+}
+
+/// A buffer of some length to lend, with this content as far as it goes.
+fn lent_of<T: Copy + Default + PartialEq + std::fmt::Debug>(
+    content: &[T],
+    length: usize,
+) -> Lent<T> {
+    let mut lent = Lent::new(length, T::default);
+    for (place, &item) in lent.part().iter_mut().zip(content) {
+        *place = item;
+    }
+    lent
+}
+
+/// Where the entry EXPANDER.PHY.INDEX stands among the table words.
+fn word_of(setting: u32, file: &[u8], entry: &str) -> Result<usize, Failed> {
+    let parts: Vec<&str> = entry.split('.').collect();
+    let [expander, phy, index] = parts[..] else {
+        return Err(usage());
+    };
+    let place = (number(expander)?, number(phy)?);
+    reference::judged(setting, file)
+        .ok()
+        .and_then(|judged| judged.word_of(place, number(index).ok()?))
+        .ok_or_else(|| missing(entry))
+}
+
+fn missing(entry: &str) -> Failed {
+    Failed::Usage(format!("no such entry: {entry}"))
 }
 
 fn usage() -> Failed {
@@ -158,18 +294,21 @@ fn list(words: &[u64]) -> String {
     format!("words{}", words.concat())
 }
 
-/// The words of the table call; none where it refuses for another cause than 16.
-fn given_words(subject: &dyn Calls, setting: u32, file: &[u8]) -> Vec<u64> {
+/// The words and disable bits of the table call; none where it refuses for another
+/// cause than 16.
+fn given(subject: &dyn Calls, setting: u32, file: &[u8]) -> (Vec<u64>, Vec<u8>) {
     let mut length = 64;
     loop {
         let mut words = vec![0; length];
-        let answer = subject.tables(setting, file, &mut words);
+        let mut bits = vec![0; length / 8];
+        let answer = subject.tables(setting, file, &mut words, &mut bits);
         if answer >> 63 == 0 {
             words.truncate((answer & 0xffff_ffff) as usize);
-            return words;
+            bits.truncate(words.len().div_ceil(8));
+            return (words, bits);
         }
         if answer >> 16 & 0xff != 16 || length >= MOST_WORDS {
-            return Vec::new();
+            return (Vec::new(), Vec::new());
         }
         length *= 2;
     }

@@ -6,7 +6,9 @@ use std::fmt::{Debug, Write};
 use crate::calls::Calls;
 use crate::generate;
 use crate::random::Random;
-use crate::reference::{self, Discover, General, Judged, Outcome, Refusal, Route, Setting, Trace};
+use crate::reference::{
+    self, Discover, General, Judged, Outcome, Refusal, Route, Setting, Step, Trace,
+};
 use crate::traces::Traces;
 
 /// Bytes or words kept before and behind each lent buffer.
@@ -48,8 +50,24 @@ pub struct Counts {
     pub wired_files: u64,
     pub frames: u64,
     pub outcomes: [u64; 3],
+    /// Traces that end otherwise than over the tables given, by a disable bit.
+    pub switched: u64,
     pub longest_trace: u64,
     pub largest_file: u64,
+    pub shelves: u64,
+    pub shelf_frames: u64,
+    /// Function results of shelves, in the order of `shelves::RESULTS`.
+    pub shelf_results: [u64; 4],
+    /// What a fresh shelf cannot be told (3).
+    pub shelf_refusals: u64,
+    /// Files that have a card, and cards that were spoiled.
+    pub cards: u64,
+    pub spoiled_cards: u64,
+    /// Steps by their rule, (i) to (v), and those that are BAD DESTINATION.
+    pub rules: [u64; 5],
+    pub bad_steps: u64,
+    /// Traces followed by steps.
+    pub walks: u64,
 }
 
 impl Counts {
@@ -61,6 +79,20 @@ impl Counts {
         self.untraced_files += other.untraced_files;
         self.wired_files += other.wired_files;
         self.frames += other.frames;
+        self.switched += other.switched;
+        self.shelves += other.shelves;
+        self.cards += other.cards;
+        self.spoiled_cards += other.spoiled_cards;
+        self.shelf_frames += other.shelf_frames;
+        self.shelf_refusals += other.shelf_refusals;
+        for (sum, more) in self.shelf_results.iter_mut().zip(other.shelf_results) {
+            *sum += more;
+        }
+        self.bad_steps += other.bad_steps;
+        self.walks += other.walks;
+        for (sum, more) in self.rules.iter_mut().zip(other.rules) {
+            *sum += more;
+        }
         for (sum, more) in self.refusals.iter_mut().zip(other.refusals) {
             *sum += more;
         }
@@ -79,6 +111,11 @@ impl Counts {
         if answer >> 63 == 1 {
             self.refusals[(answer >> 16 & 0xff) as usize] += 1;
         }
+    }
+
+    pub fn step(&mut self, step: &Step) {
+        self.rules[usize::from(step.rule) - 1] += 1;
+        self.bad_steps += step.bad as u64;
     }
 
     pub fn trace(&mut self, trace: &Trace) {
@@ -186,75 +223,61 @@ pub fn same(what: impl FnOnce() -> String, expected: u64, got: u64) -> Result<()
     })
 }
 
-/// All calls that take a file, under a setting.
-pub fn check_file(
-    subject: &dyn Calls,
-    setting: u32,
-    file: &[u8],
-    random: &mut Random,
-    counts: &mut Counts,
-) -> Result<(), Difference> {
-    let lent = Lent::of(file);
-    let kept = lent.after(&[]);
-    let check = Check {
-        subject,
-        setting,
-        file: lent.read(),
-    };
-    counts.largest_file = counts.largest_file.max(file.len() as u64);
-
-    let wired = reference::wired(setting, file);
-    check.wire(&wired, random, counts)?;
-    let judged = wired.and_then(|domain| domain.judge(Setting::read(setting)?));
-    check.judge(&judged, counts)?;
-    match &judged {
-        Err(refusal) => check.refused(*refusal, random, counts)?,
-        Ok(judged) => {
-            check.tables(judged, random, counts)?;
-            Traces::of(subject, setting, lent.read(), judged, random).check(random, counts)?;
-        }
-    }
-    lent.check(|| "the file".into(), &kept)
-}
-
-/// The calls under another setting, without traces of an accepted file.
-pub fn check_other(
-    subject: &dyn Calls,
-    setting: u32,
-    file: &[u8],
-    random: &mut Random,
-    counts: &mut Counts,
-) -> Result<(), Difference> {
-    // Files are counted under one setting only.
-    let mut other = Counts::default();
-    let check = Check {
-        subject,
-        setting,
-        file,
-    };
-    let wired = reference::wired(setting, file);
-    check.wire(&wired, random, &mut other)?;
-    let judged = wired.and_then(|domain| domain.judge(Setting::read(setting)?));
-    check.judge(&judged, &mut other)?;
-    match &judged {
-        Err(refusal) => check.refused(*refusal, random, &mut other)?,
-        Ok(judged) if judged.needed < 10_000 => check.tables(judged, random, &mut other)?,
-        Ok(_) => (),
-    }
-    counts.calls += other.calls;
-    for (sum, more) in counts.refusals.iter_mut().zip(other.refusals) {
-        *sum += more;
-    }
-    Ok(())
-}
-
-struct Check<'a> {
-    subject: &'a dyn Calls,
-    setting: u32,
-    file: &'a [u8],
+/// The calls that take a file, under a setting.
+pub struct Check<'a> {
+    pub subject: &'a dyn Calls,
+    pub setting: u32,
+    pub file: &'a [u8],
 }
 
 impl Check<'_> {
+    /// All of them.
+    pub fn whole(&self, random: &mut Random, counts: &mut Counts) -> Result<(), Difference> {
+        counts.largest_file = counts.largest_file.max(self.file.len() as u64);
+        if let Some(judged) = self.answers(MOST_WORDS, random, counts)? {
+            let Check {
+                subject,
+                setting,
+                file,
+            } = *self;
+            Traces::of(subject, setting, file, &judged, random).check(random, counts)?;
+        }
+        Ok(())
+    }
+
+    /// Under another setting, without traces of an accepted file.
+    pub fn other(&self, random: &mut Random, counts: &mut Counts) -> Result<(), Difference> {
+        // Files are counted under one setting only.
+        let mut other = Counts::default();
+        self.answers(10_000, random, &mut other)?;
+        counts.calls += other.calls;
+        for (sum, more) in counts.refusals.iter_mut().zip(other.refusals) {
+            *sum += more;
+        }
+        Ok(())
+    }
+
+    /// All but traces of an accepted file, whose reading is given; tables of more
+    /// words than `most` are not written out.
+    fn answers(
+        &self,
+        most: usize,
+        random: &mut Random,
+        counts: &mut Counts,
+    ) -> Result<Option<Judged>, Difference> {
+        let wired = reference::wired(self.setting, self.file);
+        self.wire(&wired, random, counts)?;
+        let judged = wired.and_then(|domain| domain.judge(Setting::read(self.setting)?));
+        self.judge(&judged, counts)?;
+        self.word_places(&judged, &mut random.aside(), counts)?;
+        match &judged {
+            Err(refusal) => self.refused(*refusal, random, counts)?,
+            Ok(judged) if judged.needed <= most => self.tables(judged, random, counts)?,
+            Ok(judged) => self.too_long(judged, random, counts)?,
+        }
+        Ok(judged.ok())
+    }
+
     fn wire(
         &self,
         wired: &Result<reference::Domain, Refusal>,
@@ -307,10 +330,48 @@ impl Check<'_> {
         }
         counts.answer(expected);
         let got = self.subject.judge(self.setting, self.file);
-        same(|| "judge".into(), expected, got)
+        same(|| "judge".into(), expected, got)?;
+        let expected = match judged {
+            Ok(judged) => judged.table_answer(),
+            Err(refusal) => refusal.answer(),
+        };
+        counts.answer(expected);
+        let got = self.subject.needed(self.setting, self.file);
+        same(|| "needed".into(), expected, got)
     }
 
-    /// The table and trace calls on a file that is refused.
+    /// The places of table words: the first, the last, those at the borders of
+    /// tables, any, and numbers that no word has.
+    fn word_places(
+        &self,
+        judged: &Result<Judged, Refusal>,
+        random: &mut Random,
+        counts: &mut Counts,
+    ) -> Result<(), Difference> {
+        let mut numbers = vec![random.next() >> random.below(64), 0];
+        if let Ok(judged) = judged {
+            let needed = judged.needed as u64;
+            numbers.extend([needed, 1 << 63, (1 << 32) + random.next() % (needed + 1)]);
+            let borders = judged.borders();
+            let mut any = || random.pick(&borders) as u64;
+            if needed > 0 {
+                let (first, last) = (any(), any().saturating_sub(1));
+                numbers.extend([needed - 1, random.next() % needed, first, last]);
+            }
+        }
+        for k in numbers {
+            let expected = match judged {
+                Ok(judged) => judged.place_answer(k),
+                Err(refusal) => refusal.answer(),
+            };
+            counts.answer(expected);
+            let got = self.subject.word_place(self.setting, self.file, k);
+            same(|| format!("word_place {k}"), expected, got)?;
+        }
+        Ok(())
+    }
+
+    /// The table, trace and step calls on a file that is refused.
     fn refused(
         &self,
         refusal: Refusal,
@@ -319,22 +380,20 @@ impl Check<'_> {
     ) -> Result<(), Difference> {
         let length = random.pick(&[0, 1, 5, 40, 300]);
         let mut words = Lent::new(length, || random.next());
-        let after = words.after(&[]);
-        let expected = refusal.answer();
-        let got = self.subject.tables(self.setting, self.file, words.part());
-        counts.answer(expected);
-        same(|| format!("tables, {length} words"), expected, got)?;
-        words.check(|| "tables".into(), &after)?;
+        let mut bits = Lent::new(random.pick(&[0, 1, 5, 40]), || random.byte());
+        self.table_call(refusal.answer(), &mut words, &[], &mut bits, &[], counts)?;
 
         let start = random.pick(&[0, 0, 1, 63, 64, 255]);
         let arrival = random.pick(&[255, 255, 0, 1, 127, 128]);
         let address = (random.below(3) as u64).wrapping_mul(random.next());
         let mut passed = Lent::new(random.pick(&[0, 1, 3, 64, 70]), || random.byte());
-        let kept = passed.after(&[]);
+        let kept = (words.after(&[]), bits.after(&[]), passed.after(&[]));
+        let expected = refusal.answer();
         let got = self.subject.trace(
             self.setting,
             self.file,
-            words.part(),
+            words.read(),
+            bits.read(),
             start,
             arrival,
             address,
@@ -346,41 +405,110 @@ impl Check<'_> {
             expected,
             got,
         )?;
-        words.check(|| "trace, words".into(), &after)?;
-        passed.check(|| "trace, passed".into(), &kept)
+        passed.check(|| "trace, passed".into(), &kept.2)?;
+        let got = self.subject.step(
+            self.setting,
+            self.file,
+            words.read(),
+            bits.read(),
+            start,
+            arrival,
+            address,
+        );
+        counts.answer(expected);
+        same(
+            || {
+                format!(
+                    "step, {length} words, expander {start}, arrival {arrival}, {address:016x}h"
+                )
+            },
+            expected,
+            got,
+        )?;
+        words.check(|| "trace or step, words".into(), &kept.0)?;
+        bits.check(|| "trace or step, disable bits".into(), &kept.1)
     }
 
+    /// The table call with an expected answer, and what it is expected to write.
+    fn table_call(
+        &self,
+        expected: u64,
+        words: &mut Lent<u64>,
+        written: &[u64],
+        bits: &mut Lent<u8>,
+        written_bits: &[u8],
+        counts: &mut Counts,
+    ) -> Result<(), Difference> {
+        let after = (words.after(written), bits.after(written_bits));
+        let (length, bytes) = (words.read().len(), bits.read().len());
+        let what = || format!("tables, {length} words, {bytes} bytes of disable bits");
+        let got = self
+            .subject
+            .tables(self.setting, self.file, words.part(), bits.part());
+        counts.answer(expected);
+        same(what, expected, got)?;
+        words.check(|| format!("{}, words", what()), &after.0)?;
+        bits.check(|| format!("{}, disable bits", what()), &after.1)
+    }
+
+    /// Words and disable bits: exactly enough, one less, more, and none.
     fn tables(
         &self,
         judged: &Judged,
         random: &mut Random,
         counts: &mut Counts,
     ) -> Result<(), Difference> {
-        let needed = judged.needed;
-        let lengths = match needed <= MOST_WORDS {
-            true => vec![
-                0,
-                needed.saturating_sub(1),
-                needed,
-                needed + 1,
+        let (needed, needed_bits) = (judged.needed, judged.needed_bits());
+        let (less, less_bits) = (needed.saturating_sub(1), needed_bits.saturating_sub(1));
+        let words = judged.table_words();
+        let bits = reference::disable_bits(&words);
+        for (length, bytes) in [
+            (0, needed_bits),
+            (less, needed_bits + 1),
+            (less, less_bits),
+            (needed, 0),
+            (needed, less_bits),
+            (needed + 9, less_bits),
+            (needed, needed_bits),
+            (needed, needed_bits + 1),
+            (needed + 1, needed_bits),
+            (
                 needed + random.between(2, 20),
-            ],
-            false => vec![0, MOST_WORDS],
-        };
-        let words = match needed <= MOST_WORDS {
-            true => judged.table_words(),
-            false => Vec::new(),
-        };
-        for length in lengths {
+                needed_bits + random.between(2, 20),
+            ),
+        ] {
             let mut lent = Lent::new(length, || random.next());
-            let (expected, after) = match length < needed {
-                true => (refused(16), lent.after(&[])),
-                false => (judged.table_answer(), lent.after(&words)),
+            let mut lent_bits = Lent::new(bytes, || random.byte());
+            let (expected, written, written_bits) = if length < needed {
+                (refused(16), &[][..], &[][..])
+            } else if bytes < needed_bits {
+                (refused(18), &[][..], &[][..])
+            } else {
+                (judged.table_answer(), &words[..], &bits[..])
             };
-            let got = self.subject.tables(self.setting, self.file, lent.part());
-            counts.answer(expected);
-            same(|| format!("tables, {length} words"), expected, got)?;
-            lent.check(|| "tables".into(), &after)?;
+            self.table_call(
+                expected,
+                &mut lent,
+                written,
+                &mut lent_bits,
+                written_bits,
+                counts,
+            )?;
+        }
+        Ok(())
+    }
+
+    /// Fewer words than tables have that are too long to be written out.
+    fn too_long(
+        &self,
+        judged: &Judged,
+        random: &mut Random,
+        counts: &mut Counts,
+    ) -> Result<(), Difference> {
+        for length in [0, random.below(100), judged.needed.min(MOST_WORDS) - 1] {
+            let mut words = Lent::new(length, || random.next());
+            let mut bits = Lent::new(random.below(20), || random.byte());
+            self.table_call(refused(16), &mut words, &[], &mut bits, &[], counts)?;
         }
         Ok(())
     }
@@ -432,13 +560,13 @@ pub fn check_frame(
             subject.read_route(read),
         ),
         (
-            "read_route_entry",
-            route.map_or(0, |route| route.entry),
-            subject.read_route_entry(read),
+            "read_route_address",
+            route.map_or(0, |route| route.address),
+            subject.read_route_address(read),
         ),
     ];
     for (call, expected, got) in checks {
-        if !call.starts_with("discover") && call != "read_route_entry" {
+        if !call.starts_with("discover") && call != "read_route_address" {
             counts.answer(expected);
         }
         same(|| what(call), expected, got)?;
@@ -457,11 +585,17 @@ pub fn check_frame(
             _ => random.below(128) as u8,
         },
         index: random.next() as u16,
-        entry: match random.below(4) {
+        address: match random.below(4) {
             0 => 0,
             1 => 1 << random.below(64),
             _ => random.next(),
         },
+        disabled: random.chance(1, 2),
+    };
+    // Any value but 0 is a set bit.
+    let disabled = match route.disabled {
+        true => random.pick(&[1, 1, 2, 0x7f, 0x80, 255]),
+        false => 0,
     };
     let length = match random.below(5) {
         0 => random.below(40),
@@ -479,10 +613,11 @@ pub fn check_frame(
         route.length,
         route.phy,
         route.index,
-        route.entry,
+        route.address,
+        disabled,
     );
     counts.answer(expected);
-    let what = || format!("write_route of {route:x?}, {length} bytes");
+    let what = || format!("write_route of {route:x?} by {disabled}, {length} bytes");
     same(what, expected, got)?;
     buf.check(what, &after)?;
     if expected == 40 {
@@ -494,9 +629,9 @@ pub fn check_frame(
             subject.read_route(frame),
         )?;
         same(
-            || "read_route_entry of a written frame".into(),
-            route.entry,
-            subject.read_route_entry(frame),
+            || "read_route_address of a written frame".into(),
+            route.address,
+            subject.read_route_address(frame),
         )?;
     }
     Ok(())

@@ -2,6 +2,8 @@
 //! proved. The benchmark runs it beside the archive.
 
 use crate::calls::Calls;
+use crate::cards;
+use crate::shelves::Words;
 
 const VACANT: u8 = 0;
 const EMPTY: u8 = 1;
@@ -18,6 +20,13 @@ fn refusal(number: u64, expander: usize, phy: usize) -> u64 {
 
 fn be64(bytes: &[u8], at: usize) -> u64 {
     u64::from_be_bytes(bytes[at..at + 8].try_into().unwrap())
+}
+
+/// A bit for each word, set where it is zero, the last of them worth 1.
+fn zero_bits(words: &[u64]) -> u8 {
+    words
+        .iter()
+        .fold(0, |byte, &word| byte << 1 | u8::from(word == 0))
 }
 
 #[derive(Clone, Copy)]
@@ -451,9 +460,110 @@ impl Domain {
         }
         (tables, words)
     }
+
+    /// Where the words of each expander begin.
+    fn stretches(&self) -> [usize; 65] {
+        let mut stretch = [0usize; 65];
+        for x in 0..self.count {
+            let phys = self.of(x).iter();
+            let tables = phys.filter(|phy| phy.kind != VACANT && phy.attribute == TABLE);
+            stretch[x + 1] = stretch[x] + tables.count() * self.route_indexes[x];
+        }
+        stretch
+    }
+
+    /// Causes 16, 18 and 17.
+    fn test_lent(&self, words: &[u64], bits: &[u8], address: u64) -> Result<(), u64> {
+        let (_, needed) = self.tables();
+        if words.len() < needed {
+            return Err(refusal(16, 0, 0));
+        }
+        if bits.len() < needed.div_ceil(8) {
+            return Err(refusal(18, 0, 0));
+        }
+        match address {
+            0 => Err(refusal(17, 0, 0)),
+            _ => Ok(()),
+        }
+    }
+
+    /// The lowest phy that is attached to the address.
+    fn bearing(&self, at: usize, address: u64) -> Option<usize> {
+        let mut phys = self.of(at).iter();
+        phys.position(|phy| phy.is_attached() && phy.attached == address)
+    }
+
+    /// The lowest table phy attached to an expander with the address in a word that
+    /// is not disabled, and the first such word of it; `offset` is the expander's
+    /// first word.
+    fn listed(
+        &self,
+        at: usize,
+        address: u64,
+        words: &[u64],
+        bits: &[u8],
+        mut offset: usize,
+    ) -> Option<(usize, usize)> {
+        let r = self.route_indexes[at];
+        for (number, phy) in self.of(at).iter().enumerate() {
+            if phy.kind == VACANT || phy.attribute != TABLE {
+                continue;
+            }
+            let stretch = offset..offset + r;
+            if phy.kind == EXPANDER && words[stretch.clone()].contains(&address) {
+                let enabled = |&k: &usize| bits[k / 8] << (k % 8) & 0x80 == 0;
+                let mut found = stretch.filter(|&k| words[k] == address);
+                if let Some(k) = found.find(enabled) {
+                    return Some((number, k - offset));
+                }
+            }
+            offset += r;
+        }
+        None
+    }
+
+    /// The lowest subtractive phy attached to an expander.
+    fn upward(&self, at: usize) -> Option<usize> {
+        let mut phys = self.of(at).iter();
+        phys.position(|phy| phy.kind == EXPANDER && phy.attribute == SUBTRACTIVE)
+    }
 }
 
 pub struct Fast;
+
+/// The bytes of a shelf.
+#[repr(C)]
+struct Shelf {
+    entries: [u64; 1024],
+    disabled: [u8; 1024],
+    kinds: [u8; 16],
+    indexes: u32,
+    phys: u32,
+}
+
+const _: () = assert!(size_of::<Shelf>() == size_of::<Words>());
+
+impl Shelf {
+    // Any bytes are a shelf, and words are aligned as it is.
+    fn at(words: &Words) -> &Shelf {
+        unsafe { &*words.as_ptr().cast() }
+    }
+
+    fn at_mut(words: &mut Words) -> &mut Shelf {
+        unsafe { &mut *words.as_mut_ptr().cast() }
+    }
+
+    fn result(&self, phy: u8, index: u16) -> u64 {
+        if u32::from(phy) >= self.phys.min(16) {
+            return 0x10;
+        }
+        match self.kinds[usize::from(phy)] {
+            0 => 0x16,
+            1 if u32::from(index) < self.indexes.min(64) => 0x00,
+            _ => 0x11,
+        }
+    }
+}
 
 impl Calls for Fast {
     fn name(&self) -> &'static str {
@@ -482,7 +592,37 @@ impl Calls for Fast {
         }
     }
 
-    fn tables(&self, setting: u32, file: &[u8], words: &mut [u64]) -> u64 {
+    fn needed(&self, setting: u32, file: &[u8]) -> u64 {
+        match Domain::judge(setting, file, |_, _, _| ()) {
+            Err(refused) => refused,
+            Ok(domain) => {
+                let (tables, words) = domain.tables();
+                (tables as u64) << 32 | words as u64
+            }
+        }
+    }
+
+    fn word_place(&self, setting: u32, file: &[u8], k: u64) -> u64 {
+        let domain = match Domain::judge(setting, file, |_, _, _| ()) {
+            Err(refused) => return refused,
+            Ok(domain) => domain,
+        };
+        let mut index = k;
+        for (place, phy) in domain.phys.iter().enumerate() {
+            let r = domain.route_indexes[phy.expander as usize] as u64;
+            if phy.kind == VACANT || phy.attribute != TABLE {
+                continue;
+            }
+            if index < r {
+                let (expander, number) = domain.place(place);
+                return (expander as u64) << 24 | (number as u64) << 16 | index;
+            }
+            index -= r;
+        }
+        refusal(15, 0, 0)
+    }
+
+    fn tables(&self, setting: u32, file: &[u8], words: &mut [u64], bits: &mut [u8]) -> u64 {
         let mut kept: Vec<u64> = Vec::new();
         let mut lists: Vec<(u8, u8, usize, usize)> = Vec::new();
         let domain = match Domain::judge(setting, file, |x, n, list| {
@@ -495,6 +635,9 @@ impl Calls for Fast {
         let (tables, needed) = domain.tables();
         if words.len() < needed {
             return refusal(16, 0, 0);
+        }
+        if bits.len() < needed.div_ceil(8) {
+            return refusal(18, 0, 0);
         }
         let mut at = 0;
         let mut next_list = 0;
@@ -521,6 +664,13 @@ impl Calls for Fast {
                 at += domain.route_indexes[x];
             }
         }
+        let (whole, rest) = words[..needed].split_at(needed / 8 * 8);
+        for (byte, words) in bits.iter_mut().zip(whole.chunks_exact(8)) {
+            *byte = zero_bits(words);
+        }
+        if !rest.is_empty() {
+            bits[needed / 8] = zero_bits(rest) << (8 - rest.len());
+        }
         (tables as u64) << 32 | needed as u64
     }
 
@@ -529,6 +679,7 @@ impl Calls for Fast {
         setting: u32,
         file: &[u8],
         words: &[u64],
+        bits: &[u8],
         start: u8,
         arrival: u8,
         address: u64,
@@ -549,23 +700,13 @@ impl Calls for Fast {
                 _ => return refusal(15, 0, 0),
             }
         }
-        let (_, needed) = domain.tables();
-        if passed.len() < domain.count || words.len() < needed {
+        if passed.len() < domain.count {
             return refusal(16, 0, 0);
         }
-        if address == 0 {
-            return refusal(17, 0, 0);
+        if let Err(refused) = domain.test_lent(words, bits, address) {
+            return refused;
         }
-        // Where the words of each expander begin.
-        let mut stretch = [0usize; 65];
-        for x in 0..domain.count {
-            let tables = domain
-                .of(x)
-                .iter()
-                .filter(|phy| phy.kind != VACANT && phy.attribute == TABLE)
-                .count();
-            stretch[x + 1] = stretch[x] + tables * domain.route_indexes[x];
-        }
+        let stretch = domain.stretches();
         let mut count = 0;
         let end = |outcome: u64, last: usize, phy: usize, count: usize| {
             outcome << 24 | (last as u64) << 16 | (phy as u64) << 8 | count as u64
@@ -577,45 +718,94 @@ impl Calls for Fast {
                 return end(0, at, 255, count);
             }
             let phys = domain.of(at);
-            let mut picked = phys
-                .iter()
-                .position(|phy| phy.is_attached() && phy.attached == address);
-            if picked.is_none() {
-                let r = domain.route_indexes[at];
-                let mut offset = stretch[at];
-                for (number, phy) in phys.iter().enumerate() {
-                    if phy.kind == VACANT || phy.attribute != TABLE {
-                        continue;
-                    }
-                    if phy.kind == EXPANDER && words[offset..offset + r].contains(&address) {
-                        picked = Some(number);
-                        break;
-                    }
-                    offset += r;
-                }
-            }
+            let picked = domain.bearing(at, address).or_else(|| {
+                let listed = domain.listed(at, address, words, bits, stretch[at]);
+                listed.map(|(number, _)| number)
+            });
             let moved = match picked {
                 Some(number) if phys[number].attached == source => return end(2, at, 255, count),
                 Some(number) if phys[number].kind == END_DEVICE => {
                     return end(0, at, number, count)
                 }
                 Some(number) => &phys[number],
-                None => {
-                    let upward = phys
-                        .iter()
-                        .find(|phy| phy.kind == EXPANDER && phy.attribute == SUBTRACTIVE);
-                    match upward {
-                        Some(phy) if phy.attached != source => phy,
-                        _ => return end(1, at, 255, count),
-                    }
-                }
+                None => match domain.upward(at) {
+                    Some(number) if phys[number].attached != source => &phys[number],
+                    _ => return end(1, at, 255, count),
+                },
             };
             source = domain.address[at];
             at = moved.device as usize;
         }
     }
 
-    fn write_route(&self, buf: &mut [u8], length: u8, phy: u8, index: u16, entry: u64) -> u64 {
+    fn step(
+        &self,
+        setting: u32,
+        file: &[u8],
+        words: &[u64],
+        bits: &[u8],
+        expander: u8,
+        arrival: u8,
+        address: u64,
+    ) -> u64 {
+        let domain = match Domain::judge(setting, file, |_, _, _| ()) {
+            Err(refused) => return refused,
+            Ok(domain) => domain,
+        };
+        let at = expander as usize;
+        if at >= domain.count {
+            return refusal(15, 0, 0);
+        }
+        let phys = domain.of(at);
+        let source = match phys.get(arrival as usize) {
+            _ if arrival == 255 => 0,
+            Some(phy) if phy.is_attached() => phy.attached,
+            _ => return refusal(15, 0, 0),
+        };
+        if let Err(refused) = domain.test_lent(words, bits, address) {
+            return refused;
+        }
+        if domain.address[at] == address {
+            return 0x01ff_ffff_ffff;
+        }
+        let bearing = domain.bearing(at, address).map(|number| (2, number, 65535));
+        let picked = bearing.or_else(|| {
+            let listed = domain.listed(at, address, words, bits, domain.stretches()[at]);
+            listed.map(|(number, index)| (3, number, index))
+        });
+        let upward = || {
+            let number = domain.upward(at)?;
+            (phys[number].attached != source).then_some((4, number, 65535))
+        };
+        let Some((rule, number, index)) = picked.or_else(upward) else {
+            return 0x05ff_ffff_ffff;
+        };
+        let phy = &phys[number];
+        let bad = phy.attached == source;
+        let next = match phy.kind {
+            EXPANDER if !bad => u64::from(phy.device) << 8 | u64::from(phy.attached_phy),
+            _ => 0xffff,
+        };
+        u64::from(bad) << 48 | rule << 40 | (number as u64) << 32 | (index as u64) << 16 | next
+    }
+
+    fn card_of_file(&self, setting: u32, file: &[u8], card: &mut [u8]) -> u64 {
+        cards::put(cards::card_of_file(setting, file), card)
+    }
+
+    fn file_of_card(&self, setting: u32, card: &[u8], file: &mut [u8]) -> u64 {
+        cards::put(cards::file_of_card(setting, card), file)
+    }
+
+    fn write_route(
+        &self,
+        buf: &mut [u8],
+        length: u8,
+        phy: u8,
+        index: u16,
+        address: u64,
+        disabled: u8,
+    ) -> u64 {
         if length != 0 && length != 9 {
             return refusal(2, 0, 0);
         }
@@ -631,8 +821,8 @@ impl Calls for Fast {
         buf[3] = length;
         buf[6..8].copy_from_slice(&index.to_be_bytes());
         buf[9] = phy;
-        buf[12] = if entry == 0 { 0x80 } else { 0 };
-        buf[16..24].copy_from_slice(&entry.to_be_bytes());
+        buf[12] = if disabled != 0 { 0x80 } else { 0 };
+        buf[16..24].copy_from_slice(&address.to_be_bytes());
         40
     }
 
@@ -646,14 +836,15 @@ impl Calls for Fast {
         if frame[9] > 127 {
             return refusal(15, 0, 0);
         }
-        u64::from(frame[3]) << 24
+        u64::from(frame[12] >> 7) << 32
+            | u64::from(frame[3]) << 24
             | u64::from(frame[9]) << 16
             | u64::from(frame[6]) << 8
             | u64::from(frame[7])
     }
 
-    fn read_route_entry(&self, frame: &[u8]) -> u64 {
-        if self.read_route(frame) >> 63 == 1 || frame[12] & 0x80 != 0 {
+    fn read_route_address(&self, frame: &[u8]) -> u64 {
+        if self.read_route(frame) >> 63 == 1 {
             0
         } else {
             be64(frame, 16)
@@ -720,6 +911,56 @@ impl Calls for Fast {
         match self.read_discover(frame) >> 62 {
             0 => be64(frame, 24),
             _ => 0,
+        }
+    }
+
+    fn shelf_fresh(&self, shelf: &mut Words, phys: u8, indexes: u16, kinds: &[u8]) -> u64 {
+        let count = usize::from(phys);
+        if count == 0 || count > 16 || indexes > 64 || kinds.len() != count {
+            return refusal(3, 0, 0);
+        }
+        if kinds.iter().any(|&kind| kind > 2) {
+            return refusal(3, 0, 0);
+        }
+        let shelf = Shelf::at_mut(shelf);
+        shelf.entries = [0; 1024];
+        shelf.disabled = [1; 1024];
+        shelf.kinds = [0; 16];
+        shelf.kinds[..count].copy_from_slice(kinds);
+        shelf.indexes = indexes.into();
+        shelf.phys = phys.into();
+        0
+    }
+
+    fn shelf_obey(&self, shelf: &mut Words, frame: &[u8]) -> u64 {
+        let read = self.read_route(frame);
+        if read >> 63 == 1 {
+            return read;
+        }
+        let shelf = Shelf::at_mut(shelf);
+        let (phy, index) = ((read >> 16) as u8, read as u16);
+        let result = shelf.result(phy, index);
+        if result == 0 {
+            let at = 64 * usize::from(phy) + usize::from(index);
+            shelf.entries[at] = be64(frame, 16);
+            shelf.disabled[at] = (read >> 32) as u8;
+        }
+        result
+    }
+
+    fn shelf_entry(&self, shelf: &Words, phy: u8, index: u16) -> u64 {
+        let shelf = Shelf::at(shelf);
+        match shelf.result(phy, index) {
+            0 => shelf.entries[64 * usize::from(phy) + usize::from(index)],
+            _ => 0,
+        }
+    }
+
+    fn shelf_disabled(&self, shelf: &Words, phy: u8, index: u16) -> u64 {
+        let shelf = Shelf::at(shelf);
+        match shelf.result(phy, index) {
+            0 => u64::from(shelf.disabled[64 * usize::from(phy) + usize::from(index)] != 0),
+            _ => 2,
         }
     }
 }

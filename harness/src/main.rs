@@ -13,13 +13,16 @@
 mod bench;
 mod call;
 mod calls;
+mod cards;
 mod compare;
 mod fast;
 mod generate;
 mod layout;
 mod random;
 mod reference;
+mod shelves;
 mod stack;
+mod steps;
 mod traces;
 mod vectors;
 
@@ -34,7 +37,7 @@ use std::thread;
 use std::time::{Duration, Instant};
 
 use calls::{Archive, Calls};
-use compare::{Counts, Difference};
+use compare::{Check, Counts, Difference, Lent};
 use fast::Fast;
 use random::{file_seed, Random};
 use reference::Reference;
@@ -43,6 +46,8 @@ const THREADS: usize = 2;
 const FRAMES_PER_FILE: usize = 6;
 /// Settings under which a file is judged besides the one under which it is traced.
 const OTHER_SETTINGS: usize = 3;
+/// Files of which one has a shelf with it.
+const FILES_PER_SHELF: usize = 12;
 /// A file that takes longer than this is taken for a hang.
 const HANG: Duration = Duration::from_secs(300);
 
@@ -59,26 +64,14 @@ fn main() {
             let (files, seed) = numbers(rest);
             return run(&Fast, files, seed);
         }
-        _ if metzurgo::STUB => {
-            eprintln!("built without the archive (feature stub)");
-            exit(2);
-        }
-        Some((&"vectors", _)) => return archive_vectors(),
+        Some((&"vectors", _)) => return vectors(&Archive),
         Some((&"bench", _)) => return bench::run(),
         Some((&"call", [file, words @ ..])) => return call(&Archive, file, words),
         Some((&"one", [seed])) => return one(&Archive, number(seed)),
         _ => numbers(&words),
     };
-    archive_vectors();
-    run(&Archive, files, seed);
-}
-
-fn archive_vectors() {
     vectors(&Archive);
-    match vectors::typed() {
-        Ok(()) => println!("vectors: the typed answers of the Rust binding agree"),
-        Err(difference) => fail("vectors of the Rust binding", &difference),
-    }
+    run(&Archive, files, seed);
 }
 
 fn vectors(subject: &dyn Calls) {
@@ -142,17 +135,32 @@ fn check(subject: &dyn Calls, seed: u64, counts: &mut Counts) -> Result<&'static
         true => generate::WIDEST,
         false => generate::setting(&made.file, &mut random),
     };
-    compare::check_file(subject, setting, &made.file, &mut random, counts)
+    let lent = Lent::of(&made.file);
+    let kept = lent.after(&[]);
+    let under = |setting| Check {
+        subject,
+        setting,
+        file: lent.read(),
+    };
+    under(setting)
+        .whole(&mut random, counts)
         .map_err(|difference| difference.under(setting))
         .and_then(|()| {
             for _ in 0..OTHER_SETTINGS {
                 let setting = generate::setting(&made.file, &mut random);
-                compare::check_other(subject, setting, &made.file, &mut random, counts)
+                under(setting)
+                    .other(&mut random, counts)
                     .map_err(|difference| difference.under(setting))?;
             }
+            lent.check(|| "the file".into(), &kept)?;
             for _ in 0..FRAMES_PER_FILE {
                 compare::check_frame(subject, &mut random, counts)?;
             }
+            if random.chance(1, FILES_PER_SHELF) {
+                shelves::check(subject, &mut random, counts)?;
+            }
+            cards::check(subject, setting, &made.file, &mut random, counts)
+                .map_err(|difference| difference.under(setting))?;
             Ok(())
         })
         .map_err(|difference| Failure {
@@ -281,9 +289,28 @@ fn run(subject: &dyn Calls, files: u64, seed: u64) {
         "  traces: {} in all, {} arrived, {} NO DESTINATION, {} BAD DESTINATION, longest {} expanders",
         counts.outcomes.iter().sum::<u64>(), counts.outcomes[0], counts.outcomes[1], counts.outcomes[2], counts.longest_trace
     );
+    println!(
+        "  of these {} ended otherwise than over the tables given, by a disable bit",
+        counts.switched
+    );
+    println!(
+        "  shelves: {}, frames {}, not to be told (3): {}",
+        counts.shelves, counts.shelf_frames, counts.shelf_refusals
+    );
+    for (result, frames) in shelves::RESULTS.iter().zip(counts.shelf_results) {
+        println!("  function result {result:02x}h: {frames} frames");
+    }
+    println!(
+        "  cards: {} of files, {} spoiled",
+        counts.cards, counts.spoiled_cards
+    );
+    println!(
+        "  steps: {} in all, {} by (i), {} (ii), {} (iii), {} (iv), {} (v), {} BAD DESTINATION; {} traces followed by steps",
+        counts.rules.iter().sum::<u64>(), counts.rules[0], counts.rules[1], counts.rules[2], counts.rules[3], counts.rules[4], counts.bad_steps, counts.walks
+    );
     let mut missing = false;
     // 13 is withdrawn.
-    for number in (1..=12).chain(14..=17).chain(22..=23) {
+    for number in (1..=12).chain(14..=19).chain(22..=23) {
         let calls = counts.refusals[number];
         let files = counts.refused_files[number];
         match number {
@@ -300,6 +327,18 @@ fn run(subject: &dyn Calls, files: u64, seed: u64) {
     }
     if missing {
         println!("a refusal number was never reached");
+        exit(1);
+    }
+    if counts.shelf_refusals == 0 || counts.shelf_results.contains(&0) {
+        println!("a function result of a shelf, or its refusal 3, was never reached");
+        exit(1);
+    }
+    if counts.rules.contains(&0) || counts.bad_steps == 0 || counts.walks == 0 {
+        println!("a rule of a step was never reached");
+        exit(1);
+    }
+    if counts.switched == 0 {
+        println!("no request ended otherwise by a disable bit");
         exit(1);
     }
 }

@@ -17,6 +17,11 @@ impl Random {
         z ^ z >> 31
     }
 
+    /// Another sequence, which depends on this one and leaves it where it is.
+    pub fn aside(&self) -> Random {
+        Random::new(!self.state)
+    }
+
     pub fn byte(&mut self) -> u8 {
         self.next() as u8
     }

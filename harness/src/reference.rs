@@ -8,6 +8,8 @@ use std::collections::{BTreeMap, BTreeSet, HashMap, HashSet};
 use std::ops::Range;
 
 use crate::calls::Calls;
+use crate::cards;
+use crate::shelves::{self, Plain, Words};
 
 /// The answer "number, expander, phy".
 #[derive(Clone, Copy, Debug, PartialEq, Eq)]
@@ -18,7 +20,7 @@ pub struct Refusal {
 }
 
 impl Refusal {
-    fn of(number: u8, (expander, phy): Place) -> Refusal {
+    pub fn of(number: u8, (expander, phy): Place) -> Refusal {
         Refusal {
             number,
             expander,
@@ -38,9 +40,9 @@ impl Refusal {
 /// Expander number and phy number.
 pub type Place = (u8, u8);
 
-const NOWHERE: Place = (0, 0);
+pub const NOWHERE: Place = (0, 0);
 
-fn refuse(cause: bool, number: u8, place: Place) -> Result<(), Refusal> {
+pub fn refuse(cause: bool, number: u8, place: Place) -> Result<(), Refusal> {
     match cause {
         true => Err(Refusal::of(number, place)),
         false => Ok(()),
@@ -228,7 +230,8 @@ pub struct Route {
     pub length: u8,
     pub phy: u8,
     pub index: u16,
-    pub entry: u64,
+    pub address: u64,
+    pub disabled: bool,
 }
 
 impl Route {
@@ -242,9 +245,9 @@ impl Route {
         refuse(room < 40, 16, NOWHERE)?;
         let fields: HashMap<usize, u8> = [(0, 0x40), (1, 0x90), (3, self.length), (9, self.phy)]
             .into_iter()
-            .chain((self.entry == 0).then_some((12, 0x80)))
+            .chain(self.disabled.then_some((12, 0x80)))
             .chain((6..).zip(self.index.to_be_bytes()))
-            .chain((16..).zip(self.entry.to_be_bytes()))
+            .chain((16..).zip(self.address.to_be_bytes()))
             .collect();
         Ok((0..40)
             .map(|place| fields.get(&place).copied().unwrap_or(0))
@@ -260,16 +263,14 @@ impl Route {
             length: frame[3],
             phy: frame[9],
             index: number(&frame[6..=7]) as u16,
-            entry: match frame[12] >= 0x80 {
-                true => 0,
-                false => number(&frame[16..=23]),
-            },
+            address: number(&frame[16..=23]),
+            disabled: frame[12] >= 0x80,
         })
     }
 
-    /// What reading answers; the entry is asked for by itself.
+    /// What reading answers; the address is asked for by itself.
     pub fn answer(self) -> u64 {
-        let fields = [self.length, self.phy];
+        let fields = [u8::from(self.disabled), self.length, self.phy];
         number(&fields) * 65536 + u64::from(self.index)
     }
 }
@@ -630,7 +631,7 @@ impl Domain {
             left_out,
         };
         self.take_levels(
-            vec![Step {
+            vec![LevelExpander {
                 expander: n,
                 from: x,
             }],
@@ -640,7 +641,7 @@ impl Domain {
     }
 
     /// Takes the words of one level, then goes on with the next.
-    fn take_levels(&self, level: Vec<Step>, list: &mut LevelList) {
+    fn take_levels(&self, level: Vec<LevelExpander>, list: &mut LevelList) {
         if level.is_empty() {
             return;
         }
@@ -660,7 +661,7 @@ impl Domain {
                     .filter(|phy| !self.is_table_to_table(phy))
                     .filter_map(|phy| self.far_end(phy))
                     .filter(|far| far.0 != step.from)
-                    .map(|far| Step {
+                    .map(|far| LevelExpander {
                         expander: far.0,
                         from: step.expander,
                     })
@@ -770,7 +771,7 @@ fn reach(neighbours: &BTreeMap<u8, BTreeSet<u8>>, at: u8, reached: &mut HashSet<
 }
 
 /// An expander of a level and the expander of the level before that led to it.
-struct Step {
+struct LevelExpander {
     expander: u8,
     from: u8,
 }
@@ -886,6 +887,63 @@ impl Judged {
     pub fn table_answer(&self) -> u64 {
         self.tables() as u64 * 2u64.pow(32) + self.needed as u64
     }
+
+    /// The bytes of disable bits that the tables need.
+    pub fn needed_bits(&self) -> usize {
+        self.needed.div_ceil(8)
+    }
+
+    /// Where the entry of a table stands among the words of all tables.
+    pub fn word_of(&self, place: Place, index: usize) -> Option<usize> {
+        self.stretches.get(&place)?.clone().nth(index)
+    }
+
+    /// The table phy that a word of all tables belongs to, and its route index.
+    pub fn place_of(&self, word: u64) -> Option<(Place, u16)> {
+        let word = usize::try_from(word).ok()?;
+        self.stretches
+            .iter()
+            .find(|(_, stretch)| stretch.contains(&word))
+            .map(|(&place, stretch)| (place, (word - stretch.start) as u16))
+    }
+
+    /// What the call for the place of a word answers; cause 15 where there is no
+    /// such word.
+    pub fn place_answer(&self, word: u64) -> u64 {
+        match self.place_of(word) {
+            None => Refusal::of(15, NOWHERE).answer(),
+            Some(((expander, phy), index)) => number(&[expander, phy]) * 65536 + u64::from(index),
+        }
+    }
+
+    /// The words at which tables begin.
+    pub fn borders(&self) -> Vec<usize> {
+        self.stretches
+            .values()
+            .map(|stretch| stretch.start)
+            .collect()
+    }
+}
+
+/// The disable bits of table words as the table call gives them: set where the
+/// word is zero, eight to a byte, the first of them worth 128. Padding is clear.
+pub fn disable_bits(words: &[u64]) -> Vec<u8> {
+    let byte = |words: &[u64]| {
+        let weights = (0..8).map(|place| 2u8.pow(7 - place));
+        words
+            .iter()
+            .zip(weights)
+            .filter(|(&word, _)| word == 0)
+            .map(|(_, weight)| weight)
+            .sum()
+    };
+    words.chunks(8).map(byte).collect()
+}
+
+/// Is the word at this place of all table words disabled?
+fn is_disabled(bits: &[u8], place: usize) -> bool {
+    let weight = [128, 64, 32, 16, 8, 4, 2, 1][place % 8];
+    bits[place / 8] / weight % 2 == 1
 }
 
 // ---------------------------------------------------------------- tracing
@@ -922,126 +980,180 @@ impl Trace {
     }
 }
 
+/// What one expander does with a request, by one of the rules (i) to (v).
+#[derive(Clone, Copy, Debug, PartialEq, Eq)]
+pub struct Step {
+    /// 1 to 5 for (i) to (v).
+    pub rule: u8,
+    /// BAD DESTINATION.
+    pub bad: bool,
+    /// The phy picked.
+    pub phy: Option<u8>,
+    /// The route index of the entry that matched.
+    pub index: Option<u16>,
+    /// The expander to which the request moves on, and the arrival phy there.
+    pub next: Option<Place>,
+}
+
+impl Step {
+    /// A rule that picks no phy.
+    fn by(rule: u8) -> Step {
+        Step {
+            rule,
+            bad: false,
+            phy: None,
+            index: None,
+            next: None,
+        }
+    }
+
+    pub fn answer(&self) -> u64 {
+        let (expander, arrival) = self.next.unwrap_or((255, 255));
+        let picked = [u8::from(self.bad), self.rule, self.phy.unwrap_or(255)];
+        number(&picked) * 2u64.pow(32)
+            + u64::from(self.index.unwrap_or(65535)) * 2u64.pow(16)
+            + number(&[expander, arrival])
+    }
+
+    /// How a request ends that does not move on, and its phy.
+    fn end(&self) -> (Outcome, u8) {
+        match self.rule {
+            _ if self.bad => (Outcome::BadDestination, 255),
+            1 | 2 => (Outcome::Arrived, self.phy.unwrap_or(255)),
+            _ => (Outcome::NoDestination, 255),
+        }
+    }
+}
+
 /// Table words turned round: for an expander and an address, the lowest table
-/// phy attached to an expander that has the address in its stretch.
-pub struct Routes(HashMap<(u8, u64), u8>);
+/// phy attached to an expander that has the address in its stretch, in a word
+/// that is not disabled, and the lowest route index of such a word there.
+pub struct Routes(HashMap<(u8, u64), (u8, u16)>);
 
 impl Judged {
-    pub fn routes(&self, words: &[u64]) -> Routes {
+    pub fn routes(&self, words: &[u64], bits: &[u8]) -> Routes {
         let mut routes = HashMap::new();
         for (&place, stretch) in &self.stretches {
             let phy = self.domain.phy_at(place).expect("a table phy");
             if matches!(phy.attached, Attached::Expander(..)) {
-                for &word in &words[stretch.clone()] {
-                    routes.entry((place.0, word)).or_insert(place.1);
+                for (index, word) in (0..).zip(stretch.clone()) {
+                    if !is_disabled(bits, word) {
+                        let entry = routes.entry((place.0, words[word]));
+                        entry.or_insert((place.1, index));
+                    }
                 }
             }
         }
         Routes(routes)
     }
 
-    /// Causes 15 to 17.
+    /// Is there such an expander, and is the arrival phy 255 or of this kind?
+    fn may_come(&self, (expander, arrival): Place, kind: impl Fn(Attached) -> bool) -> bool {
+        let Some(expander) = self.domain.expanders.get(&expander) else {
+            return false;
+        };
+        let phy = expander.phys.get(&arrival);
+        arrival == 255 || phy.is_some_and(|phy| kind(phy.attached))
+    }
+
+    /// Causes 16, 18 and 17 for these lengths of words and disable bits.
+    fn test_lent(&self, words: usize, bits: usize, address: u64) -> Result<(), Refusal> {
+        refuse(words < self.needed, 16, NOWHERE)?;
+        refuse(bits < self.needed_bits(), 18, NOWHERE)?;
+        refuse(address == 0, 17, NOWHERE)
+    }
+
+    /// Causes 15, 16, 18 and 17. `words`, `bits` and `passed` are the lengths of
+    /// the lent buffers.
     pub fn test_request(
         &self,
         words: usize,
+        bits: usize,
         start: u8,
         arrival: u8,
         address: u64,
         passed: usize,
     ) -> Result<(), Refusal> {
-        let allowed = match self.domain.expanders.get(&start) {
-            None => false,
-            Some(_) if arrival == 255 => true,
-            Some(expander) => expander
-                .phys
-                .get(&arrival)
-                .is_some_and(|phy| matches!(phy.attached, Attached::EndDevice(_))),
-        };
-        refuse(!allowed, 15, NOWHERE)?;
-        refuse(
-            passed < self.expanders() || words < self.needed,
-            16,
-            NOWHERE,
-        )?;
-        refuse(address == 0, 17, NOWHERE)
+        let end_device = |attached| matches!(attached, Attached::EndDevice(_));
+        refuse(!self.may_come((start, arrival), end_device), 15, NOWHERE)?;
+        refuse(passed < self.expanders(), 16, NOWHERE)?;
+        self.test_lent(words, bits, address)
+    }
+
+    /// The same of a step, whose arrival phy may be attached to an expander too.
+    pub fn test_step(
+        &self,
+        words: usize,
+        bits: usize,
+        at: Place,
+        address: u64,
+    ) -> Result<(), Refusal> {
+        let anything = |attached| attached != Attached::Nothing;
+        refuse(!self.may_come(at, anything), 15, NOWHERE)?;
+        self.test_lent(words, bits, address)
     }
 
     pub fn trace(&self, routes: &Routes, start: u8, arrival: u8, address: u64) -> Trace {
-        let source = self
-            .domain
-            .phy_at((start, arrival))
-            .and_then(Phy::attached_address);
-        self.step(routes, start, source, address, Vec::new())
+        self.follow(routes, (start, arrival), address, Vec::new())
     }
 
-    /// The steps at one expander. `source` is the address at the arrival phy.
-    fn step(
-        &self,
-        routes: &Routes,
-        at: u8,
-        source: Option<u64>,
-        address: u64,
-        mut passed: Vec<u8>,
-    ) -> Trace {
-        passed.push(at);
-        let expander = &self.domain.expanders[&at];
-        let end = |outcome, phy, passed| Trace {
+    /// Goes on from an expander and its arrival phy.
+    fn follow(&self, routes: &Routes, at: Place, address: u64, mut passed: Vec<u8>) -> Trace {
+        passed.push(at.0);
+        let step = self.step(routes, at, address);
+        if let Some(next) = step.next {
+            return self.follow(routes, next, address, passed);
+        }
+        let (outcome, phy) = step.end();
+        Trace {
             outcome,
             phy,
             passed,
-        };
-        // (i)
-        if expander.address == address {
-            return end(Outcome::Arrived, 255, passed);
-        }
-        // (ii)
-        let bearing = expander
-            .phys
-            .iter()
-            .find(|(_, phy)| phy.attached_address() == Some(address));
-        // (iii)
-        let picked = bearing.or_else(|| {
-            let phy = routes.0.get(&(at, address))?;
-            expander.phys.get_key_value(phy)
-        });
-        if let Some((&number, phy)) = picked {
-            if phy.attached_address() == source {
-                return end(Outcome::BadDestination, 255, passed);
-            }
-            return match phy.attached {
-                Attached::EndDevice(_) => end(Outcome::Arrived, number, passed),
-                _ => self.move_on(routes, expander, phy, address, passed),
-            };
-        }
-        // (iv)
-        let upward = expander.phys.values().find(|phy| {
-            phy.attribute == Attribute::Subtractive
-                && matches!(phy.attached, Attached::Expander(..))
-        });
-        match upward {
-            Some(phy) if phy.attached_address() != source => {
-                self.move_on(routes, expander, phy, address, passed)
-            }
-            // (v)
-            _ => end(Outcome::NoDestination, 255, passed),
         }
     }
 
-    fn move_on(
-        &self,
-        routes: &Routes,
-        from: &Expander,
-        phy: &Phy,
-        address: u64,
-        passed: Vec<u8>,
-    ) -> Trace {
-        let (far, far_phy) = self.domain.far_end(phy).expect("attached to an expander");
-        let source = self
-            .domain
-            .phy_at((far, far_phy))
-            .and_then(Phy::attached_address);
-        debug_assert_eq!(source, Some(from.address));
-        self.step(routes, far, source, address, passed)
+    /// The steps at one expander, to which the request came over the arrival phy.
+    pub fn step(&self, routes: &Routes, at: Place, address: u64) -> Step {
+        let expander = &self.domain.expanders[&at.0];
+        // (i)
+        if expander.address == address {
+            return Step::by(1);
+        }
+        // The address at the arrival phy.
+        let source = self.domain.phy_at(at).and_then(Phy::attached_address);
+        let picks = |rule, number, index| {
+            let phy = &expander.phys[&number];
+            let bad = phy.attached_address() == source;
+            Step {
+                rule,
+                bad,
+                phy: Some(number),
+                index,
+                next: self.domain.far_end(phy).filter(|_| !bad),
+            }
+        };
+        let lowest = |kind: &dyn Fn(&Phy) -> bool| {
+            let mut phys = expander.phys.iter();
+            phys.find(|(_, phy)| kind(phy)).map(|(&number, _)| number)
+        };
+        // (ii)
+        if let Some(phy) = lowest(&|phy| phy.attached_address() == Some(address)) {
+            return picks(2, phy, None);
+        }
+        // (iii)
+        if let Some(&(phy, index)) = routes.0.get(&(at.0, address)) {
+            return picks(3, phy, Some(index));
+        }
+        // (iv)
+        let upward = lowest(&|phy| {
+            phy.attribute == Attribute::Subtractive
+                && matches!(phy.attached, Attached::Expander(..))
+        });
+        match upward.map(|phy| picks(4, phy, None)) {
+            Some(step) if !step.bad => step,
+            // (v)
+            _ => Step::by(5),
+        }
     }
 }
 
@@ -1084,10 +1196,21 @@ impl Calls for Reference {
         answer(judged(setting, file).map(|judged| judged.expanders() as u64))
     }
 
-    fn tables(&self, setting: u32, file: &[u8], words: &mut [u64]) -> u64 {
+    fn needed(&self, setting: u32, file: &[u8]) -> u64 {
+        answer(judged(setting, file).map(|judged| judged.table_answer()))
+    }
+
+    fn word_place(&self, setting: u32, file: &[u8], k: u64) -> u64 {
+        answer(judged(setting, file).map(|judged| judged.place_answer(k)))
+    }
+
+    fn tables(&self, setting: u32, file: &[u8], words: &mut [u64], bits: &mut [u8]) -> u64 {
         answer(judged(setting, file).and_then(|judged| {
             refuse(words.len() < judged.needed, 16, NOWHERE)?;
-            words[..judged.needed].copy_from_slice(&judged.table_words());
+            refuse(bits.len() < judged.needed_bits(), 18, NOWHERE)?;
+            let given = judged.table_words();
+            words[..judged.needed].copy_from_slice(&given);
+            bits[..judged.needed_bits()].copy_from_slice(&disable_bits(&given));
             Ok(judged.table_answer())
         }))
     }
@@ -1097,25 +1220,62 @@ impl Calls for Reference {
         setting: u32,
         file: &[u8],
         words: &[u64],
+        bits: &[u8],
         start: u8,
         arrival: u8,
         address: u64,
         passed: &mut [u8],
     ) -> u64 {
         answer(judged(setting, file).and_then(|judged| {
-            judged.test_request(words.len(), start, arrival, address, passed.len())?;
-            let trace = judged.trace(&judged.routes(words), start, arrival, address);
+            let (words_len, bits_len) = (words.len(), bits.len());
+            judged.test_request(words_len, bits_len, start, arrival, address, passed.len())?;
+            let trace = judged.trace(&judged.routes(words, bits), start, arrival, address);
             passed[..trace.passed.len()].copy_from_slice(&trace.passed);
             Ok(trace.answer())
         }))
     }
 
-    fn write_route(&self, buf: &mut [u8], length: u8, phy: u8, index: u16, entry: u64) -> u64 {
+    fn step(
+        &self,
+        setting: u32,
+        file: &[u8],
+        words: &[u64],
+        bits: &[u8],
+        expander: u8,
+        arrival: u8,
+        address: u64,
+    ) -> u64 {
+        answer(judged(setting, file).and_then(|judged| {
+            let at = (expander, arrival);
+            judged.test_step(words.len(), bits.len(), at, address)?;
+            let routes = judged.routes(words, bits);
+            Ok(judged.step(&routes, at, address).answer())
+        }))
+    }
+
+    fn card_of_file(&self, setting: u32, file: &[u8], card: &mut [u8]) -> u64 {
+        cards::put(cards::card_of_file(setting, file), card)
+    }
+
+    fn file_of_card(&self, setting: u32, card: &[u8], file: &mut [u8]) -> u64 {
+        cards::put(cards::file_of_card(setting, card), file)
+    }
+
+    fn write_route(
+        &self,
+        buf: &mut [u8],
+        length: u8,
+        phy: u8,
+        index: u16,
+        address: u64,
+        disabled: u8,
+    ) -> u64 {
         let route = Route {
             length,
             phy,
             index,
-            entry,
+            address,
+            disabled: disabled != 0,
         };
         answer(route.write(buf.len()).map(|frame| {
             buf[..40].copy_from_slice(&frame);
@@ -1127,8 +1287,8 @@ impl Calls for Reference {
         answer(Route::read(frame).map(Route::answer))
     }
 
-    fn read_route_entry(&self, frame: &[u8]) -> u64 {
-        Route::read(frame).map_or(0, |route| route.entry)
+    fn read_route_address(&self, frame: &[u8]) -> u64 {
+        Route::read(frame).map_or(0, |route| route.address)
     }
 
     fn read_general(&self, frame: &[u8]) -> u64 {
@@ -1149,5 +1309,33 @@ impl Calls for Reference {
 
     fn discover_attached(&self, frame: &[u8]) -> u64 {
         Discover::addresses(frame).1
+    }
+
+    fn shelf_fresh(&self, shelf: &mut Words, phys: u8, indexes: u16, kinds: &[u8]) -> u64 {
+        answer(Plain::fresh(phys, indexes, kinds).map(|_| {
+            shelves::put_fresh(shelf, phys, indexes, kinds);
+            0
+        }))
+    }
+
+    fn shelf_obey(&self, shelf: &mut Words, frame: &[u8]) -> u64 {
+        let read = Route::read(frame);
+        answer(Plain::of(shelf).obey(frame).map(|result| {
+            if let (0x00, Ok(route)) = (result, read) {
+                let (address, disabled) = (route.address, route.disabled);
+                shelves::put_entry(shelf, route.phy, route.index, address, disabled);
+            }
+            result.into()
+        }))
+    }
+
+    fn shelf_entry(&self, shelf: &Words, phy: u8, index: u16) -> u64 {
+        let entry = Plain::of(shelf).entry(phy, index);
+        entry.map_or(0, |(address, _)| address)
+    }
+
+    fn shelf_disabled(&self, shelf: &Words, phy: u8, index: u16) -> u64 {
+        let entry = Plain::of(shelf).entry(phy, index);
+        entry.map_or(2, |(_, disabled)| disabled.into())
     }
 }

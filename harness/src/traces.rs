@@ -1,18 +1,20 @@
-//! Traces of one accepted file: which requests are taken, over which words, and
-//! each call compared with the reference.
+//! Traces of one accepted file: which requests are taken, over which words and
+//! disable bits, and each call compared with the reference.
 //!
 //! A file with few requests is traced whole: from every expander and every phy at
 //! an end device to every address of the domain and to some that nobody bears,
-//! over each content of the words. A sample takes every start and every address
-//! over the tables given and over other words, and random requests besides.
+//! over each content of words and bits. A sample takes every start and every
+//! address over the tables given and over other words and bits, and random
+//! requests besides.
 
 use std::collections::{BTreeSet, HashSet};
 use std::fmt::Write;
 
 use crate::calls::Calls;
-use crate::compare::{same, Counts, Difference, Lent, MOST_WORDS};
+use crate::compare::{hex, same, Counts, Difference, Lent, MOST_WORDS};
 use crate::random::Random;
-use crate::reference::{Attached, Judged, Outcome, Routes, Trace};
+use crate::reference::{self, Attached, Judged, Outcome, Routes, Trace};
+use crate::steps::Steps;
 
 /// A file with more requests than this is traced by a sample.
 const MOST_REQUESTS: usize = 4_000;
@@ -20,25 +22,29 @@ const MOST_REQUESTS: usize = 4_000;
 /// Random requests in a sample, beside those that take every start and address.
 const MORE_REQUESTS: usize = 500;
 
-/// Words lent beyond those needed, at most.
-const MORE_WORDS: usize = 7;
+/// Words, and bytes of disable bits, lent beyond those needed, at most.
+const MORE: usize = 7;
+
+/// So many words are looked at after each trace, with their bits; more of them
+/// after all traces over them.
+const FEW_WORDS: usize = 2_000;
 
 /// Requests in and out of range for each file.
 const WILD: usize = 12;
 
 #[derive(Clone, Copy, PartialEq, Eq, Hash)]
-struct Request {
-    start: u8,
-    arrival: u8,
-    address: u64,
+pub struct Request {
+    pub start: u8,
+    pub arrival: u8,
+    pub address: u64,
 }
 
 /// Starts and addresses for the traces of one domain.
-struct Requests {
+pub struct Requests {
     /// Start expander and arrival phy.
     starts: Vec<(u8, u8)>,
     /// Addresses of the domain first, then some that nobody bears.
-    addresses: Vec<u64>,
+    pub addresses: Vec<u64>,
     borne: usize,
 }
 
@@ -90,7 +96,7 @@ impl Requests {
         }
     }
 
-    fn any(&self, random: &mut Random) -> Request {
+    pub fn any(&self, random: &mut Random) -> Request {
         Requests::at(random.pick(&self.starts), random.pick(&self.addresses))
     }
 
@@ -188,7 +194,20 @@ impl Requests {
 }
 
 impl Request {
-    fn text(&self) -> String {
+    /// Whatever words and bits hold, a request passes no expander twice.
+    fn check_passed(&self, trace: &Trace) -> Result<(), Difference> {
+        let once: BTreeSet<_> = trace.passed.iter().collect();
+        if once.len() == trace.passed.len() {
+            return Ok(());
+        }
+        Err(Difference {
+            what: format!("the reference, {}", self.text()),
+            expected: "no expander twice".into(),
+            got: format!("{trace:?}"),
+        })
+    }
+
+    pub fn text(&self) -> String {
         format!(
             "start {}, arrival {}, {:016x}h",
             self.start, self.arrival, self.address
@@ -196,46 +215,70 @@ impl Request {
     }
 }
 
-/// What the words hold that a trace reads.
+/// What the words and disable bits hold that a trace reads.
 #[derive(Clone, Copy, PartialEq)]
-enum Content {
+pub enum Content {
     Given,
-    SomeChanged,
+    WordsChanged,
+    BitsChanged,
     Other,
 }
 
-/// Words to trace over, and the reference's routes over them, unless they are
-/// fewer than needed.
-struct Words {
-    lent: Lent<u64>,
-    kept: Vec<u64>,
-    routes: Option<Routes>,
-    content: Content,
+/// The lengths of the buffers that a trace is lent.
+#[derive(Clone, Copy)]
+pub struct Lengths {
+    pub words: usize,
+    pub bits: usize,
+    pub passed: usize,
 }
 
-impl Words {
-    fn of(lent: Lent<u64>, content: Content, judged: &Judged) -> Words {
-        let enough = lent.read().len() >= judged.needed;
-        Words {
-            kept: lent.after(&[]),
-            routes: enough.then(|| judged.routes(lent.read())),
-            lent,
+/// Words and disable bits to trace over, and the reference's routes over them,
+/// unless they are fewer than needed.
+pub struct Tables {
+    pub words: Lent<u64>,
+    pub bits: Lent<u8>,
+    kept: (Vec<u64>, Vec<u8>),
+    pub routes: Option<Routes>,
+    pub content: Content,
+}
+
+impl Tables {
+    fn of(words: Lent<u64>, bits: Lent<u8>, content: Content, judged: &Judged) -> Tables {
+        let enough =
+            words.read().len() >= judged.needed && bits.read().len() >= judged.needed_bits();
+        Tables {
+            kept: (words.after(&[]), bits.after(&[])),
+            routes: enough.then(|| judged.routes(words.read(), bits.read())),
+            words,
+            bits,
             content,
         }
     }
 
-    fn check(&self) -> Result<(), Difference> {
-        self.lent.check(|| "trace, words".into(), &self.kept)
+    pub fn check(&self) -> Result<(), Difference> {
+        let what = |lent: &str| format!("{lent} of a trace or step");
+        self.words.check(|| what("words"), &self.kept.0)?;
+        self.bits.check(|| what("disable bits"), &self.kept.1)
     }
 
-    /// The words in hexadecimal, cut where there are many.
-    fn text(&self, length: usize) -> String {
-        let mut text = format!("{length} words");
-        if self.content == Content::Given {
-            return text + " of the tables given";
+    /// Words and bits in hexadecimal, cut where there are many.
+    pub fn text(&self, lengths: Lengths) -> String {
+        let mut text = format!("{} words", lengths.words);
+        let given = self.content == Content::Given;
+        if given {
+            text += " of the tables given";
+        } else {
+            for (place, word) in self.words.read()[..lengths.words]
+                .iter()
+                .take(600)
+                .enumerate()
+            {
+                let _ = write!(text, "{} {word:016x}", if place == 0 { ":" } else { "" });
+            }
         }
-        for (place, word) in self.lent.read()[..length].iter().take(600).enumerate() {
-            let _ = write!(text, "{} {word:016x}", if place == 0 { ":" } else { "" });
+        let _ = write!(text, ", {} bytes of disable bits", lengths.bits);
+        if !given {
+            let _ = write!(text, " {}", hex(&self.bits.read()[..lengths.bits.min(75)]));
         }
         text
     }
@@ -268,100 +311,156 @@ impl<'a> Traces<'a> {
     }
 
     pub fn check(&self, random: &mut Random, counts: &mut Counts) -> Result<(), Difference> {
-        let needed = self.judged.needed;
-        if needed > MOST_WORDS {
+        let Traces {
+            subject,
+            setting,
+            file,
+            judged,
+            ..
+        } = *self;
+        let steps = Steps::of(subject, setting, file, judged, &self.requests);
+        if judged.needed > MOST_WORDS {
             counts.untraced_files += 1;
-            let lent = Lent::new(10, || random.next());
-            let words = Words::of(lent, Content::Other, self.judged);
-            return self.wild(&words, random, counts);
+            let words = Lent::new(10, || random.next());
+            let bits = Lent::new(10, || random.byte());
+            let tables = Tables::of(words, bits, Content::Other, judged);
+            steps.refusals(&tables, &mut random.aside(), counts)?;
+            return self.wild(&tables, random, counts);
         }
-        let mut lent = Lent::new(needed + MORE_WORDS, || self.requests.word(random));
-        lent.part()[..needed].copy_from_slice(&self.judged.table_words());
-        let mut words = Words::of(lent, Content::Given, self.judged);
-        self.over(&words, random, counts)?;
-
-        for (content, share) in [(Content::SomeChanged, 6), (Content::Other, 1)] {
-            let mut lent = words.lent;
-            for word in lent.part() {
-                if random.chance(1, share) {
-                    *word = self.requests.word(random);
-                }
+        let given = judged.table_words();
+        for content in [
+            Content::Given,
+            Content::WordsChanged,
+            Content::BitsChanged,
+            Content::Other,
+        ] {
+            let tables = self.tables(content, &given, random);
+            self.over(&tables, random, counts)?;
+            steps.over(&tables, &mut random.aside(), counts)?;
+            if content == Content::Other {
+                self.lengths(&tables, random, counts)?;
+                self.wild(&tables, random, counts)?;
             }
-            words = Words::of(lent, content, self.judged);
-            self.over(&words, random, counts)?;
         }
         match self.requests.all() <= MOST_REQUESTS {
             true => counts.whole_files += 1,
             false => counts.sampled_files += 1,
         }
-        self.lengths(&words, random, counts)?;
-        self.wild(&words, random, counts)
+        Ok(())
     }
 
-    /// The requests chosen, over these words.
+    /// Words and disable bits of this content, with others behind those needed.
+    fn tables(&self, content: Content, given: &[u64], random: &mut Random) -> Tables {
+        // In a quarter of the files no bit is set among the other ones.
+        let mask = random.pick(&[0x00, 0xff, 0xff, 0xff]);
+        let mut words = Lent::new(given.len() + MORE, || self.requests.word(random));
+        let needed_bits = self.judged.needed_bits();
+        let mut bits = Lent::new(needed_bits + MORE, || random.byte() & mask);
+        if content != Content::Other {
+            words.part()[..given.len()].copy_from_slice(given);
+            bits.part()[..needed_bits].copy_from_slice(&reference::disable_bits(given));
+        }
+        if content == Content::WordsChanged {
+            for word in words.part() {
+                if random.chance(1, 6) {
+                    *word = self.requests.word(random);
+                }
+            }
+        }
+        if content == Content::BitsChanged {
+            for byte in bits.part() {
+                for place in 0..8 {
+                    *byte ^= u8::from(random.chance(1, 6)) << place;
+                }
+            }
+        }
+        Tables::of(words, bits, content, self.judged)
+    }
+
+    /// The requests chosen, over these words and bits.
     fn over(
         &self,
-        words: &Words,
+        tables: &Tables,
         random: &mut Random,
         counts: &mut Counts,
     ) -> Result<(), Difference> {
-        let every = words.content != Content::SomeChanged;
-        let length = self.judged.needed + random.pick(&[0, 0, 1, MORE_WORDS]);
+        let every = matches!(tables.content, Content::Given | Content::Other);
+        let mut lengths = Lengths {
+            words: self.judged.needed + random.pick(&[0, 0, 1, MORE]),
+            bits: self.judged.needed_bits() + random.pick(&[0, 0, 1, MORE]),
+            passed: 0,
+        };
         let mut taken = HashSet::new();
         for request in self.requests.choose(every, random) {
-            let room = self.judged.expanders() + random.pick(&[0, 0, 1, 9]);
-            if let Some(trace) = self.one(words, length, room, request, random, counts)? {
-                if words.content == Content::Given {
-                    self.requests.check_given(self.judged, request, &trace)?;
+            lengths.passed = self.judged.expanders() + random.pick(&[0, 0, 1, 9]);
+            if let Some(trace) = self.one(tables, lengths, request, random, counts)? {
+                request.check_passed(&trace)?;
+                let given = || self.requests.check_given(self.judged, request, &trace);
+                match tables.content {
+                    Content::Given => given()?,
+                    Content::BitsChanged => counts.switched += given().is_err() as u64,
+                    Content::WordsChanged | Content::Other => (),
                 }
                 taken.insert(request);
             }
         }
-        words.check()?;
+        tables.check()?;
         self.requests.test_taken(&taken, every)
     }
 
-    /// Requests with every length around the needed one, of words and of bytes.
+    /// Requests with every length around the needed one, of words, bits and bytes.
     fn lengths(
         &self,
-        words: &Words,
+        tables: &Tables,
         random: &mut Random,
         counts: &mut Counts,
     ) -> Result<(), Difference> {
-        let (needed, expanders) = (self.judged.needed, self.judged.expanders());
-        for length in [0, needed.saturating_sub(1), needed, needed + 1] {
-            for room in [0, expanders - 1, expanders, expanders + 1] {
-                let request = self.requests.any(random);
-                self.one(words, length, room, request, random, counts)?;
+        let around = |needed: usize| [0, needed.saturating_sub(1), needed, needed + 1];
+        for words in around(self.judged.needed) {
+            for bits in around(self.judged.needed_bits()) {
+                for passed in around(self.judged.expanders()) {
+                    let lengths = Lengths {
+                        words,
+                        bits,
+                        passed,
+                    };
+                    let request = self.requests.any(random);
+                    self.one(tables, lengths, request, random, counts)?;
+                }
             }
         }
-        words.check()
+        tables.check()
     }
 
     /// Requests with starts, arrivals, addresses and lengths in and out of range.
     fn wild(
         &self,
-        words: &Words,
+        tables: &Tables,
         random: &mut Random,
         counts: &mut Counts,
     ) -> Result<(), Difference> {
         let expanders = self.judged.expanders();
-        let lent = words.lent.read().len();
+        let length = |needed: usize, lent: usize, random: &mut Random| match random.below(4) {
+            0 => needed.saturating_sub(1).min(lent),
+            1 => 0,
+            _ => lent,
+        };
         for _ in 0..WILD {
             let request = self.wild_request(random);
-            let room = match random.below(4) {
+            let passed = match random.below(4) {
                 0 => random.below(expanders),
                 1 => expanders - 1,
                 _ => expanders + random.below(3),
             };
-            let length = match random.below(4) {
-                0 => self.judged.needed.saturating_sub(1).min(lent),
-                1 => 0,
-                _ => lent,
+            let (words, bits) = (tables.words.read().len(), tables.bits.read().len());
+            let lengths = Lengths {
+                words: length(self.judged.needed, words, random),
+                bits: length(self.judged.needed_bits(), bits, random),
+                passed,
             };
-            self.one(words, length, room, request, random, counts)?;
+            self.one(tables, lengths, request, random, counts)?;
         }
-        words.check()
+        tables.check()
     }
 
     fn wild_request(&self, random: &mut Random) -> Request {
@@ -393,9 +492,8 @@ impl<'a> Traces<'a> {
     /// One call, compared with the reference; nothing where it is refused.
     fn one(
         &self,
-        words: &Words,
-        length: usize,
-        room: usize,
+        tables: &Tables,
+        lengths: Lengths,
         request: Request,
         random: &mut Random,
         counts: &mut Counts,
@@ -405,11 +503,16 @@ impl<'a> Traces<'a> {
             arrival,
             address,
         } = request;
+        let Lengths {
+            words,
+            bits,
+            passed: room,
+        } = lengths;
         let answered = self
             .judged
-            .test_request(length, start, arrival, address, room)
+            .test_request(words, bits, start, arrival, address, room)
             .map(|()| {
-                let routes = words.routes.as_ref().expect("as many words as needed");
+                let routes = tables.routes.as_ref().expect("as many words as needed");
                 self.judged.trace(routes, start, arrival, address)
             });
         let mut passed = Lent::new(room, || random.byte());
@@ -417,11 +520,11 @@ impl<'a> Traces<'a> {
             Ok(trace) => (trace.answer(), passed.after(&trace.passed)),
             Err(refusal) => (refusal.answer(), passed.after(&[])),
         };
-        let lent = &words.lent.read()[..length];
         let got = self.subject.trace(
             self.setting,
             self.file,
-            lent,
+            &tables.words.read()[..words],
+            &tables.bits.read()[..bits],
             start,
             arrival,
             address,
@@ -429,11 +532,14 @@ impl<'a> Traces<'a> {
         );
         counts.answer(expected);
         let what = || {
-            let words = words.text(length);
-            format!("trace over {words}, {room} bytes, {}", request.text())
+            let tables = tables.text(lengths);
+            format!("trace over {tables}, {room} bytes, {}", request.text())
         };
         same(what, expected, got)?;
         passed.check(what, &after)?;
+        if tables.words.read().len() <= FEW_WORDS {
+            tables.check()?;
+        }
         let trace = answered.ok();
         trace.iter().for_each(|trace| counts.trace(trace));
         Ok(trace)

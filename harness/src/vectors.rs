@@ -2,10 +2,13 @@
 //! hand.
 
 use crate::calls::Calls;
-use crate::compare::{same, Difference, Lent};
+use crate::compare::{hex, same, Difference, Lent};
 use crate::generate::WIDEST;
 use crate::layout::*;
+use crate::shelves::Words;
+use crate::steps::walk;
 use metzurgo::codes;
+use metzurgo::raw::SHELF_WORDS;
 
 // Addresses of the pair rig.
 const X10: u64 = 0x5000_0000_0000_0010;
@@ -47,8 +50,86 @@ fn bad_destination(last: u64, count: u64) -> u64 {
     0x0200_0000 + last * 65536 + 255 * 256 + count
 }
 
+/// The answer of a step: the rule, what it picks and where the request goes on.
+fn stepped(rule: u64, phy: u64, index: u64, (next, arrival): (u64, u64)) -> u64 {
+    rule * 0x100_0000_0000 + phy * 0x1_0000_0000 + index * 0x1_0000 + next * 256 + arrival
+}
+
+/// No next expander and arrival phy.
+const END: (u64, u64) = (255, 255);
+
+/// No route index.
+const NO_INDEX: u64 = 65535;
+
+/// (i)
+fn itself() -> u64 {
+    stepped(1, 255, NO_INDEX, END)
+}
+
+/// (ii), (iii) and (iv)
+fn attached(phy: u64, next: (u64, u64)) -> u64 {
+    stepped(2, phy, NO_INDEX, next)
+}
+
+fn listed(phy: u64, index: u64, next: (u64, u64)) -> u64 {
+    stepped(3, phy, index, next)
+}
+
+fn upward(phy: u64, next: (u64, u64)) -> u64 {
+    stepped(4, phy, NO_INDEX, next)
+}
+
+/// (v)
+fn nothing() -> u64 {
+    stepped(5, 255, NO_INDEX, END)
+}
+
+/// BAD DESTINATION in place of moving on or arriving.
+const BAD: u64 = 0x1_0000_0000_0000;
+
 fn counts(tables: u64, words: u64) -> u64 {
     tables * 0x1_0000_0000 + words
+}
+
+/// The disable bits of these words as the table call gives them.
+fn zero_bits(words: &[u64]) -> Vec<u8> {
+    let mut bits = vec![0; words.len().div_ceil(8)];
+    for (k, _) in words.iter().enumerate().filter(|&(_, &word)| word == 0) {
+        bits[k / 8] |= 0x80 >> (k % 8);
+    }
+    bits
+}
+
+/// The card of the pair rig, bit by bit.
+pub fn pair_card() -> Vec<u8> {
+    let address = |last: &str| format!("0101{}{last}", "0".repeat(52));
+    let (top, bottom) = (address("00010000"), address("00100000"));
+    let bits = [
+        // version, 2 expanders less 1, zeros
+        "0010 000001 000000".into(),
+        // expander 0: address, R 4, configurable, 2 phys less 1
+        top.clone(),
+        "0000000000000100 1 0000001".into(),
+        // phy 0: type 2, table, to expander 1 phy 0
+        format!("1 010 10 {bottom} 00000000"),
+        // phy 1: type 1, direct, to drive A1
+        format!("1 001 00 {} 00000000", address("10100001")),
+        // expander 1: address, R 0, not configurable, 3 phys less 1
+        bottom.clone(),
+        "0000000000000000 0 0000010".into(),
+        // phy 0: type 2, subtractive, to expander 0 phy 0
+        format!("1 010 01 {top} 00000000"),
+        // phy 1: type 1, direct, to drive B1
+        format!("1 001 00 {} 00000000", address("10110001")),
+        // phy 2: nothing attached, direct
+        "1 000 00".into(),
+        // fill
+        "00".into(),
+    ];
+    let digits = bits.concat().replace(' ', "");
+    (0..64)
+        .map(|byte| u8::from_str_radix(&digits[8 * byte..8 * byte + 8], 2).expect("bits"))
+        .collect()
 }
 
 /// The pair rig of document 01, byte by byte.
@@ -212,9 +293,22 @@ pub fn run(subject: &dyn Calls) -> Result<usize, Difference> {
     test.level_lists()?;
     test.tables()?;
     test.traces()?;
+    test.disabled()?;
     test.trace_refusals()?;
+    test.word_places()?;
+    test.steps()?;
+    test.step_refusals()?;
     test.route_frames()?;
     test.single_frames()?;
+    test.pair_card()?;
+    test.card_refusals()?;
+    test.card_settings()?;
+    test.largest_card()?;
+    test.shelves_told()?;
+    test.shelf_results()?;
+    test.shelf_entries()?;
+    test.shelf_of_any_bytes()?;
+    test.smp_utils()?;
     Ok(test.count)
 }
 
@@ -269,15 +363,46 @@ impl Test<'_> {
         lent.check(|| format!("{name}: wire"), &after)
     }
 
-    /// The judging, table and trace calls refuse.
+    fn needed(&mut self, name: &str, file: &[u8], expected: u64) -> Done {
+        self.count += 1;
+        let got = self.subject.needed(self.setting, file);
+        same(|| format!("{name}: needed"), expected, got)
+    }
+
+    fn word_place(&mut self, name: &str, file: &[u8], k: u64, expected: u64) -> Done {
+        self.count += 1;
+        let got = self.subject.word_place(self.setting, file, k);
+        same(|| format!("{name}: word_place {k}"), expected, got)
+    }
+
+    /// The step of a request to an address at an expander and arrival phy.
+    fn step(
+        &mut self,
+        name: &str,
+        file: &[u8],
+        (words, bits): (&[u64], &[u8]),
+        (expander, arrival): (u8, u8),
+        address: u64,
+        expected: u64,
+    ) -> Done {
+        self.count += 1;
+        let got = (self.subject).step(self.setting, file, words, bits, expander, arrival, address);
+        let what = || format!("{name}: step at {expander}, arrival {arrival}, {address:016x}h");
+        same(what, expected, got)
+    }
+
+    /// The judging, table, trace and step calls refuse.
     fn judge_refused(&mut self, name: &str, file: &[u8], expected: u64) -> Done {
         self.judge(name, file, expected)?;
+        self.needed(name, file, expected)?;
+        for k in [0, u64::MAX] {
+            self.word_place(name, file, k, expected)?;
+        }
         let mut words = Lent::new(9, || 0x7777);
+        let mut bits = Lent::new(2, || 0x77);
         let after = words.after(&[]);
-        self.count += 1;
-        let got = self.subject.tables(self.setting, file, words.part());
-        same(|| format!("{name}: tables"), expected, got)?;
-        words.check(|| format!("{name}: tables"), &after)?;
+        let after_bits = bits.after(&[]);
+        self.tables_lent(name, file, expected, (9, 2), None)?;
 
         let mut passed = Lent::new(64, || 0x77);
         let kept = passed.after(&[]);
@@ -287,6 +412,7 @@ impl Test<'_> {
                 self.setting,
                 file,
                 words.part(),
+                bits.part(),
                 start,
                 arrival,
                 address,
@@ -294,7 +420,10 @@ impl Test<'_> {
             );
             same(|| format!("{name}: trace"), expected, got)?;
             words.check(|| format!("{name}: trace"), &after)?;
+            bits.check(|| format!("{name}: trace"), &after_bits)?;
             passed.check(|| format!("{name}: trace"), &kept)?;
+            let lent = (words.read(), bits.read());
+            self.step(name, file, lent, (start, arrival), address, expected)?;
         }
         Ok(())
     }
@@ -306,37 +435,100 @@ impl Test<'_> {
         self.judge_refused(name, file, expected)
     }
 
+    /// The tables, and the disable bits that follow from them.
     fn table_words(&mut self, name: &str, file: &[u8], tables: u64, words: &[u64]) -> Done {
+        self.table_bits(name, file, tables, words, &zero_bits(words))
+    }
+
+    /// Words and bits are written into buffers as long, and into longer ones, the
+    /// rest of which stays. With one word less the answer is 16, with all words and
+    /// one byte of bits less it is 18.
+    fn table_bits(
+        &mut self,
+        name: &str,
+        file: &[u8],
+        tables: u64,
+        words: &[u64],
+        bits: &[u8],
+    ) -> Done {
         let expected = counts(tables, words.len() as u64);
-        for longer in [0, 2] {
-            self.count += 1;
-            let mut lent = Lent::new(words.len() + longer, || 0x7777);
-            let after = lent.after(words);
-            let got = self.subject.tables(self.setting, file, lent.part());
-            same(|| format!("{name}: tables"), expected, got)?;
-            lent.check(|| format!("{name}: tables"), &after)?;
+        self.needed(name, file, expected)?;
+        let (needed, bytes) = (words.len(), bits.len());
+        for lengths in [(needed, bytes), (needed + 2, bytes), (needed, bytes + 3)] {
+            self.tables_lent(name, file, expected, lengths, Some((words, bits)))?;
         }
-        if !words.is_empty() {
-            self.count += 1;
-            let mut lent = Lent::new(words.len() - 1, || 0x7777);
-            let after = lent.after(&[]);
-            let got = self.subject.tables(self.setting, file, lent.part());
-            same(
-                || format!("{name}: tables, one word short"),
-                refused(16, 0, 0),
-                got,
-            )?;
-            lent.check(|| format!("{name}: tables, one word short"), &after)?;
+        if needed > 0 {
+            for lengths in [
+                (needed - 1, bytes),
+                (needed - 1, bytes - 1),
+                (needed - 1, 0),
+            ] {
+                self.tables_lent(name, file, refused(16, 0, 0), lengths, None)?;
+            }
+            for lengths in [(needed, bytes - 1), (needed + 8, bytes - 1), (needed, 0)] {
+                self.tables_lent(name, file, refused(18, 0, 0), lengths, None)?;
+            }
         }
         Ok(())
     }
 
+    /// The table call with so many words and bytes of disable bits, and what it
+    /// writes.
+    fn tables_lent(
+        &mut self,
+        name: &str,
+        file: &[u8],
+        expected: u64,
+        (length, bytes): (usize, usize),
+        written: Option<(&[u64], &[u8])>,
+    ) -> Done {
+        let (words, bits) = written.unwrap_or_default();
+        let what = || format!("{name}: tables, {length} words, {bytes} bytes of disable bits");
+        // What is in the bytes before the call plays no part.
+        for before in [0x00, 0xff, 0x5a] {
+            self.count += 1;
+            let mut lent = Lent::new(length, || 0x7777);
+            let mut lent_bits = Lent::new(bytes, || before);
+            let after = lent.after(words);
+            let after_bits = lent_bits.after(bits);
+            let got = self
+                .subject
+                .tables(self.setting, file, lent.part(), lent_bits.part());
+            same(what, expected, got)?;
+            lent.check(|| format!("{}, words", what()), &after)?;
+            lent_bits.check(|| format!("{}, disable bits", what()), &after_bits)?;
+        }
+        Ok(())
+    }
+
+    /// A trace over words with the disable bits that follow from them; a word that
+    /// is 0 plays no part with its bit clear, either.
     #[allow(clippy::too_many_arguments)]
     fn trace(
         &mut self,
         name: &str,
         file: &[u8],
         words: &[u64],
+        from: (u8, u8),
+        address: u64,
+        expected: u64,
+        passed: &[u8],
+    ) -> Done {
+        let bits = zero_bits(words);
+        let clear = vec![0; bits.len()];
+        for bits in [bits, clear] {
+            self.trace_bits(name, file, (words, &bits), from, address, expected, passed)?;
+        }
+        Ok(())
+    }
+
+    /// A trace over words and disable bits.
+    #[allow(clippy::too_many_arguments)]
+    fn trace_bits(
+        &mut self,
+        name: &str,
+        file: &[u8],
+        (words, bits): (&[u64], &[u8]),
         (start, arrival): (u8, u8),
         address: u64,
         expected: u64,
@@ -349,14 +541,41 @@ impl Test<'_> {
             self.setting,
             file,
             words,
+            bits,
             start,
             arrival,
             address,
             lent.part(),
         );
-        let what = || format!("{name}: trace, start {start}, arrival {arrival}, {address:016x}h");
+        let what = || {
+            let bits = crate::compare::hex(bits);
+            format!("{name}: trace, start {start}, arrival {arrival}, {address:016x}h, bits {bits}")
+        };
         same(what, expected, got)?;
+        lent.check(what, &after)?;
+        // Step by step it ends alike.
+        let (end, walked) = walk((start, arrival), |(expander, arrival)| {
+            self.count += 1;
+            let subject = self.subject;
+            Ok(subject.step(self.setting, file, words, bits, expander, arrival, address))
+        })?;
+        let what = || format!("{}, by steps", what());
+        same(what, expected, end)?;
+        let mut lent = Lent::new(70, || 0x77);
+        lent.part()[..walked.len()].copy_from_slice(&walked);
         lent.check(what, &after)
+    }
+
+    /// Every cut of a file with the units of the pair rig; `ends` has where each
+    /// phy ends.
+    fn every_cut(&mut self, name: &str, file: &[u8], ends: [usize; 5]) -> Done {
+        let phys = [(0, 0), (0, 1), (1, 0), (1, 1), (1, 2)];
+        for length in 0..file.len() {
+            let place = phys[ends.iter().filter(|&&end| end <= length).count()];
+            let name = format!("{name} cut to {length} bytes");
+            self.refuses(&name, &file[..length], 1, place.0, place.1)?;
+        }
+        Ok(())
     }
 
     // ------------------------------------------------------------ the file
@@ -403,20 +622,7 @@ impl Test<'_> {
     }
 
     fn cuts(&mut self) -> Done {
-        let whole = pair_rig();
-        for length in 0..334 {
-            let (expander, phy) = match length {
-                0..=37 => (0, 0),
-                38..=89 => (0, 0),
-                90..=141 => (0, 1),
-                142..=177 => (1, 0),
-                178..=229 => (1, 0),
-                230..=281 => (1, 1),
-                _ => (1, 2),
-            };
-            let name = format!("pair rig cut to {length} bytes");
-            self.refuses(&name, &whole[..length], 1, expander, phy)?;
-        }
+        self.every_cut("pair rig", &pair_rig(), [90, 142, 230, 282, 334])?;
         self.refuses("335 bytes", &pair_bytes(|file| file.push(0)), 1, 2, 0)?;
         self.refuses(
             "335 bytes, the last FFh",
@@ -521,19 +727,7 @@ impl Test<'_> {
                 self.trace(name, file, &tables, from, address, answer, passed)?;
             }
         }
-        for length in 0..398 {
-            let (expander, phy) = match length {
-                0..=77 => (0, 0),
-                78..=141 => (0, 0),
-                142..=193 => (0, 1),
-                194..=229 => (1, 0),
-                230..=281 => (1, 0),
-                282..=333 => (1, 1),
-                _ => (1, 2),
-            };
-            let name = format!("some frames long, cut to {length} bytes");
-            self.refuses(&name, &mixed[..length], 1, expander, phy)?;
-        }
+        self.every_cut("some frames long,", &mixed, [142, 194, 282, 334, 398])?;
         let changed = |changes: &[(usize, u8)], length: usize| {
             let mut file = mixed.clone();
             for &(at, value) in changes {
@@ -1648,7 +1842,7 @@ impl Test<'_> {
         let rig = pair_rig();
         self.judge("pair rig", &rig, 2)?;
         self.wire("pair rig", &rig, 2, &[0b10, 0b01])?;
-        self.table_words("pair rig", &rig, 1, &[B1, 0, 0, 0])?;
+        self.table_bits("pair rig", &rig, 1, &[B1, 0, 0, 0], &[0x70])?;
         let with_r = |r: u8| pair_bytes(|file| file[17] = r);
         self.table_words("pair rig, R 2", &with_r(2), 1, &[B1, 0])?;
         self.judge_refused("pair rig, R 1", &with_r(1), refused(14, 0, 0))?;
@@ -1709,6 +1903,15 @@ impl Test<'_> {
             "pair rig, entry 0 zeroed",
             &rig,
             &[0; 4],
+            (0, 255),
+            B1,
+            no_destination(0, 1),
+            &[0],
+        )?;
+        self.trace_bits(
+            "pair rig, the bit of entry 0 set",
+            &rig,
+            (&words, &[0xf0]),
             (0, 255),
             B1,
             no_destination(0, 1),
@@ -1774,7 +1977,7 @@ impl Test<'_> {
             // expander 2 phy 2
             d(4, 1),
         ];
-        self.table_words("tree of five", &tree, 6, &words)?;
+        self.table_bits("tree of five", &tree, 6, &words, &[0x10, 0x03, 0xfc])?;
         let name = "tree of five";
         self.trace(
             name,
@@ -2109,7 +2312,8 @@ impl Test<'_> {
                 .drive(DIRECT, d(2, 1)),
         ]);
         let name = "two stretches";
-        self.table_words(name, &star, 3, &[0, 0, d(1, 1), 0, d(2, 1), 0])?;
+        let given = [0, 0, d(1, 1), 0, d(2, 1), 0];
+        self.table_bits(name, &star, 3, &given, &[0xd4])?;
         let words = [0, 0, 0, 0, FF, d(2, 1)];
         self.trace(
             name,
@@ -2149,6 +2353,17 @@ impl Test<'_> {
             no_destination(1, 2),
             &[0, 1],
         )?;
+        // With that entry of the lower phy disabled the higher one is picked.
+        for (from, bits, expected, passed) in [
+            ((0, 0), 0x10, arrived(2, 1, 2), &[0, 2][..]),
+            ((1, 1), 0x10, arrived(2, 1, 3), &[1, 0, 2]),
+            ((0, 0), 0x08, no_destination(1, 2), &[0, 1]),
+            ((0, 0), 0x18, no_destination(0, 1), &[0]),
+            ((0, 0), 0xe7, no_destination(1, 2), &[0, 1]),
+        ] {
+            let tables = (&words[..], &[bits][..]);
+            self.trace_bits(name, &star, tables, from, d(2, 1), expected, passed)?;
+        }
         // The lowest table phy leads back to where the request came from.
         self.trace(
             name,
@@ -2170,29 +2385,117 @@ impl Test<'_> {
         )
     }
 
+    /// Traces with disable bits set and cleared at will.
+    fn disabled(&mut self) -> Done {
+        let rig = pair_rig();
+        let name = "pair rig, disable bits";
+        let off = (no_destination(0, 1), &[0][..]);
+        let on = (arrived(1, 1, 2), &[0, 1][..]);
+        for (words, bits, (expected, passed)) in [
+            // Bits of other entries, padding bits and bytes behind play no part.
+            ([B1, 0, 0, 0], &[0x70][..], on),
+            ([B1, 0, 0, 0], &[0x00], on),
+            ([B1, 0, 0, 0], &[0x7f], on),
+            ([B1, 0, 0, 0], &[0x70, 0xff, 0xff], on),
+            ([B1, 0, 0, 0], &[0x80], off),
+            ([B1, 0, 0, 0], &[0xf0], off),
+            ([B1, 0, 0, 0], &[0xff], off),
+            ([B1, 0, 0, 0], &[0x8f, 0x00], off),
+            ([0, B1, 0, 0], &[0xbf], on),
+            ([0, B1, 0, 0], &[0x40], off),
+            ([0, 0, B1, 0], &[0xdf], on),
+            ([0, 0, B1, 0], &[0x20], off),
+            ([0, 0, 0, B1], &[0xef], on),
+            ([0, 0, 0, B1], &[0x10], off),
+            // One of two entries with the address is enough.
+            ([B1, 0, 0, B1], &[0xe0], on),
+            ([B1, 0, 0, B1], &[0x70], on),
+            ([B1, 0, 0, B1], &[0x90], off),
+        ] {
+            let tables = (&words[..], bits);
+            self.trace_bits(name, &rig, tables, (0, 255), B1, expected, passed)?;
+        }
+        // An address that is the expander's own or attached needs no entry, and a
+        // subtractive phy none.
+        let all = (&[B1, 0, 0, 0][..], &[0xff][..]);
+        for (from, address, expected, passed) in [
+            ((0, 255), X10, arrived(0, 255, 1), &[0][..]),
+            ((0, 1), X20, arrived(1, 255, 2), &[0, 1]),
+            ((0, 255), A1, arrived(0, 1, 1), &[0]),
+            ((1, 1), A1, arrived(0, 1, 2), &[1, 0]),
+            ((1, 1), B1, bad_destination(1, 1), &[1]),
+        ] {
+            self.trace_bits(name, &rig, all, from, address, expected, passed)?;
+        }
+        // A disabled word that leads back is no BAD DESTINATION.
+        let back = [0, FF, 0, 0];
+        for (bits, expected) in [
+            (0xb0, bad_destination(0, 2)),
+            (0xf0, no_destination(0, 2)),
+            (0x40, no_destination(0, 2)),
+        ] {
+            let tables = (&back[..], &[bits][..]);
+            self.trace_bits(name, &rig, tables, (1, 255), FF, expected, &[1, 0])?;
+        }
+
+        // Nine words have two bytes of bits, eight have one.
+        let nine = pair_bytes(|file| file[17] = 9);
+        let name = "pair rig, R 9";
+        let given = [B1, 0, 0, 0, 0, 0, 0, 0, 0];
+        self.table_bits(name, &nine, 1, &given, &[0x7f, 0x80])?;
+        let last = [0, 0, 0, 0, 0, 0, 0, 0, B1];
+        for (bits, (expected, passed)) in [
+            ([0xff, 0x00], on),
+            ([0xff, 0x7f], on),
+            ([0x00, 0x80], off),
+            ([0xff, 0xff], off),
+        ] {
+            let tables = (&last[..], &bits[..]);
+            self.trace_bits(name, &nine, tables, (0, 255), B1, expected, passed)?;
+        }
+        let eight = pair_bytes(|file| file[17] = 8);
+        self.table_bits("pair rig, R 8", &eight, 1, &given[..8], &[0x7f])?;
+        let last = ([0, 0, 0, 0, 0, 0, 0, B1], [0x01]);
+        let tables = (&last.0[..], &last.1[..]);
+        self.trace_bits("pair rig, R 8", &eight, tables, (0, 255), B1, off.0, off.1)
+    }
+
     fn trace_refusals(&mut self) -> Done {
         let rig = pair_rig();
+        let nine = pair_bytes(|file| file[17] = 9);
         let vacant = pair_with(|rig| rig[1].phys[2].result = 1);
-        let words = [B1, 0, 0, 0];
-        for (name, file, start, arrival, address, length, room, number) in [
-            ("start 2", &rig, 2, 255, B1, 4, 2, 15),
-            ("start 255", &rig, 255, 255, B1, 4, 2, 15),
-            ("arrival at an expander", &rig, 0, 0, B1, 4, 2, 15),
-            ("arrival at an expander", &rig, 1, 0, B1, 4, 2, 15),
-            ("arrival phy missing", &rig, 0, 2, B1, 4, 2, 15),
-            ("arrival phy missing", &rig, 1, 254, B1, 4, 2, 15),
-            ("arrival phy empty", &rig, 1, 2, B1, 4, 2, 15),
-            ("arrival phy vacant", &vacant, 1, 2, B1, 4, 2, 15),
-            ("no bytes", &rig, 0, 255, X10, 4, 0, 16),
-            ("one byte short", &rig, 0, 255, X10, 4, 1, 16),
-            ("one word short", &rig, 1, 255, X20, 3, 2, 16),
-            ("no words", &rig, 1, 255, X20, 0, 2, 16),
-            ("address 0", &rig, 0, 255, 0, 4, 2, 17),
-            ("address 0", &rig, 1, 1, 0, 4, 2, 17),
-            ("15, 16 and 17", &rig, 2, 255, 0, 0, 0, 15),
-            ("15 and 17", &rig, 0, 0, 0, 4, 2, 15),
-            ("16 and 17, bytes", &rig, 0, 255, 0, 4, 1, 16),
-            ("16 and 17, words", &rig, 0, 255, 0, 3, 2, 16),
+        let words = [B1, 0, 0, 0, 0, 0, 0, 0, 0];
+        let bits = [0x70, 0x00];
+        // The lengths lent are words, bytes of disable bits and bytes for expanders.
+        for (name, file, start, arrival, address, (length, bytes, room), number) in [
+            ("start 2", &rig, 2, 255, B1, (4, 1, 2), 15),
+            ("start 255", &rig, 255, 255, B1, (4, 1, 2), 15),
+            ("arrival at an expander", &rig, 0, 0, B1, (4, 1, 2), 15),
+            ("arrival at an expander", &rig, 1, 0, B1, (4, 1, 2), 15),
+            ("arrival phy missing", &rig, 0, 2, B1, (4, 1, 2), 15),
+            ("arrival phy missing", &rig, 1, 254, B1, (4, 1, 2), 15),
+            ("arrival phy empty", &rig, 1, 2, B1, (4, 1, 2), 15),
+            ("arrival phy vacant", &vacant, 1, 2, B1, (4, 1, 2), 15),
+            ("no bytes", &rig, 0, 255, X10, (4, 1, 0), 16),
+            ("one byte short", &rig, 0, 255, X10, (4, 1, 1), 16),
+            ("one word short", &rig, 1, 255, X20, (3, 1, 2), 16),
+            ("no words", &rig, 1, 255, X20, (0, 1, 2), 16),
+            ("no disable bits", &rig, 1, 255, X20, (4, 0, 2), 18),
+            ("no disable bits", &nine, 1, 255, X20, (9, 0, 2), 18),
+            ("one byte of bits short", &nine, 1, 255, X20, (9, 1, 2), 18),
+            ("address 0", &rig, 0, 255, 0, (4, 1, 2), 17),
+            ("address 0", &rig, 1, 1, 0, (4, 1, 2), 17),
+            ("address 0", &nine, 1, 1, 0, (9, 2, 2), 17),
+            ("15, 16, 18 and 17", &rig, 2, 255, 0, (0, 0, 0), 15),
+            ("15 and 18", &rig, 2, 255, B1, (4, 0, 2), 15),
+            ("15 and 17", &rig, 0, 0, 0, (4, 1, 2), 15),
+            ("16 and 18, bytes", &rig, 0, 255, B1, (4, 0, 1), 16),
+            ("16 and 18, words", &rig, 0, 255, B1, (3, 0, 2), 16),
+            ("16 and 18, words", &nine, 0, 255, B1, (8, 1, 2), 16),
+            ("16 and 17, bytes", &rig, 0, 255, 0, (4, 1, 1), 16),
+            ("16 and 17, words", &rig, 0, 255, 0, (3, 1, 2), 16),
+            ("18 and 17", &rig, 0, 255, 0, (4, 0, 2), 18),
+            ("18 and 17", &nine, 1, 1, 0, (9, 1, 2), 18),
         ] {
             self.count += 1;
             let mut passed = Lent::new(room, || 0x77);
@@ -2201,6 +2504,7 @@ impl Test<'_> {
                 self.setting,
                 file,
                 &words[..length],
+                &bits[..bytes],
                 start,
                 arrival,
                 address,
@@ -2213,11 +2517,263 @@ impl Test<'_> {
         self.count += 1;
         let mut passed = Lent::new(2, || 0x77);
         let after = passed.after(&[1, 0]);
+        let (words, bits) = (&words[..4], &bits[..1]);
         let got = self
             .subject
-            .trace(self.setting, &rig, &words, 1, 1, A1, passed.part());
+            .trace(self.setting, &rig, words, bits, 1, 1, A1, passed.part());
         same(|| "two bytes".into(), arrived(0, 1, 2), got)?;
         passed.check(|| "two bytes".into(), &after)
+    }
+
+    // ------------------------------------------------------------ places and steps
+
+    fn word_places(&mut self) -> Done {
+        let none = refused(15, 0, 0);
+        let at =
+            |expander: u64, phy: u64, index: u64| expander * 0x100_0000 + phy * 0x1_0000 + index;
+        let name = "pair rig";
+        let rig = pair_rig();
+        for k in 0..4 {
+            self.word_place(name, &rig, k, at(0, 0, k))?;
+        }
+        for k in [4, 5, 255, 65536, 1 << 32, 1 << 63, u64::MAX] {
+            self.word_place(name, &rig, k, none)?;
+        }
+        let large = pair_bytes(|file| file[16..18].fill(0xff));
+        self.word_place(name, &large, 65534, at(0, 0, 65534))?;
+        self.word_place(name, &large, 65535, none)?;
+
+        // Vacant, direct and subtractive phys have no table, an empty table phy and
+        // one at an end device have; R 0 makes tables without words.
+        let mixed = file(vec![
+            Expander::new(e(0), 2, true)
+                .vacant(1)
+                .link(TABLE, e(1), 3)
+                .drive(DIRECT, d(0, 2))
+                .empty(TABLE),
+            Expander::new(e(1), 0, true)
+                .empty(TABLE)
+                .drive(TABLE, d(1, 1))
+                .link(TABLE, e(2), 0)
+                .link(SUBTRACTIVE, e(0), 1),
+            Expander::new(e(2), 3, true)
+                .link(SUBTRACTIVE, e(1), 2)
+                .empty(TABLE),
+        ]);
+        let name = "tables of R 2, 0 and 3";
+        let words = [d(1, 1), e(2), 0, 0, 0, 0, 0];
+        self.table_words(name, &mixed, 6, &words)?;
+        let places = [
+            at(0, 1, 0),
+            at(0, 1, 1),
+            at(0, 3, 0),
+            at(0, 3, 1),
+            at(2, 1, 0),
+            at(2, 1, 1),
+            at(2, 1, 2),
+            none,
+        ];
+        for (k, place) in (0..).zip(places) {
+            self.word_place(name, &mixed, k, place)?;
+        }
+        let alone = file(vec![Expander::new(e(0), 9, true).drive(DIRECT, d(0, 0))]);
+        self.needed("no tables", &alone, 0)?;
+        self.word_place("no tables", &alone, 0, none)
+    }
+
+    fn steps(&mut self) -> Done {
+        let rig = pair_rig();
+        let given = (&[B1, 0, 0, 0][..], &[0x70][..]);
+        for (at, address, expected) in [
+            ((0, 255), X10, itself()),
+            ((0, 255), A1, attached(1, END)),
+            ((0, 255), X20, attached(0, (1, 0))),
+            ((0, 255), B1, listed(0, 0, (1, 0))),
+            ((0, 255), FF, nothing()),
+            // From drive A1h.
+            ((0, 1), X10, itself()),
+            ((0, 1), A1, BAD + attached(1, END)),
+            ((0, 1), X20, attached(0, (1, 0))),
+            ((0, 1), B1, listed(0, 0, (1, 0))),
+            ((0, 1), FF, nothing()),
+            // From expander 1.
+            ((0, 0), X10, itself()),
+            ((0, 0), A1, attached(1, END)),
+            ((0, 0), X20, BAD + attached(0, END)),
+            ((0, 0), B1, BAD + listed(0, 0, END)),
+            ((0, 0), FF, nothing()),
+            ((1, 255), X20, itself()),
+            ((1, 255), B1, attached(1, END)),
+            ((1, 255), X10, attached(0, (0, 0))),
+            ((1, 255), A1, upward(0, (0, 0))),
+            ((1, 255), FF, upward(0, (0, 0))),
+            // From drive B1h.
+            ((1, 1), X20, itself()),
+            ((1, 1), B1, BAD + attached(1, END)),
+            ((1, 1), X10, attached(0, (0, 0))),
+            ((1, 1), A1, upward(0, (0, 0))),
+            // From expander 0: the subtractive phy is barred.
+            ((1, 0), X20, itself()),
+            ((1, 0), B1, attached(1, END)),
+            ((1, 0), X10, BAD + attached(0, END)),
+            ((1, 0), A1, nothing()),
+            ((1, 0), FF, nothing()),
+        ] {
+            self.step("pair rig", &rig, given, at, address, expected)?;
+        }
+        // The first entry that is not disabled; entries come after what is attached.
+        for (words, bits, address, expected) in [
+            ([B1, 0, 0, 0], &[0xf0][..], B1, nothing()),
+            ([B1, 0, 0, 0], &[0x0f], B1, listed(0, 0, (1, 0))),
+            ([0, FF, 0, FF], &[0x00], FF, listed(0, 1, (1, 0))),
+            ([0, FF, 0, FF], &[0xbf, 0xff], FF, listed(0, 1, (1, 0))),
+            ([0, FF, 0, FF], &[0x40], FF, listed(0, 3, (1, 0))),
+            ([0, FF, 0, FF], &[0x50], FF, nothing()),
+            ([X10, A1, X20, B1], &[0x00], X10, itself()),
+            ([X10, A1, X20, B1], &[0x00], A1, attached(1, END)),
+            ([X10, A1, X20, B1], &[0x00], X20, attached(0, (1, 0))),
+            ([X10, A1, X20, B1], &[0x00], B1, listed(0, 3, (1, 0))),
+        ] {
+            self.step(
+                "pair rig",
+                &rig,
+                (&words, bits),
+                (0, 255),
+                address,
+                expected,
+            )?;
+        }
+        let large = pair_bytes(|file| file[16..18].fill(0xff));
+        let mut words = vec![0; 65535];
+        words[65534] = FF;
+        let last = (&words[..], &[0; 8192][..]);
+        let name = "pair rig, R 65,535";
+        self.step(name, &large, last, (0, 1), FF, listed(0, 65534, (1, 0)))?;
+        self.wide_steps()?;
+        self.stretch_steps()
+    }
+
+    /// Two expanders with a wide link, and one alone.
+    fn wide_steps(&mut self) -> Done {
+        let wide = file(vec![
+            Expander::new(e(0), 2, true)
+                .link(TABLE, e(1), 1)
+                .link(TABLE, e(1), 2),
+            Expander::new(e(1), 0, false)
+                .drive(DIRECT, d(1, 0))
+                .link(SUBTRACTIVE, e(0), 0)
+                .link(SUBTRACTIVE, e(0), 1),
+        ]);
+        let words = [d(1, 0), 0, d(1, 0), 0];
+        self.table_words("wide link", &wide, 2, &words)?;
+        for (bits, at, address, expected) in [
+            (0x50, (0, 255), d(1, 0), listed(0, 0, (1, 1))),
+            (0x80, (0, 255), d(1, 0), listed(1, 0, (1, 2))),
+            (0xa0, (0, 255), d(1, 0), nothing()),
+            (0x50, (0, 255), e(1), attached(0, (1, 1))),
+            // The address at the arrival phy counts, not the phy.
+            (0x50, (0, 1), d(1, 0), BAD + listed(0, 0, END)),
+            (0x80, (0, 0), d(1, 0), BAD + listed(1, 0, END)),
+            (0x50, (0, 1), e(1), BAD + attached(0, END)),
+            (0x50, (1, 2), e(0), BAD + attached(1, END)),
+            (0x50, (1, 2), FF, nothing()),
+            (0x50, (1, 0), FF, upward(1, (0, 0))),
+            (0x50, (1, 255), FF, upward(1, (0, 0))),
+        ] {
+            let tables = (&words[..], &[bits][..]);
+            self.step("wide link", &wide, tables, at, address, expected)?;
+        }
+        // A subtractive phy at an end device does not lead on.
+        let alone = file(vec![Expander::new(e(0), 0, false)
+            .drive(SUBTRACTIVE, d(0, 0))
+            .vacant(1)
+            .empty(SUBTRACTIVE)]);
+        for (at, address, expected) in [
+            ((0, 255), e(0), itself()),
+            ((0, 255), d(0, 0), attached(0, END)),
+            ((0, 0), d(0, 0), BAD + attached(0, END)),
+            ((0, 255), FF, nothing()),
+            ((0, 0), FF, nothing()),
+            ((0, 1), FF, refused(15, 0, 0)),
+            ((0, 2), FF, refused(15, 0, 0)),
+            ((0, 3), FF, refused(15, 0, 0)),
+        ] {
+            self.step("alone", &alone, (&[], &[]), at, address, expected)?;
+        }
+        Ok(())
+    }
+
+    /// Three tables of two entries: the index counts within the phy's own stretch,
+    /// and a table phy at an end device is passed by.
+    fn stretch_steps(&mut self) -> Done {
+        let star = file(vec![
+            Expander::new(e(0), 2, true)
+                .drive(TABLE, d(0, 0))
+                .link(TABLE, e(1), 0)
+                .link(TABLE, e(2), 1),
+            Expander::new(e(1), 0, false)
+                .link(SUBTRACTIVE, e(0), 1)
+                .drive(DIRECT, d(1, 1)),
+            Expander::new(e(2), 0, false)
+                .drive(DIRECT, d(2, 0))
+                .link(SUBTRACTIVE, e(0), 2),
+        ]);
+        for (words, bits, at, expected) in [
+            ([FF, FF, 0, 0, 0, 0], 0x00, (0, 255), nothing()),
+            ([FF, 0, 0, FF, FF, FF], 0x00, (0, 255), listed(1, 1, (1, 0))),
+            ([FF, 0, 0, FF, FF, FF], 0x10, (0, 0), listed(2, 0, (2, 1))),
+            ([FF, 0, 0, FF, FF, FF], 0x18, (0, 0), listed(2, 1, (2, 1))),
+            ([FF, 0, 0, FF, FF, FF], 0x1c, (0, 0), nothing()),
+            // The lowest phy is picked, though a higher one would not lead back.
+            ([FF, 0, 0, FF, FF, 0], 0x00, (0, 1), BAD + listed(1, 1, END)),
+            ([FF, 0, 0, FF, FF, 0], 0x00, (0, 2), listed(1, 1, (1, 0))),
+            ([FF, 0, 0, FF, FF, 0], 0x10, (0, 1), listed(2, 0, (2, 1))),
+            ([FF, 0, 0, FF, FF, 0], 0x10, (0, 2), BAD + listed(2, 0, END)),
+            // Words of expander 0 are none of expander 2.
+            ([FF; 6], 0x00, (2, 255), upward(1, (0, 2))),
+            ([FF; 6], 0x00, (2, 1), nothing()),
+        ] {
+            self.step("three tables", &star, (&words, &[bits]), at, FF, expected)?;
+        }
+        Ok(())
+    }
+
+    fn step_refusals(&mut self) -> Done {
+        let rig = pair_rig();
+        let nine = pair_bytes(|file| file[17] = 9);
+        let vacant = pair_with(|rig| rig[1].phys[2].result = 1);
+        let words = [B1, 0, 0, 0, 0, 0, 0, 0, 0];
+        let bits = [0x70, 0x00];
+        // The lengths lent are words and bytes of disable bits.
+        for (name, file, at, address, (length, bytes), number) in [
+            ("expander 2", &rig, (2, 255), B1, (4, 1), 15),
+            ("expander 2, phy 0", &rig, (2, 0), B1, (4, 1), 15),
+            ("expander 255", &rig, (255, 255), B1, (4, 1), 15),
+            ("arrival phy missing", &rig, (0, 2), B1, (4, 1), 15),
+            ("arrival phy missing", &rig, (1, 3), B1, (4, 1), 15),
+            ("arrival phy missing", &rig, (1, 128), B1, (4, 1), 15),
+            ("arrival phy missing", &rig, (1, 254), B1, (4, 1), 15),
+            ("arrival phy empty", &rig, (1, 2), B1, (4, 1), 15),
+            ("arrival phy vacant", &vacant, (1, 2), B1, (4, 1), 15),
+            ("one word short", &rig, (1, 255), X20, (3, 1), 16),
+            ("no words", &rig, (1, 0), X20, (0, 1), 16),
+            ("no disable bits", &rig, (1, 0), X20, (4, 0), 18),
+            ("one byte of bits short", &nine, (1, 1), X20, (9, 1), 18),
+            ("address 0", &rig, (0, 255), 0, (4, 1), 17),
+            ("address 0", &rig, (1, 0), 0, (4, 1), 17),
+            ("address 0", &nine, (1, 1), 0, (9, 2), 17),
+            ("15, 16, 18 and 17", &rig, (2, 255), 0, (0, 0), 15),
+            ("15 and 18", &rig, (1, 2), B1, (4, 0), 15),
+            ("15 and 17", &rig, (1, 2), 0, (4, 1), 15),
+            ("16, 18 and 17", &rig, (0, 0), 0, (3, 0), 16),
+            ("16 and 18", &nine, (0, 0), B1, (8, 1), 16),
+            ("16 and 17", &rig, (0, 255), 0, (3, 1), 16),
+            ("18 and 17", &rig, (0, 0), 0, (4, 0), 18),
+        ] {
+            let lent = (&words[..length], &bits[..bytes]);
+            self.step(name, file, lent, at, address, refused(number, 0, 0))?;
+        }
+        Ok(())
     }
 
     // ------------------------------------------------------------ frames
@@ -2231,6 +2787,10 @@ impl Test<'_> {
         expected[9] = 5;
         expected[16] = 0x50;
         expected[23] = 0xb1;
+        let mut switched_off = expected;
+        switched_off[12] = 0x80;
+        let mut zero_address = expected;
+        zero_address[16..24].fill(0);
         let mut disabled = [0u8; 40];
         disabled[0] = 0x40;
         disabled[1] = 0x90;
@@ -2244,41 +2804,50 @@ impl Test<'_> {
             0x00, 0x00, 0x50, 0x00, 0x00, 0x00, 0x00, 0x00, 0x00, 0xb1, 0x00, 0x00, 0x00, 0x00,
             0x00, 0x00, 0x00, 0x00, 0x00, 0x00, 0x00, 0x00, 0x00, 0x00, 0x00, 0x00,
         ];
-        for (length, phy, index, entry, room, answer, frame) in [
-            (0, 5, 0x0102, B1, 40, 40, Some(&expected)),
-            (0, 5, 0x0102, B1, 60, 40, Some(&expected)),
-            (9, 5, 0x0102, B1, 44, 40, Some(&smp_utils)),
-            (0, 127, 0xffff, 0, 41, 40, Some(&disabled)),
-            (1, 5, 0x0102, B1, 40, refused(2, 0, 0), None),
-            (8, 128, 0, B1, 39, refused(2, 0, 0), None),
-            (10, 0, 0, 0, 0, refused(2, 0, 0), None),
-            (0x90, 127, 0, B1, 60, refused(2, 0, 0), None),
-            (0, 128, 0, B1, 40, refused(15, 0, 0), None),
-            (9, 255, 0, 0, 0, refused(15, 0, 0), None),
-            (9, 127, 0, B1, 39, refused(16, 0, 0), None),
-            (0, 0, 0, 0, 0, refused(16, 0, 0), None),
+        // An entry is its address and whether it is disabled, which any value but 0
+        // says; each is written as told.
+        for (length, phy, index, (address, disabled), room, answer, frame) in [
+            (0, 5, 0x0102, (B1, 0), 40, 40, Some(&expected)),
+            (0, 5, 0x0102, (B1, 0), 60, 40, Some(&expected)),
+            (9, 5, 0x0102, (B1, 0), 44, 40, Some(&smp_utils)),
+            (0, 5, 0x0102, (B1, 1), 40, 40, Some(&switched_off)),
+            (0, 5, 0x0102, (B1, 2), 50, 40, Some(&switched_off)),
+            (0, 5, 0x0102, (B1, 0x80), 40, 40, Some(&switched_off)),
+            (0, 5, 0x0102, (B1, 255), 40, 40, Some(&switched_off)),
+            (0, 5, 0x0102, (0, 0), 40, 40, Some(&zero_address)),
+            (0, 127, 0xffff, (0, 1), 41, 40, Some(&disabled)),
+            (1, 5, 0x0102, (B1, 0), 40, refused(2, 0, 0), None),
+            (8, 128, 0, (B1, 1), 39, refused(2, 0, 0), None),
+            (10, 0, 0, (0, 1), 0, refused(2, 0, 0), None),
+            (0x90, 127, 0, (B1, 0), 60, refused(2, 0, 0), None),
+            (0, 128, 0, (B1, 0), 40, refused(15, 0, 0), None),
+            (9, 255, 0, (0, 1), 0, refused(15, 0, 0), None),
+            (9, 127, 0, (B1, 1), 39, refused(16, 0, 0), None),
+            (0, 0, 0, (0, 0), 0, refused(16, 0, 0), None),
         ] {
             self.count += 1;
             let mut lent = Lent::new(room, || 0x77u8);
             let after = lent.after(frame.map_or(&[][..], |frame| frame));
             let got = self
                 .subject
-                .write_route(lent.part(), length, phy, index, entry);
-            let what =
-                || format!("write_route, length {length}, phy {phy}, index {index}, {room} bytes");
+                .write_route(lent.part(), length, phy, index, address, disabled);
+            let what = || {
+                format!(
+                    "write_route, length {length}, phy {phy}, index {index}, {address:016x}h, \
+                     disabled {disabled}, {room} bytes"
+                )
+            };
             same(what, answer, got)?;
             lent.check(what, &after)?;
         }
-        let mut zero_address = expected;
-        zero_address[16..24].fill(0);
-        let mut disabled_address = expected;
-        disabled_address[12] = 0x80;
         let mut other_bits = [0xff; 40];
         other_bits[0] = 0x40;
         other_bits[1] = 0x90;
         other_bits[3] = 0x09;
         other_bits[9] = 0;
         other_bits[12] = 0x7f;
+        let mut all_bits = other_bits;
+        all_bits[12] = 0xff;
         let mut byte_0 = expected;
         byte_0[0] = 0x41;
         let mut byte_1 = expected;
@@ -2293,7 +2862,7 @@ impl Test<'_> {
         byte_3_and_phy[3] = 0x0a;
         let mut both = phy_128;
         both[0] = 0;
-        for (name, frame, answer, entry) in [
+        for (name, frame, answer, address) in [
             ("written frame", &expected[..], 0x0005_0102, B1),
             ("frame of smp_utils", &smp_utils[..], 0x0905_0102, B1),
             (
@@ -2302,15 +2871,16 @@ impl Test<'_> {
                 refused(1, 0, 0),
                 0,
             ),
-            ("disabled entry", &disabled[..], 0x007f_ffff, 0),
+            ("no entry", &disabled[..], 0x1_007f_ffff, 0),
             ("address 0, enabled", &zero_address[..], 0x0005_0102, 0),
             (
                 "address with the disable bit",
-                &disabled_address[..],
-                0x0005_0102,
-                0,
+                &switched_off[..],
+                0x1_0005_0102,
+                B1,
             ),
             ("all other bits", &other_bits[..], 0x0900_ffff, u64::MAX),
+            ("all bits", &all_bits[..], 0x1_0900_ffff, u64::MAX),
             ("39 bytes", &expected[..39], refused(1, 0, 0), 0),
             ("no bytes", &[][..], refused(1, 0, 0), 0),
             (
@@ -2335,8 +2905,8 @@ impl Test<'_> {
             self.count += 2;
             let got = self.subject.read_route(frame);
             same(|| format!("{name}: read_route"), answer, got)?;
-            let got = self.subject.read_route_entry(frame);
-            same(|| format!("{name}: read_route_entry"), entry, got)?;
+            let got = self.subject.read_route_address(frame);
+            same(|| format!("{name}: read_route_address"), address, got)?;
         }
         Ok(())
     }
@@ -2579,6 +3149,428 @@ impl Test<'_> {
         }
         Ok(())
     }
+
+    // ------------------------------------------------------------ shelves
+
+    // ------------------------------------------------------------ rig cards
+
+    /// What a call makes in a buffer as long as needed and in a longer one, the rest
+    /// of which stays, and 16 where it is one byte short.
+    fn makes(
+        &mut self,
+        name: &str,
+        expected: &[u8],
+        call: impl Fn(&dyn Calls, u32, &mut [u8]) -> u64,
+    ) -> Done {
+        for more in [0, 5] {
+            self.count += 1;
+            let mut room = Lent::new(expected.len() + more, || 0x77);
+            let after = room.after(expected);
+            let got = call(self.subject, self.setting, room.part());
+            same(|| name.into(), expected.len() as u64, got)?;
+            room.check(|| name.into(), &after)?;
+        }
+        let short = refused(16, 0, 0);
+        self.makes_nothing(name, short, expected.len() - 1, call)
+    }
+
+    /// A refusal leaves the buffer.
+    fn makes_nothing(
+        &mut self,
+        name: &str,
+        expected: u64,
+        length: usize,
+        call: impl Fn(&dyn Calls, u32, &mut [u8]) -> u64,
+    ) -> Done {
+        self.count += 1;
+        let mut room = Lent::new(length, || 0x77);
+        let before = room.after(&[]);
+        same(
+            || name.into(),
+            expected,
+            call(self.subject, self.setting, room.part()),
+        )?;
+        room.check(|| name.into(), &before)
+    }
+
+    fn card_of_file(&mut self, name: &str, file: &[u8], card: &[u8]) -> Done {
+        let name = format!("{name}: card_of_file");
+        self.makes(&name, card, |subject, setting, room| {
+            subject.card_of_file(setting, file, room)
+        })
+    }
+
+    fn file_of_card(&mut self, name: &str, card: &[u8], file: &[u8]) -> Done {
+        let name = format!("{name}: file_of_card");
+        self.makes(&name, file, |subject, setting, room| {
+            subject.file_of_card(setting, card, room)
+        })
+    }
+
+    fn no_file_of_card(&mut self, name: &str, card: &[u8], expected: u64) -> Done {
+        let name = format!("{name}: file_of_card");
+        for length in [0, 1000] {
+            self.makes_nothing(&name, expected, length, |subject, setting, room| {
+                subject.file_of_card(setting, card, room)
+            })?;
+        }
+        Ok(())
+    }
+
+    /// Bits that are not on the card are not in the file that is made of it.
+    fn pair_card(&mut self) -> Done {
+        let card = pair_card();
+        self.card_of_file("pair", &pair_rig(), &card)?;
+        self.file_of_card("pair", &card, &pair_rig())?;
+        self.card_of_file("mixed pair", &mixed_pair().bytes(), &card)?;
+        // Ignored: byte 11 of the REPORT GENERAL of expander 0, bit 7 of byte 44 of its
+        // phy 0, and what the empty phy says of something attached.
+        let noisy = pair_bytes(|file| {
+            file[21] = 0xee;
+            file[82] = 0x82;
+            file[306] = 0x50;
+            file[314] = 9;
+        });
+        self.card_of_file("pair with ignored bytes", &noisy, &card)?;
+        // One expander with R FFFFh, a vacant phy and a phy with nothing attached, table.
+        let mut file = vec![0; 142];
+        for (at, value) in [
+            (0, 0x10),
+            (1, 1),
+            (9, 1),
+            (10, 0x41),
+            (16, 0xff),
+            (17, 0xff),
+            (19, 2),
+            (20, 1),
+            (38, 0x41),
+            (39, 0x10),
+            (40, 0x16),
+            (90, 0x41),
+            (91, 0x10),
+            (99, 1),
+            (113, 1),
+            (134, 2),
+        ] {
+            file[at] = value;
+        }
+        let card = [
+            0x20,
+            0x00,
+            0,
+            0,
+            0,
+            0,
+            0,
+            0,
+            0,
+            1,
+            0xff,
+            0xff,
+            0x81,
+            // 0 00010110, 1 000 10, 0
+            0b0000_1011,
+            0b0100_0100,
+        ];
+        self.card_of_file("vacant", &file, &card)?;
+        self.file_of_card("vacant", &card, &file)?;
+        // A vacant phy's identifier and own address are not on the card.
+        let mut told = file;
+        told[47] = 7;
+        told[61] = 1;
+        self.card_of_file("vacant with an identifier", &told, &card)
+    }
+
+    /// 19 in each of its ways, and what is tested after it.
+    fn card_refusals(&mut self) -> Done {
+        let pair = pair_card();
+        let wrong = refused(19, 0, 0);
+        for length in 0..pair.len() {
+            self.no_file_of_card(&format!("cut to {length}"), &pair[..length], wrong)?;
+        }
+        for more in [0x00, 0x01, 0x80] {
+            let longer = [&pair[..], &[more]].concat();
+            self.no_file_of_card("a byte too many", &longer, wrong)?;
+        }
+        let with = |bytes: &[(usize, u8)]| {
+            let mut card = pair_card();
+            for &(at, value) in bytes {
+                card[at] = value;
+            }
+            card
+        };
+        for bit in [0, 1, 2, 3, 10, 11, 12, 13, 14, 15, 510, 511] {
+            let mut card = pair_card();
+            card[bit / 8] ^= 0x80 >> (bit % 8);
+            self.no_file_of_card(&format!("bit {bit}"), &card, wrong)?;
+        }
+        // Of the vacant card of one expander the result.
+        let vacant = |last: [u8; 2]| {
+            let [first, second] = last;
+            [0x20, 0, 0, 0, 0, 0, 0, 0, 0, 1, 0, 0, 0, first, second]
+        };
+        self.no_file_of_card("result 0", &vacant([0, 0]), wrong)?;
+        for fill in 0..7 {
+            let set = vacant([0x0b, 1 << fill]);
+            self.no_file_of_card(&format!("fill bit {fill}"), &set, wrong)?;
+        }
+        // 19 is tested before all others, over the whole card.
+        let zero = [(2, 0), (9, 0)];
+        self.no_file_of_card("address 0", &with(&zero), refused(4, 0, 0))?;
+        let both = with(&[(2, 0), (9, 0), (63, 0x01)]);
+        self.no_file_of_card("address 0 and a fill bit", &both, wrong)?;
+        // Type 4, with address and phy behind it, and attribute 3.
+        self.no_file_of_card("type 4", &with(&[(13, 0xc9)]), refused(6, 0, 0))?;
+        self.no_file_of_card("attribute 3", &with(&[(13, 0xad)]), refused(6, 0, 0))?;
+        // The attached address of phy 0: bits 110 to 173.
+        let nothing = with(&[(13, 0xa8), (14, 0), (21, 0)]);
+        self.no_file_of_card("attached to 0", &nothing, refused(6, 0, 0))?;
+        // The address of expander 1, bits 260 to 323, is that of expander 0.
+        let used = with(&[(39, 0x01)]);
+        self.no_file_of_card("address used", &used, refused(4, 1, 0))?;
+        let cut = pair_rig();
+        for (length, expected) in [(333, refused(1, 1, 2)), (1, refused(1, 0, 0))] {
+            self.makes_nothing(
+                "cut pair: card_of_file",
+                expected,
+                64,
+                |subject, setting, room| subject.card_of_file(setting, &cut[..length], room),
+            )?;
+        }
+        // Causes 7 and on are not tested: an expander attached to one that is not there.
+        let far = pair_bytes(|file| file[69] = 0x30);
+        let mut card = pair_card();
+        card[21] ^= 0x40;
+        self.card_of_file("cable to nowhere", &far, &card)?;
+        self.file_of_card("cable to nowhere", &card, &far)
+    }
+
+    fn card_settings(&mut self) -> Done {
+        let (card, file) = (pair_card(), pair_rig());
+        for (setting, expected) in [
+            (course(1, 3, 2), refused(3, 0, 0)),
+            (course(2, 2, 2), refused(3, 1, 0)),
+            (course(2, 1, 2), refused(3, 0, 0)),
+            (course(0, 3, 2), refused(22, 0, 0)),
+            (course(2, 129, 2), refused(22, 0, 0)),
+            (WIDEST + (1 << 24), refused(22, 0, 0)),
+        ] {
+            self.setting = setting;
+            self.no_file_of_card("pair in a course", &card, expected)?;
+            self.makes_nothing(
+                "pair: card_of_file",
+                expected,
+                64,
+                |subject, setting, room| subject.card_of_file(setting, &file, room),
+            )?;
+        }
+        // 22 before 19, and 19 before 3.
+        self.no_file_of_card("no bytes", &[], refused(22, 0, 0))?;
+        self.setting = course(1, 1, 1);
+        self.no_file_of_card("cut pair", &card[..63], refused(19, 0, 0))?;
+        // Chains are not tested.
+        self.setting = course(2, 3, 1);
+        self.card_of_file("pair in a course", &file, &card)?;
+        self.file_of_card("pair in a course", &card, &file)?;
+        self.setting = WIDEST;
+        Ok(())
+    }
+
+    fn largest_card(&mut self) -> Done {
+        let file = full_star(DIRECT);
+        self.count += 2;
+        let mut card = vec![0; 80_578];
+        let bytes = self.subject.card_of_file(WIDEST, &file, &mut card);
+        same(|| "largest: card_of_file".into(), 80_578, bytes)?;
+        let mut back = vec![0x77; 428_290];
+        let bytes = self.subject.file_of_card(WIDEST, &card, &mut back);
+        same(|| "largest: file_of_card".into(), 428_290, bytes)?;
+        self.judge("largest, from its card", &back, 64)
+    }
+
+    /// A shelf of four phys: table, vacant, other, table; R is 2.
+    fn shelf(&mut self) -> Result<Box<Words>, Difference> {
+        let mut shelf = Box::new([0; SHELF_WORDS]);
+        self.count += 1;
+        let got = self.subject.shelf_fresh(&mut shelf, 4, 2, &[1, 0, 2, 1]);
+        same(|| "shelf_fresh".into(), 0, got)?;
+        Ok(shelf)
+    }
+
+    /// The answer to a frame; any but 00h leaves every word.
+    fn obey(&mut self, shelf: &mut Words, frame: &[u8], expected: u64) -> Done {
+        let before = *shelf;
+        self.count += 1;
+        let what = || format!("shelf_obey of {}", hex(frame));
+        same(what, expected, self.subject.shelf_obey(shelf, frame))?;
+        let changed = expected != 0 && *shelf != before;
+        same(|| format!("{}: words changed", what()), 0, changed.into())
+    }
+
+    /// Address and disable byte of an entry; 0 and 2 where there is none.
+    fn held(&mut self, shelf: &Words, phy: u8, index: u16, address: u64, disabled: u64) -> Done {
+        self.count += 2;
+        let what = |call| move || format!("{call} of phy {phy}, index {index}");
+        let got = self.subject.shelf_entry(shelf, phy, index);
+        same(what("shelf_entry"), address, got)?;
+        let got = self.subject.shelf_disabled(shelf, phy, index);
+        same(what("shelf_disabled"), disabled, got)
+    }
+
+    /// 1 to 16 phys, R up to 64, exactly one byte per phy, each 0, 1 or 2.
+    fn shelves_told(&mut self) -> Done {
+        let ones = [1; 18];
+        for (phys, indexes, kinds, can) in [
+            (4, 2, &[1, 0, 2, 1][..], true),
+            (1, 0, &ones[..1], true),
+            (16, 64, &ones[..16], true),
+            (0, 2, &[], false),
+            (0, 2, &ones[..1], false),
+            (17, 2, &ones[..17], false),
+            (255, 2, &ones[..16], false),
+            (1, 65, &ones[..1], false),
+            (1, 320, &ones[..1], false),
+            (2, 64, &ones[..1], false),
+            (1, 64, &ones[..2], false),
+            (16, 64, &[], false),
+            (2, 64, &[2, 3], false),
+            (2, 64, &[3, 2], false),
+            (1, 64, &[255], false),
+        ] {
+            let mut shelf = [0x7777; SHELF_WORDS];
+            self.count += 1;
+            let what = || format!("shelf_fresh of {phys} phys, R {indexes}, kinds {kinds:?}");
+            let got = self.subject.shelf_fresh(&mut shelf, phys, indexes, kinds);
+            same(what, if can { 0 } else { refused(3, 0, 0) }, got)?;
+            let kept = shelf == [0x7777; SHELF_WORDS];
+            same(|| format!("{}: kept", what()), (!can).into(), kept.into())?;
+        }
+        Ok(())
+    }
+
+    /// In this order: refused, 10h, 16h, 11h, 00h; both request lengths.
+    fn shelf_results(&mut self) -> Done {
+        let mut shelf = self.shelf()?;
+        for length in [0x00, 0x09] {
+            for (phy, index, expected) in [
+                (4, 0, 0x10),
+                (4, 2, 0x10),
+                (127, 0, 0x10),
+                (1, 0, 0x16),
+                (1, 2, 0x16),
+                (1, 65535, 0x16),
+                (2, 0, 0x11),
+                (2, 2, 0x11),
+                (3, 2, 0x11),
+                (0, 256, 0x11),
+                (0, 65535, 0x11),
+                (128, 0, refused(15, 0, 0)),
+                (255, 2, refused(15, 0, 0)),
+                (3, 1, 0x00),
+                (0, 0, 0x00),
+            ] {
+                let frame = loading(length, phy, index, B1, 0x00);
+                self.obey(&mut shelf, &frame, expected)?;
+            }
+        }
+        let good = loading(0x09, 0, 1, B1, 0x00);
+        self.obey(&mut shelf, &[], refused(1, 0, 0))?;
+        self.obey(&mut shelf, &good[..39], refused(1, 0, 0))?;
+        self.obey(&mut shelf, &[&good[..], &[0; 4]].concat(), refused(1, 0, 0))?;
+        for (at, value) in [(0, 0x41), (1, 0x91), (3, 0x01), (3, 0x0a)] {
+            let mut spoiled = good;
+            spoiled[at] = value;
+            self.obey(&mut shelf, &spoiled, refused(2, 0, 0))?;
+        }
+        self.held(&shelf, 0, 1, 0, 1)
+    }
+
+    /// One entry and its disable bit are replaced, and no other.
+    fn shelf_entries(&mut self) -> Done {
+        let mut shelf = self.shelf()?;
+        for (phy, index) in [(0, 0), (0, 1), (3, 0), (3, 1)] {
+            self.held(&shelf, phy, index, 0, 1)?;
+        }
+        for (phy, index) in [
+            (0, 2),
+            (3, 64),
+            (1, 0),
+            (2, 0),
+            (4, 0),
+            (128, 0),
+            (255, 65535),
+        ] {
+            self.held(&shelf, phy, index, 0, 2)?;
+        }
+        for (address, byte, disabled) in [
+            (B1, 0x00, 0),
+            (A1, 0x80, 1),
+            (B1, 0x7f, 0),
+            (1 << 63, 0xff, 1),
+            (0, 0x00, 0),
+            (0, 0x80, 1),
+            (B1, 0x00, 0),
+        ] {
+            self.obey(&mut shelf, &loading(0x00, 3, 1, address, byte), 0x00)?;
+            self.held(&shelf, 3, 1, address, disabled)?;
+            for (phy, index) in [(0, 0), (0, 1), (3, 0)] {
+                self.held(&shelf, phy, index, 0, 1)?;
+            }
+        }
+        // The same frame again changes nothing, and a fresh shelf has lost it.
+        let before = *shelf;
+        self.obey(&mut shelf, &loading(0x09, 3, 1, B1, 0x00), 0x00)?;
+        same(|| "a frame sent again".into(), 1, (*shelf == before).into())?;
+        let got = self.subject.shelf_fresh(&mut shelf, 4, 2, &[1, 0, 2, 1]);
+        same(|| "shelf_fresh, again".into(), 0, got)?;
+        self.held(&shelf, 3, 1, 0, 1)
+    }
+
+    /// Zeros have no phys; of other bytes at most 16 phys and 64 indexes count.
+    fn shelf_of_any_bytes(&mut self) -> Done {
+        let mut cleared = [0; SHELF_WORDS];
+        self.obey(&mut cleared, &loading(0x00, 0, 0, B1, 0x00), 0x10)?;
+        self.held(&cleared, 0, 0, 0, 2)?;
+        // Every kind is 1; R and the number of phys are 01010101h.
+        let mut full = [0x0101_0101_0101_0101; SHELF_WORDS];
+        for (phy, index, expected) in [(16, 0, 0x10), (127, 0, 0x10), (15, 64, 0x11)] {
+            self.obey(&mut full, &loading(0x00, phy, index, B1, 0x00), expected)?;
+            self.held(&full, phy, index, 0, 2)?;
+        }
+        self.held(&full, 15, 63, 0x0101_0101_0101_0101, 1)?;
+        self.obey(&mut full, &loading(0x00, 15, 63, B1, 0x00), 0x00)?;
+        self.held(&full, 15, 63, B1, 0)?;
+        // No kind is 0, 1 or 2: no phy is vacant, and none is a table phy.
+        let mut other = [u64::MAX; SHELF_WORDS];
+        self.obey(&mut other, &loading(0x00, 15, 0, B1, 0x00), 0x11)?;
+        self.held(&other, 15, 0, 0, 2)
+    }
+
+    /// What smp_conf_route_info of smp_utils sends before the CRC: for phy 3, index 1
+    /// and B1h; with --disable for phy 0, index 0 and 5000c50012345678h.
+    fn smp_utils(&mut self) -> Done {
+        let mut first = [0; 40];
+        first[..4].copy_from_slice(&[0x40, 0x90, 0x00, 0x09]);
+        let mut second = first;
+        (first[7], first[9], first[16], first[23]) = (1, 3, 0x50, 0xb1);
+        second[12] = 0x80;
+        second[16..24].copy_from_slice(&[0x50, 0x00, 0xc5, 0x00, 0x12, 0x34, 0x56, 0x78]);
+        let mut shelf = self.shelf()?;
+        self.obey(&mut shelf, &first, 0x00)?;
+        self.obey(&mut shelf, &second, 0x00)?;
+        self.held(&shelf, 3, 1, B1, 0)?;
+        self.held(&shelf, 0, 0, 0x5000_c500_1234_5678, 1)?;
+        self.held(&shelf, 3, 0, 0, 1)
+    }
+}
+
+/// A loading frame, byte by byte; `byte` is its byte 12.
+fn loading(length: u8, phy: u8, index: u16, address: u64, byte: u8) -> [u8; 40] {
+    let mut frame = [0; 40];
+    (frame[0], frame[1], frame[3], frame[9], frame[12]) = (0x40, 0x90, length, phy, byte);
+    frame[6..8].copy_from_slice(&index.to_be_bytes());
+    frame[16..24].copy_from_slice(&address.to_be_bytes());
+    frame
 }
 
 /// Each expander is table to the next and subtractive to the one before.
@@ -2634,175 +3626,4 @@ fn star(hub: usize, route_indexes: u16) -> Vec<u8> {
             })
             .collect(),
     )
-}
-
-/// The typed answers of the Rust binding.
-pub fn typed() -> Done {
-    use metzurgo::{
-        Discover, General, GeneralSas2, LongGeneral, Outcome, Refusal, Route, Setting, Tables,
-        Trace,
-    };
-
-    fn equal<T: PartialEq + std::fmt::Debug>(what: &str, expected: T, got: T) -> Done {
-        if expected == got {
-            return Ok(());
-        }
-        Err(Difference {
-            what: what.into(),
-            expected: format!("{expected:?}"),
-            got: format!("{got:?}"),
-        })
-    }
-    fn refusal(number: u8, expander: u8, phy: u8) -> Refusal {
-        Refusal {
-            number,
-            expander,
-            phy,
-        }
-    }
-
-    let rig = pair_rig();
-    let widest = Setting::WIDEST;
-    let mut words = [7; 5];
-    equal("wire", Ok(2), metzurgo::wire(widest, &rig, &mut words))?;
-    equal("wire", [2, 1, 7, 7, 7], words)?;
-    equal(
-        "wire",
-        Err(refusal(16, 0, 0)),
-        metzurgo::wire(widest, &rig, &mut words[..1]),
-    )?;
-    equal("judge", Ok(2), metzurgo::judge(widest, &rig))?;
-    for (limits, expected) in [
-        ((2, 3, 2), Ok(2)),
-        ((1, 3, 2), Err(refusal(3, 0, 0))),
-        ((2, 2, 2), Err(refusal(3, 1, 0))),
-        ((2, 3, 1), Err(refusal(23, 0, 0))),
-        ((0, 3, 2), Err(refusal(22, 0, 0))),
-        ((2, 129, 2), Err(refusal(22, 0, 0))),
-        ((2, 3, 65), Err(refusal(22, 0, 0))),
-    ] {
-        let setting = Setting::new(limits.0, limits.1, limits.2);
-        let got = setting.and_then(|setting| metzurgo::judge(setting, &rig));
-        equal("judge", expected, got)?;
-    }
-    equal("the widest setting", Ok(widest), Setting::new(64, 128, 64))?;
-    equal(
-        "judge",
-        Err(refusal(1, 1, 2)),
-        metzurgo::judge(widest, &rig[..333]),
-    )?;
-    let written = Tables {
-        tables: 1,
-        words: 4,
-    };
-    equal(
-        "tables",
-        Ok(written),
-        metzurgo::tables(widest, &rig, &mut words),
-    )?;
-    equal("tables", [B1, 0, 0, 0, 7], words)?;
-    let mut passed = [7; 3];
-    for (start, arrival, address, outcome, last, phy, count) in [
-        (0, 255, B1, Outcome::Arrived, 1, Some(1), 2),
-        (1, 1, A1, Outcome::Arrived, 0, Some(1), 2),
-        (1, 255, X10, Outcome::Arrived, 0, None, 2),
-        (1, 255, FF, Outcome::NoDestination, 0, None, 2),
-        (1, 1, B1, Outcome::BadDestination, 1, None, 1),
-    ] {
-        let expected = Trace {
-            outcome,
-            last,
-            phy,
-            count,
-        };
-        let got = metzurgo::trace(widest, &rig, &words, start, arrival, address, &mut passed);
-        equal("trace", Ok(expected), got)?;
-    }
-    equal("trace", [1, 0, 7], passed)?;
-    equal(
-        "trace",
-        Err(refusal(17, 0, 0)),
-        metzurgo::trace(widest, &rig, &words, 0, 255, 0, &mut passed),
-    )?;
-    let mut buf = [7; 50];
-    let route = Route {
-        length: 0x09,
-        phy: 3,
-        index: 0x0405,
-        entry: B1,
-    };
-    let frame = metzurgo::write_route(&mut buf, route).map(|frame| frame.to_vec());
-    equal("write_route", Ok(40), frame.as_ref().map(Vec::len))?;
-    equal(
-        "read_route",
-        Ok(route),
-        metzurgo::read_route(&frame.unwrap_or_default()),
-    )?;
-    equal(
-        "write_route",
-        [7; 10],
-        buf[40..].try_into().unwrap_or_default(),
-    )?;
-    equal(
-        "write_route",
-        Some(refusal(15, 0, 0)),
-        metzurgo::write_route(&mut buf, Route { phy: 128, ..route }).err(),
-    )?;
-    let general = General {
-        route_indexes: 4,
-        phys: 2,
-        configurable: true,
-    };
-    equal(
-        "read_general",
-        Ok(general),
-        metzurgo::read_general(&rig[10..38]),
-    )?;
-    let sas2 = |long| Ok(GeneralSas2 { general, long });
-    let mut long = rig[10..38].to_vec();
-    equal(
-        "read_general_sas2",
-        sas2(None),
-        metzurgo::read_general_sas2(&long),
-    )?;
-    long[3] = 0x10;
-    long[10] |= 0x80;
-    long.resize(68, 0);
-    let fields = LongGeneral {
-        table_to_table_supported: true,
-        configures_others: false,
-    };
-    equal(
-        "read_general_sas2",
-        sas2(Some(fields)),
-        metzurgo::read_general_sas2(&long),
-    )?;
-    equal("read_general", Ok(general), metzurgo::read_general(&long))?;
-    let phy = Discover::Phy {
-        identifier: 1,
-        device_type: codes::END_DEVICE,
-        attribute: codes::DIRECT,
-        own: X20,
-        attached: B1,
-        attached_phy: 0,
-    };
-    equal(
-        "read_discover",
-        Ok(phy),
-        metzurgo::read_discover(&rig[230..282]),
-    )?;
-    let mut vacant = rig[230..282].to_vec();
-    vacant[2] = 0x1f;
-    let expected = Discover::Vacant { result: 0x1f };
-    equal(
-        "read_discover",
-        Ok(expected),
-        metzurgo::read_discover(&vacant),
-    )?;
-    equal(
-        "read_discover",
-        Err(refusal(1, 0, 0)),
-        metzurgo::read_discover(&[]),
-    )?;
-    Ok(())
 }
