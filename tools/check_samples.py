@@ -1,9 +1,10 @@
 #!/usr/bin/env python3
 """Builds every sample and compares its calls with the answers it states.
 
-    check_samples.py [--harness PROGRAM] [--routes PROGRAM] [--samples FOLDER]
+    check_samples.py [--harness PROGRAM] [--reference] [--routes PROGRAM] [--samples FOLDER]
 
-The calls are made by the test harness, on the archive. Each refused or
+The calls are made by the test harness, on the archive, or with --reference on the
+harness's reference implementation. Each refused or
 faulty sample is built and called a second time, repaired. A sample has no warnings. Every file
 built is printed and built again. With --routes the program lists every file, and
 its listing is compared with the words of the table call. docs/FILE-FORMAT.md,
@@ -19,11 +20,13 @@ import tempfile
 from pathlib import Path
 
 sys.dont_write_bytecode = True
-import rigfile  # noqa: E402
-
 ROOT = Path(__file__).resolve().parent.parent
-NUMBERS = [*range(1, 13), *range(14, 18), 22, 23]  # 13 is withdrawn
-KEYS = ("shows", "call", "answer", "words", "passed", "repair", "repaired call", "repaired answer")
+sys.path.insert(0, str(ROOT / "bindings/python"))
+from metzurgo import rigtext  # noqa: E402
+
+NUMBERS = [*range(1, 13), *range(14, 20), 22, 23]  # 13 is withdrawn
+WRITTEN = ("words", "bits", "passed", "card")
+KEYS = ("shows", "call", "answer", *WRITTEN, "repair", "repaired call", "repaired answer")
 
 
 class Wrong(Exception):
@@ -39,7 +42,7 @@ class Call:
     def __init__(self, call):
         self.call = call
         self.answer = None
-        self.written = {}  # "words" or "passed", as far as stated
+        self.written = {}  # of WRITTEN, as far as stated
         self.repaired_call = None
         self.repaired_answer = None
 
@@ -92,7 +95,7 @@ class Sample:
         if not self.calls:
             raise Wrong(f"states {key} before a call")
         call = self.calls[-1]
-        if key in ("words", "passed"):
+        if key in WRITTEN:
             call.written.setdefault(key, []).extend(value.split())
             return
         field = key.replace(" ", "_")
@@ -154,6 +157,7 @@ class Sample:
 class Check:
     def __init__(self, options, folder):
         self.harness, self.routes = options.harness, options.routes
+        self.calls = "call-reference" if options.reference else "call"
         self.built = Path(folder) / "sample.bin"
         self.files = self.answers = self.listings = 0
 
@@ -174,7 +178,7 @@ class Check:
     def build(self, text):
         """Builds a text, and prints and builds the file again."""
         file = build(text)
-        printed, notice = rigfile.print_file(file)
+        printed, notice = rigtext.print_file(file)
         if notice:
             raise Wrong(f"printed: {notice}")
         if build(printed, "printed: ", strict=False) != file:
@@ -186,13 +190,16 @@ class Check:
     def call(self, call):
         """The answer of a call on the file built last, and what was written."""
         done = subprocess.run(
-            [self.harness, "call", self.built, *call.split()], capture_output=True, text=True
+            [self.harness, self.calls, self.built, *call.split()], capture_output=True, text=True
         )
         if done.returncode != 0:
             raise Wrong(f'the call "{call}" fails: {(done.stdout + done.stderr).strip()}')
-        answer, _, rest = done.stdout.partition("\n")
-        kind, *values = rest.split() or [None]
-        return answer, {kind: values}
+        answer, *rest = done.stdout.rstrip("\n").split("\n")
+        written = {}
+        for line in rest:
+            kind, *values = line.split()
+            written[kind] = values
+        return answer, written
 
     def compare(self, call, answer, stated, when=""):
         self.answers += 1
@@ -213,7 +220,7 @@ class Check:
         expected = answer + "\n"
         if not answer.startswith("refused"):
             words = iter(written["words"])
-            rig, _ = rigfile.read_file(file)
+            rig, _ = rigtext.read_file(file)
             lines = [
                 f"{number} {phy.number} {index} {next(words)}\n"
                 for number, expander in enumerate(rig.expanders)
@@ -254,7 +261,7 @@ class Check:
 
 
 def build(text, when="", strict=True):
-    reader = rigfile.Reader(text, strict)
+    reader = rigtext.Reader(text, strict)
     if reader.errors:
         raise Wrong(f"{when}{reader.errors[0]}")
     return reader.rig.file()
@@ -319,7 +326,7 @@ def check_refusal_table(samples):
     """docs/FILE-FORMAT.md: a row for each number, with a sample and its repair."""
     rows = table_rows(ROOT / "docs/FILE-FORMAT.md", "## Refusals")
     if [row[0] for row in rows] != [str(number) for number in NUMBERS]:
-        raise Wrong("the table of refusals does not have the rows 1 to 12, 14 to 17, 22 and 23")
+        raise Wrong("the table of refusals does not have the rows 1 to 12, 14 to 19, 22 and 23")
     for number, _, name, repair in rows:
         sample = samples.get(name.strip("`"))
         if not sample or sample.number != int(number):
@@ -352,6 +359,7 @@ def main():
         description=__doc__, formatter_class=argparse.RawDescriptionHelpFormatter
     )
     parser.add_argument("--harness", default=ROOT / "target/harness/release/harness")
+    parser.add_argument("--reference", action="store_true")
     parser.add_argument("--routes")
     parser.add_argument("--samples", type=Path, default=ROOT / "samples")
     options = parser.parse_args()

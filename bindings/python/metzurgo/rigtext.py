@@ -1,18 +1,16 @@
-#!/usr/bin/env python3
-"""Makes a domain file from a text, and prints a domain file as text.
+"""The text form of a rig (docs/RIG-TEXT.md): texts read, domain files printed as texts.
 
-    rigfile.py build [--strict] IN OUT    the text IN becomes the domain file OUT
-    rigfile.py print FILE                 the domain file FILE as text
+All errors in a text are kept, each with its line. What looks like a slip of the pen is
+a warning, or an error where the reader is strict. Whether a rig can work is not tested
+here: that is for the library.
 
-A hyphen stands for standard input or output. All errors in a text are reported,
-each with its line, and OUT is not written. What looks like a slip of the pen is a
-warning, or an error with --strict. Whether a rig can work is not tested here:
-that is for the program routes and the calls of include/metzurgo.h.
+>>> file = build("expander only 5000000000000010\\n  phy 0 direct empty\\n")
+>>> len(file), print_file(file)[0]
+(90, 'expander E0 5000000000000010 R 0\\n  phy 0 direct empty\\n')
 """
 
-import argparse
 import re
-import sys
+from typing import Any, Callable, Dict, Iterator, List, Optional, Set, Tuple, Union
 
 FORM = """\
 the lines of a text (docs/RIG-TEXT.md describes them; # starts a comment):
@@ -37,6 +35,10 @@ lines that alter the file after it is laid out, for files that are to be refused
 
 FIELD is identifier, type, attribute, own, attached or attached-phy."""
 
+# Fields by their names; a field is a number, or True or False.
+Fields = Dict[str, Any]
+Settable = Dict[str, Optional[int]]
+
 ATTRIBUTES = ("direct", "subtractive", "table")
 END_DEVICE, EDGE_EXPANDER, FANOUT_EXPANDER = 1, 2, 3
 VACANT = 0x16  # the SMP function result PHY VACANT
@@ -59,9 +61,9 @@ PHY_FIXED = {"byte 0": 0x41, "byte 1": 0x10, "byte 3": 0x00}
 LONG_EXPANDER, LONG_PHY = 0x10, 0x0F
 
 # What a set line can set, and the highest value (None: an address).
-HEADER_SET = {**dict.fromkeys(HEADER_FIXED, 255), "count": 255}
-EXPANDER_SET = {**dict.fromkeys(EXPANDER_FIXED, 255), "phys": 255}
-PHY_SET = {
+HEADER_SET: Settable = {**dict.fromkeys(HEADER_FIXED, 255), "count": 255}
+EXPANDER_SET: Settable = {**dict.fromkeys(EXPANDER_FIXED, 255), "phys": 255}
+PHY_SET: Settable = {
     **dict.fromkeys(PHY_FIXED, 255),
     "identifier": 255,
     "type": 7,
@@ -72,20 +74,20 @@ PHY_SET = {
 }
 
 
-def expander_fixed(long):
+def expander_fixed(long: bool) -> Dict[str, int]:
     return {**EXPANDER_FIXED, "byte 3": LONG_EXPANDER} if long else EXPANDER_FIXED
 
 
-def phy_fixed(long):
+def phy_fixed(long: bool) -> Dict[str, int]:
     return {**PHY_FIXED, "byte 3": LONG_PHY} if long else PHY_FIXED
 
 
-def expander_size(long):
+def expander_size(long: bool) -> int:
     """The bytes of an address and a REPORT GENERAL response."""
     return 8 + (68 if long else 28)
 
 
-def phy_size(long):
+def phy_size(long: bool) -> int:
     """The bytes of a DISCOVER response."""
     return 64 if long else 52
 
@@ -93,7 +95,7 @@ def phy_size(long):
 class TextError(Exception):
     """An error in a text, with its line."""
 
-    def __init__(self, line, message):
+    def __init__(self, line: int, message: str) -> None:
         super().__init__(f"line {line}: {message}")
         self.line = line
 
@@ -101,7 +103,7 @@ class TextError(Exception):
 class TextErrors(Exception):
     """All errors in a text, in the order of their lines."""
 
-    def __init__(self, errors):
+    def __init__(self, errors: List[TextError]) -> None:
         super().__init__("\n".join(map(str, errors)))
         self.errors = errors
 
@@ -112,25 +114,32 @@ class TextErrors(Exception):
 class Drive:
     type = END_DEVICE
 
-    def __init__(self, name, address, line=0):
+    def __init__(self, name: str, address: Optional[int], line: int = 0) -> None:
         self.name, self.address, self.line = name, address, line
 
 
 class Expander:
     def __init__(
-        self, name, address, indexes=0, configurable=False, fanout=False, long=False, line=0
-    ):
+        self,
+        name: str,
+        address: int,
+        indexes: int = 0,
+        configurable: bool = False,
+        fanout: bool = False,
+        long: bool = False,
+        line: int = 0,
+    ) -> None:
         self.name, self.address, self.line = name, address, line
         self.indexes, self.configurable, self.long = indexes, configurable, long
         self.type = FANOUT_EXPANDER if fanout else EDGE_EXPANDER
-        self.phys = []
-        self.set = {}
+        self.phys: List[Phy] = []
+        self.set: Fields = {}
 
-    def phy(self, number):
+    def phy(self, number: int) -> Optional["Phy"]:
         """The phy of this number, or None."""
         return next((phy for phy in self.phys if phy.number == number), None)
 
-    def fields(self):
+    def fields(self) -> Fields:
         return {
             **expander_fixed(self.long),
             "long": self.long,
@@ -143,20 +152,29 @@ class Expander:
 
 
 class Phy:
-    def __init__(self, expander, number, attribute=0, result=0, long=False, line=0):
+    def __init__(
+        self,
+        expander: Expander,
+        number: int,
+        attribute: int = 0,
+        result: int = 0,
+        long: bool = False,
+        line: int = 0,
+    ) -> None:
         self.expander, self.number, self.line = expander, number, line
         self.attribute, self.result, self.long = attribute, result, long
         # What its own line says: None, "empty", or a drive or expander and its phy.
-        self.named = None
+        self.named: Union[None, str, "End"] = None
         # What is attached, as far as ordinary lines say: None, or device and phy.
-        self.attached = None
-        self.set = {}
+        self.attached: Optional["End"] = None
+        self.set: Fields = {}
+        self.found: Fields = {}  # the fields of a frame that was read
 
-    def __str__(self):
+    def __str__(self) -> str:
         return f"{self.expander.name}.{self.number}"
 
-    def fields(self):
-        fields = {
+    def fields(self) -> Fields:
+        fields: Fields = {
             **phy_fixed(self.long),
             "long": self.long,
             "result": self.result,
@@ -174,27 +192,31 @@ class Phy:
         return {**fields, **self.set}
 
 
+Device = Union[Drive, Expander]
+End = Tuple[Device, int]  # a device and one of its phys
+
+
 class Rig:
     """What a text says."""
 
-    def __init__(self):
-        self.drives = []
-        self.expanders = []
-        self.set = {}
-        self.cut = None
+    def __init__(self) -> None:
+        self.drives: List[Drive] = []
+        self.expanders: List[Expander] = []
+        self.set: Fields = {}
+        self.cut: Optional[int] = None
         self.appended = b""
 
-    def fields(self):
+    def fields(self) -> Fields:
         return {**HEADER_FIXED, "count": len(self.expanders), **self.set}
 
-    def length(self):
+    def length(self) -> int:
         """The length of the file before it is cut."""
         return 2 + sum(
             expander_size(expander.long) + sum(phy_size(phy.long) for phy in expander.phys)
             for expander in self.expanders
         )
 
-    def laid_out(self):
+    def laid_out(self) -> bytes:
         """The file before it is cut."""
         parts = [header_unit(self.fields())]
         for expander in self.expanders:
@@ -202,18 +224,21 @@ class Rig:
             parts.extend(phy_unit(phy.fields()) for phy in expander.phys)
         return b"".join(parts)
 
-    def file(self):
+    def file(self) -> bytes:
         return self.laid_out()[: self.cut] + self.appended
+
+
+Unit = Union[Rig, Expander, Phy]
 
 
 # ------------------------------------------------------------ units of a file
 
 
-def header_unit(fields):
+def header_unit(fields: Fields) -> bytes:
     return bytes([fields["byte 0"], fields["count"]])
 
 
-def expander_unit(fields):
+def expander_unit(fields: Fields) -> bytes:
     """The address and a REPORT GENERAL response; ignored bytes are zero."""
     unit = bytearray(expander_size(fields["long"]))
     unit[0:8] = fields["address"].to_bytes(8, "big")
@@ -225,7 +250,7 @@ def expander_unit(fields):
     return bytes(unit)
 
 
-def phy_unit(fields):
+def phy_unit(fields: Fields) -> bytes:
     """A DISCOVER response; ignored bytes are zero."""
     unit = bytearray(phy_size(fields["long"]))
     for number in (0, 1, 3):
@@ -242,7 +267,7 @@ def phy_unit(fields):
     return bytes(unit)
 
 
-def expander_read(unit):
+def expander_read(unit: bytes) -> Fields:
     return {
         **{f"byte {number}": unit[8 + number] for number in range(4)},
         "long": len(unit) == expander_size(True),
@@ -253,7 +278,7 @@ def expander_read(unit):
     }
 
 
-def phy_read(unit):
+def phy_read(unit: bytes) -> Fields:
     return {
         **{f"byte {number}": unit[number] for number in (0, 1, 3)},
         "long": len(unit) == phy_size(True),
@@ -270,7 +295,7 @@ def phy_read(unit):
 # --------------------------------------------------------------- reading texts
 
 
-def number(line, text, low, high, what):
+def number(line: int, text: str, low: int, high: int, what: str) -> int:
     if re.fullmatch(r"[0-9]{1,9}", text):
         value = int(text)
     elif re.fullmatch(r"[0-9A-Fa-f]{1,8}h", text):
@@ -282,20 +307,20 @@ def number(line, text, low, high, what):
     return value
 
 
-def address(line, text):
+def address(line: int, text: str) -> int:
     match = re.fullmatch(r"(?:0x)?([0-9A-Fa-f]{16})|([0-9A-Fa-f]{16})h", text)
     if not match:
         raise TextError(line, f'"{text}" is not an address (16 hexadecimal digits)')
     return int(match[1] or match[2], 16)
 
 
-def phy_numbers(line, text, high):
+def phy_numbers(line: int, text: str, high: int) -> List[int]:
     """The phys of NUMBER or FIRST-LAST."""
-    first, hyphen, last = text.partition("-")
-    first = number(line, first, 0, high, "a phy number")
+    lower, hyphen, upper = text.partition("-")
+    first = number(line, lower, 0, high, "a phy number")
     if not hyphen:
         return [first]
-    last = number(line, last, 0, high, "a phy number")
+    last = number(line, upper, 0, high, "a phy number")
     if last < first:
         raise TextError(line, f"{text} is not a range of phys (the lower number comes first)")
     return list(range(first, last + 1))
@@ -308,16 +333,19 @@ class Reader:
     is seldom the cause of others.
     """
 
-    def __init__(self, text, strict=False):
+    def __init__(self, text: str, strict: bool = False) -> None:
         self.rig = Rig()
-        self.errors, self.warnings = [], []
-        self.names = {}  # drives and expanders
-        self.next_phy = 0  # its number, or None after a number that cannot be read
-        self.ends = []  # a phy, its device's name, the phy number or None
-        self.sets = []
-        self.set_at = {}  # the line of each field that is set
-        self.appended = []
-        self.cut = None
+        self.errors: List[TextError] = []
+        self.warnings: List[TextError] = []
+        self.names: Dict[str, Device] = {}  # drives and expanders
+        self.next_phy: Optional[int] = 0  # its number, or None after a number that cannot be read
+        self.ends: List[
+            Tuple[Phy, str, Optional[int]]
+        ] = []  # a phy, its device's name, the phy number or None
+        self.sets: List[Tuple[int, List[str]]] = []
+        self.set_at: Dict[Tuple[Unit, str], int] = {}  # the line of each field that is set
+        self.appended: List[bytes] = []
+        self.cut: Optional[Tuple[int, int]] = None
         for line, content in enumerate(text.split("\n"), 1):
             words = content.partition("#")[0].split()
             if words:
@@ -341,13 +369,13 @@ class Reader:
         self.errors.sort(key=lambda error: error.line)
         self.warnings.sort(key=lambda warning: warning.line)
 
-    def attempt(self, act, *arguments):
+    def attempt(self, act: Callable[..., None], *arguments: Any) -> None:
         try:
             act(*arguments)
         except TextError as error:
             self.errors.append(error)
 
-    def line(self, line, kind, *words):
+    def line(self, line: int, kind: str, *words: str) -> None:
         kinds = {
             "drive": self.drive,
             "expander": self.expander,
@@ -361,7 +389,7 @@ class Reader:
             raise TextError(line, f'"{kind}" is not the start of a line ({known})')
         kinds[kind](line, list(words))
 
-    def new_name(self, line, name, device):
+    def new_name(self, line: int, name: str, device: Device) -> None:
         if not re.fullmatch(NAME, name):
             known = "a letter, then letters, digits, - or _"
             raise TextError(line, f'"{name}" is not a name ({known})')
@@ -371,7 +399,7 @@ class Reader:
             raise TextError(line, f"the name {name} is taken (line {self.names[name].line})")
         self.names[name] = device
 
-    def drive(self, line, words):
+    def drive(self, line: int, words: List[str]) -> None:
         drive = Drive("".join(words[:1]), None, line)
         self.rig.drives.append(drive)
         if words:
@@ -380,7 +408,7 @@ class Reader:
             raise TextError(line, "a drive line is: drive NAME ADDRESS")
         drive.address = address(line, words[1])
 
-    def expander(self, line, words):
+    def expander(self, line: int, words: List[str]) -> None:
         expander = Expander("".join(words[:1]), 0, line=line)
         self.rig.expanders.append(expander)
         self.next_phy = 0
@@ -393,19 +421,19 @@ class Reader:
         self.attempt(self.options, line, expander, words[2:])
         expander.address = address(line, words[1])
 
-    def options(self, line, expander, words):
-        given = {}
+    def options(self, line: int, expander: Expander, words: List[str]) -> None:
+        given: Dict[str, str] = {}
         rest = iter(words)
         for word in rest:
             known = word in ("R", "configurable", "fanout", "long") and word not in given
-            given[word] = next(rest, None) if word == "R" else word
-            if not known or given[word] is None:
+            given[word] = next(rest, "") if word == "R" else word
+            if not known or not given[word]:
                 raise TextError(line, EXPANDER_FORM)
         expander.configurable, expander.long = "configurable" in given, "long" in given
         expander.type = FANOUT_EXPANDER if "fanout" in given else EDGE_EXPANDER
         expander.indexes = number(line, given.get("R", "0"), 0, 65535, "R")
 
-    def phy(self, line, words):
+    def phy(self, line: int, words: List[str]) -> None:
         if not self.rig.expanders:
             raise TextError(line, "a phy line comes after the line of its expander")
         expander = self.rig.expanders[-1]
@@ -422,12 +450,12 @@ class Reader:
                 line, f"the next phy of {expander.name} is {expected}, not {numbers[0]}"
             )
 
-    def attribute(self, line, phys, words):
+    def attribute(self, line: int, phys: List[Phy], words: List[str]) -> None:
         """The attribute of phys and what they are cabled to, or that they are vacant.
 
         One word may be long; after "to" it is a name.
         """
-        before = [None] + words
+        before = [""] + words
         longs = [at for at, word in enumerate(words) if word == "long" and before[at] != "to"]
         if len(longs) > 1:
             raise TextError(line, PHY_FORM)
@@ -462,17 +490,19 @@ class Reader:
             phy.attribute = ATTRIBUTES.index(kind)
             phy.named = "empty" if rest == ["empty"] else None
 
-    def ends_of(self, line, phys, text):
+    def ends_of(self, line: int, phys: List[Phy], text: str) -> None:
         """Keeps the far ends of phys: NAME, NAME.PHY or NAME.FIRST-LAST."""
         name, dot, numbers = text.partition(".")
         if not re.fullmatch(NAME, name) or (dot and not numbers):
             raise TextError(line, f'"{text}" is neither NAME.PHY nor the name of a drive')
-        numbers = phy_numbers(line, numbers, 255) if dot else [None]
-        self.ends.extend((phy, name, number) for phy, number in zip(phys, numbers))
-        if len(numbers) != len(phys):
-            raise TextError(line, f"{len(phys)} phys here, but {len(numbers)} in {text}")
+        far: List[Optional[int]] = [None]
+        if dot:
+            far = list(phy_numbers(line, numbers, 255))
+        self.ends.extend((phy, name, number) for phy, number in zip(phys, far))
+        if len(far) != len(phys):
+            raise TextError(line, f"{len(phys)} phys here, but {len(far)} in {text}")
 
-    def join(self, phy, name, far):
+    def join(self, phy: Phy, name: str, far: Optional[int]) -> None:
         """Finds what is named."""
         device = self.names.get(name)
         if device is None:
@@ -483,31 +513,31 @@ class Reader:
             raise TextError(phy.line, f"{name} is an expander: name its phy too, as in {name}.0")
         elif not device.phy(far):
             raise TextError(phy.line, f"{name} has no phy {far}")
-        phy.named = (device, far)
+        phy.named = (device, far or 0)
 
-    def cable(self, phy):
+    def cable(self, phy: Phy) -> None:
         """Attaches what was found, at both ends of a cable between expanders."""
-        if not phy.named:
+        if not phy.named or isinstance(phy.named, str):
             return
         device, number = phy.named
-        if isinstance(device, Expander):
-            self.far_end(phy, device.phy(number))
+        far = device.phy(number) if isinstance(device, Expander) else None
+        if far:
+            self.far_end(phy, far)
         phy.attached = phy.named
 
-    def far_end(self, phy, far):
-        near_end = (phy.expander, phy.number)
+    def far_end(self, phy: Phy, far: Phy) -> None:
+        near_end: End = (phy.expander, phy.number)
         if far.result:
             raise TextError(
                 phy.line, f"{phy} is cabled to {far}, which is vacant (line {far.line})"
             )
         if far.named == "empty":
-            raise TextError(
-                phy.line, f"{phy} is cabled to {far}, which is empty (line {far.line})"
-            )
-        end = far.named or far.attached
+            raise TextError(phy.line, f"{phy} is cabled to {far}, which is empty (line {far.line})")
+        end = far.attached if isinstance(far.named, str) else far.named or far.attached
         if end and end != near_end:
             other, number = end
-            line = far.line if far.named else other.phy(number).line
+            there = other.phy(number) if isinstance(other, Expander) else None
+            line = far.line if far.named or not there else there.line
             raise TextError(
                 phy.line,
                 f"{phy} is cabled to {far}, which is cabled to {other.name}.{number}"
@@ -515,23 +545,22 @@ class Reader:
             )
         far.attached = near_end
 
-    def slips(self):
+    def slips(self) -> Iterator[Tuple[int, str]]:
         """What can be built and can hardly be meant: lines and messages."""
         drives = [device for device in self.names.values() if isinstance(device, Drive)]
-        first = {}
+        bearers: Dict[Optional[int], Drive] = {}
         for drive in drives:
-            other = first.setdefault(drive.address, drive)
+            other = bearers.setdefault(drive.address, drive)
             if other is not drive and drive.address is not None:
                 at = f"{other.name} (line {other.line})"
                 yield drive.line, f"{drive.name} has the address of {at}"
-        first = {}
+        first: Dict[End, Phy] = {}
         for phy, _, _ in self.ends:
-            if phy.named and phy.named[0] in drives:
-                other = first.setdefault(phy.named, phy)
-                if other is not phy:
-                    drive, number = phy.named
-                    at = f"{drive.name}.{number}"
-                    yield phy.line, f"{phy} is cabled to {at}, as {other} is (line {other.line})"
+            if isinstance(phy.named, tuple) and phy.named[0] in drives:
+                before = first.setdefault(phy.named, phy)
+                if before is not phy:
+                    at = f"{phy.named[0].name}.{phy.named[1]}"
+                    yield phy.line, f"{phy} is cabled to {at}, as {before} is (line {before.line})"
         cabled = [drive for drive, _ in first]
         for drive in drives:
             if drive not in cabled:
@@ -539,10 +568,10 @@ class Reader:
 
     # Deviations.
 
-    def set_later(self, line, words):
+    def set_later(self, line: int, words: List[str]) -> None:
         self.sets.append((line, words))
 
-    def set(self, line, words):
+    def set(self, line: int, words: List[str]) -> None:
         if len(words) == 4 and words[1] == "byte":
             words = [words[0], f"byte {words[2]}", words[3]]
         if len(words) != 3:
@@ -559,22 +588,23 @@ class Reader:
             earlier = self.set_at[unit, field]
             raise TextError(line, f"{field} of {place} is already set (line {earlier})")
         self.set_at[unit, field] = line
-        if known[field] is None:
+        highest = known[field]
+        if highest is None:
             unit.set[field] = address(line, value)
         else:
-            unit.set[field] = number(line, value, 0, known[field], field)
+            unit.set[field] = number(line, value, 0, highest, field)
 
-    def unit(self, line, place):
+    def unit(self, line: int, place: str) -> Tuple[Unit, str, Settable]:
         """The header, expander or phy of a set line, and what can be set there."""
         if place == "header":
             return self.rig, "the header", HEADER_SET
-        name, dot, phy = place.partition(".")
+        name, dot, digits = place.partition(".")
         expander = self.names.get(name)
         if not isinstance(expander, Expander):
             raise TextError(line, f"there is no expander named {name}")
         if not dot:
             return expander, "an expander", EXPANDER_SET
-        phy_number = number(line, phy, 0, MOST, "a phy number")
+        phy_number = number(line, digits, 0, MOST, "a phy number")
         phy = expander.phy(phy_number)
         if not phy:
             raise TextError(line, f"{name} has no phy {phy_number}")
@@ -582,25 +612,25 @@ class Reader:
             return phy, "a vacant phy", dict.fromkeys(PHY_FIXED, 255)
         return phy, "a phy", PHY_SET
 
-    def check_set(self, line, unit, field):
+    def check_set(self, line: int, unit: Unit, field: str) -> None:
         """Where nothing is attached, the attached address and phy are ignored and not kept."""
         if field.startswith("attached") and unit.fields()["type"] == 0:
             raise TextError(line, f"nothing is attached at {unit}: set its type too")
 
-    def cut_later(self, line, words):
+    def cut_later(self, line: int, words: List[str]) -> None:
         if len(words) != 1:
             raise TextError(line, "a cut line is: cut LENGTH")
         if self.cut:
             raise TextError(line, f"the file is already cut (line {self.cut[0]})")
         self.cut = line, number(line, words[0], 0, 999_999_999, "a length")
 
-    def check_cut(self, line, length):
+    def check_cut(self, line: int, length: int) -> None:
         whole = self.rig.length()
         if length > whole:
             raise TextError(line, f"the file has {whole} bytes and cannot be cut to {length}")
         self.rig.cut = length
 
-    def append(self, line, words):
+    def append(self, line: int, words: List[str]) -> None:
         for word in words or [""]:
             if not re.fullmatch(r"([0-9A-Fa-f]{2})+", word):
                 raise TextError(
@@ -609,7 +639,7 @@ class Reader:
             self.appended.append(bytes.fromhex(word))
 
 
-def build(text):
+def build(text: str) -> bytes:
     """The domain file of a text."""
     reader = Reader(text)
     if reader.errors:
@@ -620,7 +650,44 @@ def build(text):
 # ------------------------------------------------------------ printing files
 
 
-def read_file(file):
+class Units:
+    """The units of a domain file, taken from its front."""
+
+    def __init__(self, file: bytes) -> None:
+        self.file, self.at = file, len(file[:2])
+        self.lost: List[int] = []  # the places of ignored bytes that are not zero
+
+    def byte(self, number: int) -> Optional[int]:
+        """A byte of the next unit, or None."""
+        at = self.at + number
+        return self.file[at] if at < len(self.file) else None
+
+    def take(
+        self,
+        default: bytes,
+        read: Callable[[bytes], Fields],
+        laid_out: Callable[[Fields], bytes],
+        fixed: Dict[str, int],
+    ) -> Optional[Fields]:
+        """The fields of the next unit, with missing bytes taken from the default.
+
+        None where there is no byte, and where a fixed byte is wrong and ignored bytes are
+        not zero: that is no frame.
+        """
+        present = self.file[self.at : self.at + len(default)]
+        if not present:
+            return None
+        fields = read(present + default[len(present) :])
+        plain = laid_out(fields)
+        differ = [self.at + k for k, byte in enumerate(present) if byte != plain[k]]
+        if differ and any(fields[name] != byte for name, byte in fixed.items()):
+            return None
+        self.lost.extend(differ)
+        self.at += len(present)
+        return fields
+
+
+def read_file(file: bytes) -> Tuple[Rig, List[int]]:
     """The rig of a domain file, and the places of its ignored bytes that are not zero.
 
     Missing bytes of a unit that is cut short are taken as they would be built. A
@@ -628,86 +695,64 @@ def read_file(file):
     frame: it is kept byte by byte, with all that follows.
     """
     rig = Rig()
-    lost = []
+    units = Units(file)
     head = file[:2] + bytes([0x10, 0])[len(file[:2]) :]
-    at = len(file[:2])
-
-    def take(default, read, laid_out, fixed):
-        nonlocal at
-        present = file[at : at + len(default)]
-        if not present:
-            return None
-        fields = read(present + default[len(present) :])
-        plain = laid_out(fields)
-        differ = [at + k for k, byte in enumerate(present) if byte != plain[k]]
-        if differ and any(fields[name] != byte for name, byte in fixed.items()):
-            return None
-        lost.extend(differ)
-        at += len(present)
-        return fields
-
-    while len(rig.expanders) < head[1]:
-        long = file[at + 11 : at + 12] == bytes([LONG_EXPANDER])
-        default = expander_unit(Expander("", 0, long=long).fields())
-        found = take(default, expander_read, expander_unit, expander_fixed(long))
-        if not found:
-            break
-        expander = Expander(
-            f"E{len(rig.expanders)}",
-            found["address"],
-            found["indexes"],
-            found["configurable"],
-            long=long,
-        )
-        rig.expanders.append(expander)
-        while len(expander.phys) < found["phys"]:
-            result = file[at + 2] if at + 2 < len(file) else 0
-            long = file[at + 3 : at + 4] == bytes([LONG_PHY])
-            phy = Phy(expander, len(expander.phys), result=result, long=long)
-            phy.found = take(phy_unit(phy.fields()), phy_read, phy_unit, phy_fixed(long))
-            if not phy.found:
-                break
-            expander.phys.append(phy)
-        expander.set = differences(expander.fields(), found)
-        if len(expander.phys) < found["phys"]:
-            break
-
+    while len(rig.expanders) < head[1] and read_expander(rig, units):
+        pass
     attach(rig)
     for expander in rig.expanders:
         for phy in expander.phys:
             phy.set = differences(phy.fields(), phy.found)
     rig.set = differences(rig.fields(), {"byte 0": head[0], "count": head[1]})
-    rig.appended = file[at:]
-    if len(rig.laid_out()) > at:
-        rig.cut = at
-    return rig, lost
+    rig.appended = file[units.at :]
+    if len(rig.laid_out()) > units.at:
+        rig.cut = units.at
+    return rig, units.lost
 
 
-def differences(built, found):
+def read_expander(rig: Rig, units: Units) -> bool:
+    """Reads the next expander and its phys; False where the file cannot be read on."""
+    long = units.byte(11) == LONG_EXPANDER
+    default = expander_unit(Expander("", 0, long=long).fields())
+    found = units.take(default, expander_read, expander_unit, expander_fixed(long))
+    if not found:
+        return False
+    expander = Expander(
+        f"E{len(rig.expanders)}",
+        found["address"],
+        found["indexes"],
+        found["configurable"],
+        long=long,
+    )
+    rig.expanders.append(expander)
+    while len(expander.phys) < found["phys"]:
+        long = units.byte(3) == LONG_PHY
+        phy = Phy(expander, len(expander.phys), result=units.byte(2) or 0, long=long)
+        seen = units.take(phy_unit(phy.fields()), phy_read, phy_unit, phy_fixed(long))
+        if not seen:
+            break
+        phy.found = seen
+        expander.phys.append(phy)
+    expander.set = differences(expander.fields(), found)
+    return bool(len(expander.phys) == found["phys"])
+
+
+def differences(built: Fields, found: Fields) -> Fields:
     """The fields to set so that what is built becomes what was found."""
-    names = built
+    names = list(built)
     if built.get("result"):
-        names = PHY_FIXED
+        names = list(PHY_FIXED)
     elif found.get("type") == 0:
         names = [name for name in built if not name.startswith("attached")]
     return {name: found[name] for name in names if found[name] != built[name]}
 
 
-def attach(rig):
+def attach(rig: Rig) -> None:
     """Finds drives, cables that name each other, and fanout expanders."""
-    drives = {}
-    owners = {}
+    drives: Dict[int, Drive] = {}
+    owners: Dict[int, List[Expander]] = {}
     for expander in rig.expanders:
         owners.setdefault(expander.address, []).append(expander)
-
-    def names(phy, far):
-        return (
-            far.found["result"] == 0
-            and far.found["type"] in (EDGE_EXPANDER, FANOUT_EXPANDER)
-            and far.found["attached"] == phy.expander.address
-            and far.found["attached-phy"] == phy.number
-        )
-
     for expander in rig.expanders:
         for phy in expander.phys:
             found = phy.found
@@ -720,17 +765,34 @@ def attach(rig):
                     drives[found["attached"]] = Drive(f"D{len(drives)}", found["attached"])
                 phy.attached = (drives[found["attached"]], found["attached-phy"])
             elif found["type"] in (EDGE_EXPANDER, FANOUT_EXPANDER) and not phy.attached:
-                number = found["attached-phy"]
-                for other in owners.get(found["attached"], ()):
-                    if number < len(other.phys):
-                        far = other.phys[number]
-                        if names(phy, far) and not far.attached:
-                            far.attached = (expander, phy.number)
-                            phy.attached = (other, number)
-                            break
+                attach_far_end(phy, owners.get(found["attached"], []))
     rig.drives = list(drives.values())
+    mark_fanout(rig)
 
-    types = {}
+
+def attach_far_end(phy: Phy, owners: List[Expander]) -> None:
+    """Attaches a phy and its far end to each other where the far end names it back."""
+    number = phy.found["attached-phy"]
+    for other in owners:
+        far = other.phys[number] if number < len(other.phys) else None
+        if far and not far.attached and names_back(far, phy):
+            far.attached = (phy.expander, phy.number)
+            phy.attached = (other, number)
+            return
+
+
+def names_back(far: Phy, phy: Phy) -> bool:
+    return bool(
+        far.found["result"] == 0
+        and far.found["type"] in (EDGE_EXPANDER, FANOUT_EXPANDER)
+        and far.found["attached"] == phy.expander.address
+        and far.found["attached-phy"] == phy.number
+    )
+
+
+def mark_fanout(rig: Rig) -> None:
+    """An expander is fanout where every phy that is cabled to it says so."""
+    types: Dict[Expander, Set[int]] = {}
     for expander in rig.expanders:
         for phy in expander.phys:
             if phy.attached and isinstance(phy.attached[0], Expander):
@@ -740,7 +802,7 @@ def attach(rig):
             expander.type = FANOUT_EXPANDER
 
 
-def rig_text(rig):
+def rig_text(rig: Rig) -> str:
     """The text of a rig."""
     lines = [f"drive {drive.name} {drive.address:016x}" for drive in rig.drives]
     lines += set_lines("", "header", rig.set)
@@ -771,7 +833,7 @@ def rig_text(rig):
     return "".join(line + "\n" for line in lines)
 
 
-def set_lines(indent, place, fields):
+def set_lines(indent: str, place: str, fields: Fields) -> List[str]:
     lines = []
     for field, value in fields.items():
         if field in ("own", "attached"):
@@ -782,7 +844,7 @@ def set_lines(indent, place, fields):
     return lines
 
 
-def print_file(file):
+def print_file(file: bytes) -> Tuple[str, Optional[str]]:
     """The text of a domain file, and what it does not keep (or None)."""
     rig, lost = read_file(file)
     notice = None
@@ -791,63 +853,3 @@ def print_file(file):
         notice = f"{count} not zero and not in this text (the first is byte {lost[0]})"
     text = rig_text(rig)
     return (f"# {notice}\n" if notice else "") + text, notice
-
-
-# ----------------------------------------------------------------- commands
-
-
-def read_bytes(path):
-    if path == "-":
-        return sys.stdin.buffer.read()
-    with open(path, "rb") as source:
-        return source.read()
-
-
-def main(arguments=None):
-    parser = argparse.ArgumentParser(
-        prog="rigfile.py",
-        description=__doc__,
-        epilog=FORM,
-        formatter_class=argparse.RawDescriptionHelpFormatter,
-    )
-    commands = parser.add_subparsers(dest="command", required=True, metavar="build|print")
-    command = commands.add_parser(
-        "build", help="make a domain file from a text", epilog=FORM,
-        formatter_class=argparse.RawDescriptionHelpFormatter,
-    )
-    command.add_argument("--strict", action="store_true", help="make warnings errors")
-    command.add_argument("IN", help="the text")
-    command.add_argument("OUT", help="the domain file")
-    command = commands.add_parser("print", help="print a domain file as text")
-    command.add_argument("FILE", help="the domain file")
-    options = parser.parse_args(arguments)
-    try:
-        if options.command == "build":
-            try:
-                reader = Reader(read_bytes(options.IN).decode("utf-8-sig"), options.strict)
-            except UnicodeDecodeError:
-                print(f"{options.IN}: this is not a text", file=sys.stderr)
-                return 1
-            for note in sorted(reader.errors + reader.warnings, key=lambda note: note.line):
-                print(f"{options.IN}: {note}", file=sys.stderr)
-            if reader.errors:
-                return 1
-            file = reader.rig.file()
-            if options.OUT == "-":
-                sys.stdout.buffer.write(file)
-            else:
-                with open(options.OUT, "wb") as target:
-                    target.write(file)
-        else:
-            text, notice = print_file(read_bytes(options.FILE))
-            sys.stdout.write(text)
-            if notice:
-                print(f"{options.FILE}: {notice}", file=sys.stderr)
-    except OSError as error:
-        print(f"{error.filename or 'rigfile.py'}: {error.strerror}", file=sys.stderr)
-        return 1
-    return 0
-
-
-if __name__ == "__main__":
-    sys.exit(main())

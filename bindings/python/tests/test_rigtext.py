@@ -1,21 +1,15 @@
-#!/usr/bin/env python3
-"""Tests of rigfile.py: what is built, what is printed, every error and warning with its line."""
+"""Tests of the text form: what is built, what is printed, every error and warning with its line."""
 
 import ast
-import contextlib
-import io
 import itertools
 import re
-import sys
-import tempfile
 import traceback
 import unittest
 from pathlib import Path
 
-sys.dont_write_bytecode = True
-import rigfile  # noqa: E402
+from metzurgo import rigtext
 
-ROOT = Path(__file__).resolve().parent.parent
+from .support import ROOT, FolderTest, run
 
 PAIR = """\
 drive A1 50000000000000a1
@@ -253,17 +247,6 @@ WARNINGS = [
 ]
 
 
-def run(*arguments):
-    """Exit code, standard output and standard error of a command."""
-    out, err = io.StringIO(), io.StringIO()
-    with contextlib.redirect_stdout(out), contextlib.redirect_stderr(err):
-        try:
-            code = rigfile.main([str(argument) for argument in arguments])
-        except SystemExit as end:
-            code = end.code
-    return code, out.getvalue(), err.getvalue()
-
-
 class Errors(unittest.TestCase):
     def test_messages(self):
         for text, message in ERRORS:
@@ -309,24 +292,24 @@ class Errors(unittest.TestCase):
     def test_warnings(self):
         for text, warnings in WARNINGS:
             with self.subTest(warnings=warnings):
-                self.assertEqual(warnings, [str(note) for note in rigfile.Reader(text).warnings])
+                self.assertEqual(warnings, [str(note) for note in rigtext.Reader(text).warnings])
                 self.assertEqual([], errors_of(text))
-                strict = rigfile.Reader(text, strict=True)
+                strict = rigtext.Reader(text, strict=True)
                 errors = [warning.replace("warning: ", "") for warning in warnings]
                 self.assertEqual(errors, [str(error) for error in strict.errors])
                 self.assertEqual([], strict.warnings)
 
     def test_every_error_is_tested(self):
-        source = Path(rigfile.__file__).read_text(encoding="utf-8")
+        source = Path(rigtext.__file__).read_text(encoding="utf-8")
         places = [node for node in ast.walk(ast.parse(source)) if raises_text_error(node)]
         reached = set()
         for text, _ in ERRORS:
-            for error in rigfile.Reader(text).errors:
+            for error in rigtext.Reader(text).errors:
                 reached.add(traceback.extract_tb(error.__traceback__)[-1].lineno)
         self.assertTrue(places)
         for node in places:
             lines = range(node.lineno, node.end_lineno + 1)
-            self.assertTrue(reached.intersection(lines), f"rigfile.py, line {node.lineno}")
+            self.assertTrue(reached.intersection(lines), f"rigtext.py, line {node.lineno}")
 
     def test_the_page_has_a_true_example(self):
         page = (ROOT / "docs/RIG-TEXT.md").read_text(encoding="utf-8")
@@ -338,8 +321,8 @@ class Errors(unittest.TestCase):
 def errors_of(text):
     """The errors of a text, as build reports them."""
     try:
-        rigfile.build(text)
-    except rigfile.TextErrors as errors:
+        rigtext.build(text)
+    except rigtext.TextErrors as errors:
         return str(errors).split("\n")
     return []
 
@@ -354,7 +337,7 @@ def raises_text_error(node):
 
 class Built(unittest.TestCase):
     def setUp(self):
-        self.pair = rigfile.build(PAIR)
+        self.pair = rigtext.build(PAIR)
 
     def test_pair_rig(self):
         self.assertEqual((ROOT / "crates/routes/stdin").read_bytes(), self.pair)
@@ -362,35 +345,35 @@ class Built(unittest.TestCase):
     def test_one_end_of_a_cable_is_enough(self):
         upper = PAIR.replace("phy 0 subtractive to top.0", "phy 0 subtractive")
         lower = PAIR.replace("phy 0 table to bottom.0", "phy 0 table")
-        self.assertEqual(self.pair, rigfile.build(upper))
-        self.assertEqual(self.pair, rigfile.build(lower))
-        self.assertNotEqual(self.pair, rigfile.build(upper.replace(" to bottom.0", "")))
+        self.assertEqual(self.pair, rigtext.build(upper))
+        self.assertEqual(self.pair, rigtext.build(lower))
+        self.assertNotEqual(self.pair, rigtext.build(upper.replace(" to bottom.0", "")))
 
     def test_comments_spaces_and_the_order_of_names(self):
         lines = PAIR.splitlines()
         moved = "\n".join(lines[2:] + lines[:2])
-        self.assertEqual(self.pair, rigfile.build(moved))
+        self.assertEqual(self.pair, rigtext.build(moved))
         spaced = PAIR.replace("\n", "  # comment\r\n\n").replace(" ", " \t")
-        self.assertEqual(self.pair, rigfile.build(spaced))
+        self.assertEqual(self.pair, rigtext.build(spaced))
 
     def test_numbers(self):
         other = PAIR.replace("R 4", "R 04h").replace("10 R", "10h R").replace("a1\n", "A1h\n")
-        self.assertEqual(self.pair, rigfile.build(other))
-        self.assertEqual(self.pair, rigfile.build(PAIR.replace(" 50", " 0x50")))
+        self.assertEqual(self.pair, rigtext.build(other))
+        self.assertEqual(self.pair, rigtext.build(PAIR.replace(" 50", " 0x50")))
 
     def test_options_in_any_order(self):
         options = ("R 4", "configurable", "fanout")
         files = {
-            rigfile.build(PAIR.replace("R 4 configurable", " ".join(order)))
+            rigtext.build(PAIR.replace("R 4 configurable", " ".join(order)))
             for order in itertools.permutations(options)
         }
-        self.assertEqual({rigfile.build(PAIR.replace("R 4", "R 4 fanout"))}, files)
+        self.assertEqual({rigtext.build(PAIR.replace("R 4", "R 4 fanout"))}, files)
         other = re.sub(r"(direct|table|subtractive) (to \S+|empty)", r"\2 \1", PAIR)
         self.assertIn("phy 0 to bottom.0 table\n", other)
-        self.assertEqual(self.pair, rigfile.build(other))
+        self.assertEqual(self.pair, rigtext.build(other))
 
     def test_long_frames(self):
-        file = rigfile.build(LONG)
+        file = rigtext.build(LONG)
         self.assertEqual(398, len(file))
         self.assertEqual([0x10, 0x0F, 0x00, 0x00], [file[at + 3] for at in (10, 78, 142, 202)])
         # Cut to their short frames, the bytes are those of the pair rig.
@@ -405,15 +388,15 @@ class Built(unittest.TestCase):
             LONG.replace("direct empty long", "long empty direct"),
         ]:
             self.assertNotEqual(LONG, other)
-            self.assertEqual(file, rigfile.build(other))
-        file = rigfile.build(TOP + "phy 0 vacant long\nphy 1 vacant 80h long\nphy 2-3 direct long")
+            self.assertEqual(file, rigtext.build(other))
+        file = rigtext.build(TOP + "phy 0 vacant long\nphy 1 vacant 80h long\nphy 2-3 direct long")
         self.assertEqual(38 + 4 * 64, len(file))
         self.assertEqual(bytes([0x41, 0x10, 0x16, 0x0F]) + bytes(60), file[38:102])
         self.assertEqual(bytes([0x41, 0x10, 0x80, 0x0F]) + bytes(60), file[102:166])
         # After "to", long is a name.
         name = "drive long 50000000000000c1\n" + TOP + "phy 0 direct to long"
-        self.assertEqual(90, len(rigfile.build(name)))
-        self.assertEqual(102, len(rigfile.build(name + " long")))
+        self.assertEqual(90, len(rigtext.build(name)))
+        self.assertEqual(102, len(rigtext.build(name + " long")))
 
     def test_ranges(self):
         wide = TOP + "phy 0-1 table to low.2-3\nexpander low 5000000000000020\nphy 0-3 subtractive"
@@ -422,20 +405,20 @@ class Built(unittest.TestCase):
             "phy 0 subtractive empty\nphy 1 subtractive empty\n"
             "phy 2 subtractive\nphy 3 subtractive"
         )
-        self.assertEqual(rigfile.build(single), rigfile.build(wide))
+        self.assertEqual(rigtext.build(single), rigtext.build(wide))
 
     def test_types(self):
         text = TOP + "phy 0 table to low.0\nexpander low 5000000000000020 fanout\nphy 0 table"
-        file = rigfile.build(text)
+        file = rigtext.build(text)
         self.assertEqual((0x30, 0x20), (file[38 + 12], file[126 + 12]))
 
     def test_a_drive_has_phys(self):
         text = "drive W 50000000000000c1\n" + TOP + "phy 0-1 direct to W.3-4\nphy 2 direct to W"
-        file = rigfile.build(text)
+        file = rigtext.build(text)
         self.assertEqual([3, 4, 0], [file[38 + 52 * phy + 32] for phy in range(3)])
 
     def test_vacant(self):
-        file = rigfile.build(TOP + "phy 0 vacant\nphy 1 vacant 80h")
+        file = rigtext.build(TOP + "phy 0 vacant\nphy 1 vacant 80h")
         self.assertEqual(bytes([0x41, 0x10, 0x16]) + bytes(49), file[38:90])
         self.assertEqual(bytes([0x41, 0x10, 0x80]) + bytes(49), file[90:142])
 
@@ -458,64 +441,64 @@ class Built(unittest.TestCase):
             with self.subTest(line=line):
                 value = bytes.fromhex(value)
                 expected = self.pair[:at] + value + self.pair[at + len(value) :]
-                self.assertEqual(expected, rigfile.build(PAIR + line))
-        self.assertEqual(self.pair[:90], rigfile.build(PAIR + "cut 90"))
-        self.assertEqual(self.pair + b"\x01\x02\x03", rigfile.build(PAIR + "append 01 0203"))
-        self.assertEqual(b"\x10\xff", rigfile.build(PAIR + "append ff\ncut 1"))
+                self.assertEqual(expected, rigtext.build(PAIR + line))
+        self.assertEqual(self.pair[:90], rigtext.build(PAIR + "cut 90"))
+        self.assertEqual(self.pair + b"\x01\x02\x03", rigtext.build(PAIR + "append 01 0203"))
+        self.assertEqual(b"\x10\xff", rigtext.build(PAIR + "append ff\ncut 1"))
 
 
 class Printed(unittest.TestCase):
     def again(self, file):
         """The text of a file; building it gives the file."""
-        text, notice = rigfile.print_file(file)
+        text, notice = rigtext.print_file(file)
         self.assertIsNone(notice)
-        self.assertEqual(file, rigfile.build(text))
+        self.assertEqual(file, rigtext.build(text))
         return text
 
     def test_pair_rig(self):
-        text = self.again(rigfile.build(PAIR))
+        text = self.again(rigtext.build(PAIR))
         for old, new in [("E0", "top"), ("E1", "bottom"), ("D0", "A1"), ("D1", "B1")]:
             text = text.replace(old, new)
         self.assertEqual(PAIR.split(), text.split())
 
     def test_all_lengths(self):
-        whole = rigfile.build(PAIR) + bytes(60)
+        whole = rigtext.build(PAIR) + bytes(60)
         for length in range(len(whole) + 1):
             self.again(whole[:length])
 
     def test_long_frames(self):
-        text = self.again(rigfile.build(LONG))
+        text = self.again(rigtext.build(LONG))
         self.assertIn("R 4 configurable long\n", text)
         self.assertIn("phy 0 table to E1.0 long\n", text)
         self.assertIn("phy 1 direct to D0\n", text)
-        self.again(rigfile.build(TOP + "phy 0 vacant long"))
-        whole = rigfile.build(LONG) + bytes(70)
+        self.again(rigtext.build(TOP + "phy 0 vacant long"))
+        whole = rigtext.build(LONG) + bytes(70)
         for length in range(len(whole) + 1):
             self.again(whole[:length])
         for line in ["set top byte 3 0fh", "set bottom.2 byte 3 10h", "set bottom.2 byte 3 0"]:
             with self.subTest(line=line):
-                self.again(rigfile.build(LONG + line))
+                self.again(rigtext.build(LONG + line))
 
     def test_every_changed_byte_that_is_not_ignored(self):
-        pair = rigfile.build(PAIR)
+        pair = rigtext.build(PAIR)
         ignored = 0
         for at in range(len(pair)):
             for value in (0x00, 0x01, 0x11, 0x41, 0xFF):
                 file = pair[:at] + bytes([value]) + pair[at + 1 :]
-                text, notice = rigfile.print_file(file)
-                again = rigfile.build(text)
+                text, notice = rigtext.print_file(file)
+                again = rigtext.build(text)
                 self.assertEqual(notice is not None, again != file)
                 ignored += again != file
         self.assertGreater(ignored, 0)
 
     def test_ignored_bytes(self):
-        pair = bytearray(rigfile.build(PAIR))
+        pair = bytearray(rigtext.build(PAIR))
         pair[14], pair[50] = 1, 0xAF
-        text, notice = rigfile.print_file(bytes(pair))
+        text, notice = rigtext.print_file(bytes(pair))
         expected = "2 ignored bytes are not zero and not in this text (the first is byte 14)"
         self.assertEqual(expected, notice)
         self.assertEqual(f"# {expected}", text.splitlines()[0])
-        self.assertEqual(rigfile.build(PAIR), rigfile.build(text))
+        self.assertEqual(rigtext.build(PAIR), rigtext.build(text))
 
     def test_deviations(self):
         for lines in [
@@ -538,100 +521,112 @@ class Printed(unittest.TestCase):
             "append ff",
         ]:
             with self.subTest(lines=lines):
-                self.again(rigfile.build(PAIR + lines))
+                self.again(rigtext.build(PAIR + lines))
 
     def test_fanout_and_cables_to_itself(self):
         text = TWO.replace("table", "table to low.0").replace("20\n", "20 fanout\n")
-        self.assertIn("R 0 fanout\n", self.again(rigfile.build(text)))
+        self.assertIn("R 0 fanout\n", self.again(rigtext.build(text)))
         text = TOP + "phy 0 table to top.0\nphy 1-2 table to top.3-4\nphy 3-4 table"
-        text = self.again(rigfile.build(text))
+        text = self.again(rigtext.build(text))
         self.assertIn("phy 0 table to E0.0\n", text)
         self.assertIn("phy 4 table to E0.2\n", text)
 
     def test_two_expanders_of_one_address(self):
         text = TWO.replace("table", "table to low.0").replace("20\n", "10\n")
-        self.again(rigfile.build(text + "expander third 5000000000000010\nphy 0 table to third.0"))
+        self.again(rigtext.build(text + "expander third 5000000000000010\nphy 0 table to third.0"))
 
     def test_no_frames(self):
         for file in [b"\x10\x01" + bytes(range(200)), bytes(1000), b"\xff" * 700, b"text\n" * 30]:
             self.again(file)
 
 
-class Commands(unittest.TestCase):
+class Commands(FolderTest):
     def setUp(self):
-        folder = tempfile.TemporaryDirectory()
-        self.addCleanup(folder.cleanup)
-        self.folder = Path(folder.name)
-        self.text, self.file = self.folder / "pair.rig", self.folder / "pair.bin"
-        self.text.write_text(PAIR, encoding="utf-8")
+        super().setUp()
+        self.text, self.file = self.path("pair.rig", PAIR), self.path("pair.bin")
 
     def test_build_and_print(self):
-        self.assertEqual((0, "", ""), run("build", self.text, self.file))
-        self.assertEqual(rigfile.build(PAIR), self.file.read_bytes())
-        code, out, err = run("print", self.file)
-        self.assertEqual((0, ""), (code, err))
-        self.assertEqual(rigfile.build(PAIR), rigfile.build(out))
+        self.assertEqual((0, "", ""), run("build", self.text, self.file)[:3])
+        self.assertEqual(rigtext.build(PAIR), self.file.read_bytes())
+        self.assertEqual(rigtext.build(PAIR), run("build", self.text).raw)
+        ran = run("print", self.file)
+        self.assertEqual((0, ""), (ran.status, ran.err))
+        self.assertEqual(rigtext.build(PAIR), rigtext.build(ran.out))
+        self.assertEqual(ran.out, run("print", "-", stdin=self.file.read_bytes()).out)
+
+    def test_a_text_is_printed_with_its_names(self):
+        for text in (PAIR, LONG, PAIR + "set bottom.2 type 2\ncut 300\nappend ff 01\n"):
+            with self.subTest(text=text):
+                out = run("print", "-", stdin=text.encode()).out
+                self.assertIn("phy 0 table to bottom.0", out)
+                self.assertEqual(rigtext.build(text), rigtext.build(out))
 
     def test_an_error_names_the_line_and_writes_nothing(self):
         self.text.write_text(PAIR + "phy 4 direct\n", encoding="utf-8")
-        code, out, err = run("build", self.text, self.file)
-        self.assertEqual((1, ""), (code, out))
-        self.assertEqual(f"{self.text}: line 10: the next phy of bottom is 3, not 4\n", err)
+        for command in ("build", "print", "judge", "tables"):
+            ran = run(command, self.text)
+            self.assertEqual((3, ""), (ran.status, ran.out))
+            expected = f"{self.text}: line 10: the next phy of bottom is 3, not 4\n"
+            self.assertEqual(expected, ran.err)
+        self.assertEqual(3, run("build", self.text, self.file).status)
         self.assertFalse(self.file.exists())
 
     def test_all_errors_are_reported(self):
         self.text.write_text("hub\n" + PAIR + "drive\n", encoding="utf-8")
-        code, out, err = run("build", self.text, self.file)
-        self.assertEqual((1, ""), (code, out))
+        ran = run("build", self.text, self.file)
+        self.assertEqual((3, ""), (ran.status, ran.out))
         known = "(drive, expander, phy, set, cut, append)"
         self.assertEqual(
             f'{self.text}: line 1: "hub" is not the start of a line {known}\n'
             f"{self.text}: line 11: a drive line is: drive NAME ADDRESS\n",
-            err,
+            ran.err,
         )
 
     def test_warnings_are_errors_where_strict(self):
         text = PAIR.replace("direct to B1", "direct")
         self.text.write_text(text, encoding="utf-8")
-        code, out, err = run("build", "--strict", self.text, self.file)
-        self.assertEqual((1, ""), (code, out))
-        self.assertEqual(f"{self.text}: line 2: no phy is cabled to B1\n", err)
+        ran = run("build", "--strict", self.text, self.file)
+        self.assertEqual((3, ""), (ran.status, ran.out))
+        self.assertEqual(f"{self.text}: line 2: no phy is cabled to B1\n", ran.err)
         self.assertFalse(self.file.exists())
-        code, out, err = run("build", self.text, self.file)
-        self.assertEqual((0, ""), (code, out))
-        self.assertEqual(f"{self.text}: line 2: warning: no phy is cabled to B1\n", err)
-        self.assertEqual(rigfile.build(text), self.file.read_bytes())
+        ran = run("build", self.text, self.file)
+        self.assertEqual((0, ""), (ran.status, ran.out))
+        self.assertEqual(f"{self.text}: line 2: warning: no phy is cabled to B1\n", ran.err)
+        self.assertEqual(rigtext.build(text), self.file.read_bytes())
         self.text.write_text(PAIR, encoding="utf-8")
-        self.assertEqual((0, "", ""), run("build", "--strict", self.text, self.file))
+        self.assertEqual((0, "", ""), run("build", "--strict", self.text, self.file)[:3])
 
     def test_a_mark_at_the_start_of_a_text(self):
         self.text.write_text(PAIR, encoding="utf-8-sig")
-        self.assertEqual(0, run("build", self.text, self.file)[0])
+        self.assertEqual(0, run("build", self.text, self.file).status)
+        self.assertEqual(0, run("judge", "-", stdin=self.text.read_bytes()).status)
 
     def test_not_a_text(self):
         self.text.write_bytes(b"drive A1 \xff")
-        code, _, err = run("build", self.text, self.file)
-        self.assertEqual((1, f"{self.text}: this is not a text\n"), (code, err))
+        ran = run("build", self.text, self.file)
+        self.assertEqual((3, f"{self.text}: this is not a text\n"), (ran.status, ran.err))
 
     def test_no_such_file(self):
-        code, _, err = run("print", self.folder / "none")
-        self.assertEqual((1, f"{self.folder / 'none'}: No such file or directory\n"), (code, err))
+        ran = run("print", self.folder / "none")
+        expected = f"{self.folder / 'none'}: No such file or directory\n"
+        self.assertEqual((3, expected), (ran.status, ran.err))
+        ran = run("build", self.text, self.folder / "none" / "file")
+        self.assertEqual(3, ran.status)
 
     def test_ignored_bytes_are_reported(self):
-        self.file.write_bytes(rigfile.build(PAIR)[:-1] + b"\x01")
-        code, out, err = run("print", self.file)
+        self.file.write_bytes(rigtext.build(PAIR)[:-1] + b"\x01")
+        ran = run("print", self.file)
         notice = "1 ignored byte is not zero and not in this text (the first is byte 333)\n"
-        self.assertEqual((0, f"{self.file}: {notice}"), (code, err))
-        self.assertTrue(out.startswith(f"# {notice}"))
+        self.assertEqual((0, f"{self.file}: {notice}"), (ran.status, ran.err))
+        self.assertTrue(ran.out.startswith(f"# {notice}"))
 
     def test_help(self):
-        code, out, _ = run("--help")
-        self.assertEqual(0, code)
-        parts = ("build [--strict] IN OUT", "print FILE", "expander NAME ADDRESS", "cut LENGTH")
-        for part in parts:
-            self.assertIn(part, out)
-        self.assertEqual(2, run()[0])
-
-
-if __name__ == "__main__":
-    unittest.main()
+        ran = run("build", "--help")
+        self.assertEqual(0, ran.status)
+        for part in (
+            "build [-h] [--json] [--strict] [--as {text,file,card}]",
+            "expander NAME ADDRESS",
+            "cut LENGTH",
+        ):
+            self.assertIn(part, ran.out)
+        self.assertEqual(2, run("build").status)

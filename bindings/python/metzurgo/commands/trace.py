@@ -1,0 +1,189 @@
+"""metzurgo trace: where a connection request goes, and why."""
+
+import argparse
+import re
+from typing import Any, Dict, List, Tuple
+
+from .. import shared
+from ..answers import NO_PHY, OUTCOMES, RULES, Traced
+from ..requests import address_of, start_of
+from ..rig import Passed, Rig, Table, Tables, address_text
+from ..sentences import plural
+
+EXAMPLE = """\
+  $ metzurgo trace samples/pair.rig top B1
+  arrived at B1 by phy 1 of bottom, 2 expanders passed
+  top     (iii) entry 0 of phy 0 has the address: on by phy 0 to phy 0 of bottom
+  bottom  (ii) phy 1 has the address attached: arrived
+"""
+
+
+class Alter(argparse.Action):
+    """Keeps --set, --disable and --enable in the order of the command line."""
+
+    def __call__(self, parser: Any, namespace: Any, values: Any, option: Any = None) -> None:
+        namespace.alter = namespace.alter + [(option.lstrip("-"), values)]
+
+
+def add_parser(subparsers: Any) -> None:
+    parser = shared.parser(
+        subparsers,
+        __name__,
+        "follow a connection request",
+        "Follows a connection request over the routing tables, and says where it ends. For"
+        " each expander passed it says which rule of the standard was used: (i) it has the"
+        " address itself, (ii) a phy has it attached, (iii) a table has it among its entries,"
+        " (iv) its subtractive phy, (v) none of these. --set, --disable and --enable alter"
+        " entries before, in the order of the command line.",
+        EXAMPLE,
+    )
+    shared.add_rig(parser)
+    parser.add_argument(
+        "FROM",
+        help="an expander, a drive (it comes in by the lowest phy attached to it)"
+        " or EXPANDER.PHY; by name or address",
+    )
+    parser.add_argument("TO", help="the address asked for, or the name of who has it")
+    parser.add_argument(
+        "--set",
+        action=Alter,
+        metavar="E.P.I=ADDRESS",
+        help="write an address, or a name's, or 0, into entry I of the table of phy P of"
+        " expander E; the entry is enabled unless it is 0",
+    )
+    parser.add_argument(
+        "--disable", action=Alter, metavar="E.P.I", help="disable that entry; its address stays"
+    )
+    parser.add_argument("--enable", action=Alter, metavar="E.P.I", help="enable that entry")
+    parser.set_defaults(run=run, alter=[])
+
+
+def run(args: argparse.Namespace) -> int:
+    rig = shared.load(args)
+    tables = shared.tables_of(rig)
+    for option, value in args.alter:
+        alter(rig, tables, option, value)
+    start, arrival = start_of(rig, args.FROM)
+    address = address_of(rig, args.TO)
+    request = (tables, start, arrival, address)
+    traced: Traced = shared.answered(rig, rig.trace, *request)
+    passed: List[Passed] = shared.answered(rig, rig.steps, *request)
+    if args.json:
+        shared.print_json(trace_json(rig, traced, passed))
+    else:
+        print(end_text(rig, traced))
+        width = max(len(rig.expander_name(each.expander)) for each in passed)
+        for each in passed:
+            print(f"{rig.expander_name(each.expander):{width}}  {step_text(rig, each)}")
+    return shared.ACCEPTED if traced.arrived else shared.REFUSED
+
+
+# Altered entries.
+
+
+def alter(rig: Rig, tables: Tables, option: str, value: str) -> None:
+    """Does what --set, --disable or --enable says, to the words and bits."""
+    place, equals, text = value.partition("=")
+    if (option == "set") != bool(equals):
+        form = "E.P.I=ADDRESS" if option == "set" else "E.P.I"
+        raise shared.CommandError(f'--{option} takes {form}, not "{value}"')
+    table, index = entry_of(rig, tables, place)
+    word = table.first + index
+    if option == "set":
+        address = 0 if re.fullmatch("0+", text) else address_of(rig, text)
+        tables.words[word] = address
+        disable(tables, word, address == 0)
+    else:
+        disable(tables, word, option == "disable")
+
+
+def disable(tables: Tables, word: int, disabled: bool) -> None:
+    """Sets or clears the bit of a word: most significant bit first."""
+    bit = 0x80 >> word % 8
+    if disabled:
+        tables.bits[word // 8] |= bit
+    else:
+        tables.bits[word // 8] &= ~bit & 0xFF
+
+
+def entry_of(rig: Rig, tables: Tables, place: str) -> Tuple[Table, int]:
+    """The table and index of E.P.I."""
+    match = re.fullmatch(r"(.+)\.([0-9]{1,3})\.([0-9]{1,5})", place)
+    expander = rig.expander(match[1]) if match else None
+    if not match or not expander:
+        raise shared.CommandError(
+            f'{rig.source}: "{place}" is not EXPANDER.PHY.INDEX of this rig, as in top.0.3'
+        )
+    phy, index = int(match[2]), int(match[3])
+    for table in tables.tables:
+        if (table.expander, table.phy) == (expander.number, phy):
+            if index < len(table.words):
+                return table, index
+            raise shared.CommandError(
+                f"{rig.source}: the table of {rig.phy_name(expander.number, phy)}"
+                f" has entries 0 to {len(table.words) - 1}, and no entry {index}"
+            )
+    raise shared.CommandError(f"{rig.source}: {rig.phy_name(expander.number, phy)} has no table")
+
+
+# Words.
+
+
+def end_text(rig: Rig, traced: Traced) -> str:
+    name = rig.expander_name(traced.expander)
+    count = plural(len(traced.passed), "expander") + " passed"
+    if not traced.arrived:
+        return f"{OUTCOMES[traced.outcome]} at {name}, {count}"
+    if traced.phy == NO_PHY:
+        return f"arrived at {name} itself, {count}"
+    device = rig.label(rig.expanders[traced.expander].phys[traced.phy].attached)
+    return f"arrived at {device} by phy {traced.phy} of {name}, {count}"
+
+
+def step_text(rig: Rig, passed: Passed) -> str:
+    """What an expander did, and by which rule."""
+    step = passed.step
+    reasons = {
+        1: "it has the address itself",
+        2: f"phy {step.phy} has the address attached",
+        3: f"entry {step.route_index} of phy {step.phy} has the address",
+        4: f"phy {step.phy} is subtractive",
+        5: "no phy, no table entry and no subtractive phy leads on",
+    }
+    end = "arrived"
+    if step.bad:
+        back = rig.expanders[passed.expander].phys[passed.arrival].attached
+        end = f"that is {rig.label(back)}, where it came from: BAD DESTINATION"
+    elif step.next is not None:
+        far = rig.phy_name(step.next, step.arrival if step.arrival is not None else NO_PHY)
+        end = f"on by phy {step.phy} to {far}"
+    elif step.rule == 5:
+        end = "NO DESTINATION"
+    return f"({RULES[step.rule]}) {reasons[step.rule]}: {end}"
+
+
+def trace_json(rig: Rig, traced: Traced, passed: List[Passed]) -> Dict[str, Any]:
+    phy = None if traced.phy == NO_PHY else traced.phy
+    device = rig.expanders[traced.expander].address
+    if phy is not None:
+        device = rig.expanders[traced.expander].phys[phy].attached
+    return {
+        "outcome": OUTCOMES[traced.outcome],
+        "expander": traced.expander,
+        "name": rig.expander_name(traced.expander),
+        "phy": phy,
+        "device": address_text(device) if traced.arrived else None,
+        "passed": [
+            {
+                "expander": each.expander,
+                "name": rig.expander_name(each.expander),
+                "arrival": None if each.arrival == NO_PHY else each.arrival,
+                "rule": RULES[each.step.rule],
+                "phy": each.step.phy,
+                "index": each.step.route_index,
+                "bad": each.step.bad,
+                "next": each.step.next,
+            }
+            for each in passed
+        ],
+    }

@@ -1,0 +1,1 @@
+"""Tests of the package metzurgo. `python3 bindings/python/tests` runs all of them."""

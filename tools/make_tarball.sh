@@ -1,0 +1,64 @@
+#!/bin/sh
+# Makes metzurgo-VERSION-x86_64.tar.gz for lab machines, with Python 3 and glibc and no
+# toolchain, from what `rt check routes` and `rt staticlib exports` built:
+#
+#     tools/make_tarball.sh [FOLDER]
+#
+# The tarball is written into FOLDER (target, where it is left out), and its path is printed. The
+# same commit gives the same bytes. METZURGO_LIB_DIR is as for tools/make_library.sh.
+set -eu
+root=$(cd "$(dirname "$0")/.." && pwd)
+out=$(cd "${1:-$root/target}" && pwd)
+name=metzurgo-$("$root/tools/version.sh")-x86_64
+routes=$root/target/bin/routes
+if [ ! -e "$routes" ]; then
+    echo "$routes is missing: rt check routes makes it" >&2
+    exit 1
+fi
+work=$(mktemp -d)
+trap 'rm -rf "$work"' EXIT
+top=$work/$name
+mkdir -p "$top/bin" "$top/share/man"
+
+"$root/tools/make_library.sh" "$top"
+cp "$routes" "$top/bin/"
+cp -r "$root/samples" "$root/docs" "$root/README.md" "$root/CHANGES.md" "$top/"
+# The package finds the library beside its own folder.
+cp -r "$root/bindings/python/metzurgo" "$top/lib/"
+find "$top/lib/metzurgo" -name __pycache__ -prune -exec rm -rf {} +
+PYTHONPATH=$top/lib python3 -B -m metzurgo.manual "$top/share/man/man1"
+cat >"$top/bin/metzurgo" <<'EOF'
+#!/usr/bin/env python3
+"""Runs the command metzurgo from the folder in which it was unpacked."""
+
+import os
+import sys
+
+TOP = os.path.dirname(os.path.dirname(os.path.realpath(__file__)))
+sys.path.insert(0, os.path.join(TOP, "lib"))
+
+from metzurgo.__main__ import main  # noqa: E402
+
+sys.exit(main())
+EOF
+cat >"$top/INSTALL" <<EOF
+$name runs in the folder in which it is unpacked, or in /usr/local after
+    cp -r bin lib include share /usr/local && ldconfig
+It needs Python 3.8 or later, and glibc 2.34 or later on x86-64.
+
+    bin/metzurgo judge samples/comb.rig
+    bin/metzurgo draw samples/comb.rig --trace B2 A0 -o comb.svg
+    man -l share/man/man1/metzurgo.1
+
+The program routes prints the routing tables of a domain file on its standard input. Programs in
+C are linked by
+    PKG_CONFIG_PATH=lib/pkgconfig pkg-config --cflags --libs metzurgo
+docs/ROUTING.md and include/metzurgo.h describe the calls.
+EOF
+chmod -R u=rwX,go=rX "$top"
+chmod 755 "$top/bin/metzurgo" "$top/bin/routes"
+# Python takes a compiled module for that of a source with the same time.
+time=${SOURCE_DATE_EPOCH:-$(git -C "$root" log -1 --format=%ct 2>/dev/null || date +%s)}
+tar -C "$work" --sort=name --owner=0 --group=0 --numeric-owner --mtime="@$time" -cf - "$name" |
+    gzip -9n >"$out/$name.tar.gz"
+echo "$out/$name.tar.gz"
