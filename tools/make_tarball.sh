@@ -28,8 +28,14 @@ cp -r "$root/bindings/python/metzurgo" "$top/lib/"
 find "$top/lib/metzurgo" -name __pycache__ -prune -exec rm -rf {} +
 PYTHONPATH=$top/lib python3 -B -m metzurgo.manual "$top/share/man/man1"
 cat >"$top/bin/metzurgo" <<'EOF'
-#!/usr/bin/env python3
-"""Runs the command metzurgo from the folder in which it was unpacked."""
+#!/bin/sh
+""":"
+# Runs the command metzurgo from the folder in which it was unpacked: this file is a script of sh
+# that starts Python on itself. Python does not start where standard input is a folder, so that is
+# closed first, and the command says itself that it cannot be read.
+if [ -d /dev/stdin ]; then exec <&-; fi
+exec python3 "$0" "$@"
+":"""
 
 import os
 import sys

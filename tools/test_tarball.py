@@ -427,6 +427,24 @@ def check_files(unpacked):
             raise Wrong(f"metzurgo-{name}.1 is no man page")
 
 
+def check_folder_as_input(unpacked):
+    """With a folder as standard input a rig is read from a file, and `-` cannot be read."""
+    for rig, status, errors in (("samples/pair.rig", 0, 0), ("-", 3, 1)):
+        folder = os.open(unpacked.top, os.O_RDONLY)
+        done = subprocess.run(
+            [unpacked.top / "bin/metzurgo", "judge", rig],
+            stdin=folder,
+            capture_output=True,
+            env=unpacked.environment,
+            cwd=unpacked.top,
+        )
+        os.close(folder)
+        what = f"judge {rig} with a folder as standard input"
+        same(f"{what}: status", status, done.returncode)
+        same(f"{what}: lines of error", errors, done.stderr.count(b"\n"))
+        same(f"{what}: prints", status == 0, bool(done.stdout))
+
+
 def check_sample(unpacked, archive, path, folder):
     """The check of one sample, and what is wrong, or None."""
     folder.mkdir()
@@ -450,6 +468,7 @@ def main():
         try:
             unpacked = Unpacked(options.TARBALL, folder)
             check_files(unpacked)
+            check_folder_as_input(unpacked)
         except Wrong as error:
             print(f"{options.TARBALL}: {error}")
             return 1

@@ -13,8 +13,8 @@ expander.
 import os
 from typing import Dict, Iterable, List, NamedTuple, Optional, Tuple
 
-from .answers import NO_PHY, OUTCOMES, RULES
-from .rig import Expander, Passed, Phy, Rig, Traced, address_text
+from .answers import NO_PHY, OUTCOMES, RULES, Traced
+from .rig import Expander, Passed, Phy, Rig, address_text
 from .sentences import plural
 
 SIZE = 12  # of the font, in pixels
@@ -165,10 +165,10 @@ def cables(rig: Rig) -> List[Cables]:
     links: List[Cables] = []
     order = [topmost(rig.expanders)] if rig.expanders else []
     for upper in order:
-        ends = [end for end in found if end[0] == upper and end[1] not in order]
-        for end in sorted(ends, key=lambda end: found[end][0].number):
-            links.append(Cables(upper, end[1], found[end], found[end[1], upper]))
-            order.append(end[1])
+        lowers = [lower for at, lower in found if at == upper and lower not in order]
+        for lower in sorted(lowers, key=lambda lower: found[upper, lower][0].number):
+            links.append(Cables(upper, lower, found[upper, lower], found[lower, upper]))
+            order.append(lower)
     return links
 
 
@@ -310,7 +310,7 @@ class Layout:
             x = tags[-1].box.right + SPACE
         down, middle = tags[-1].box.middle
         lower = y + TAG + SPACE
-        places = self.places.get(link.upper), self.places.get(link.lower)
+        start, end = self.places.get(link.upper), self.places.get(link.lower)
         self.links.append(
             Link(
                 link.upper,
@@ -319,7 +319,7 @@ class Layout:
                 [((trunk, box.bottom), (trunk, middle))],
                 [(trunk, middle), (down, middle), (down, lower)],
                 tags,
-                0 if None in places else places[1] - places[0],
+                0 if start is None or end is None else end - start,
             )
         )
         return self.place(link.lower, box.x + indent, lower)
