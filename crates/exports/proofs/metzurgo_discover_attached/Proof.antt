@@ -1,3 +1,4 @@
+-- metzurgo_discover_attached meets its contract: the answer's attached address is the definition's, case by case of what the reader yields.
 use mathlib.Core.Path.{sym, _∙_, ap}
 use borrow.Author.Needs.{needs}
 use Rattle.exports.specs.Packing.{attachedAddress}

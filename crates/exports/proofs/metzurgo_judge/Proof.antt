@@ -1,3 +1,4 @@
+-- metzurgo_judge meets its contract: the setting is unpacked, and the number of expanders or the refusal is packed.
 use mathlib.Core.Path.{sym, _∙_, ap}
 use borrow.Author.Needs.{needs}
 use Rattle.exports.specs.Packing.{packed, number}

@@ -1,3 +1,4 @@
+-- metzurgo_read_discover meets its contract: each of the reader's three cases is packed as the definition packs it.
 use mathlib.Core.Path.{sym, _∙_, ap}
 use borrow.Author.Needs.{needs}
 use Rattle.exports.specs.Packing.{packed, discovered}

@@ -1,3 +1,4 @@
+-- metzurgo_trace meets its contract: end and refusal are packed as the definition packs them, and the expanders passed are those of the call.
 use mathlib.Core.Path.{sym, _∙_, ap}
 use borrow.Author.Needs.{needs}
 use Rattle.exports.specs.Packing.{packed, endPacked}

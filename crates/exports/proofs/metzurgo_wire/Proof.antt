@@ -1,3 +1,4 @@
+-- metzurgo_wire meets its contract: the count of bits or the refusal is packed, and the words are those of the call.
 use mathlib.Core.Path.{sym, _∙_, ap}
 use borrow.Author.Needs.{needs}
 use Rattle.exports.specs.Packing.{packed, number}

@@ -1,3 +1,4 @@
+-- metzurgo_write_route meets its contract: the five values are put together as one request, and the buffer is that of put_route.
 use mathlib.Core.Path.{sym, _∙_, ap}
 use borrow.Author.Needs.{needs}
 use Rattle.exports.specs.Packing.{packed, forty}

@@ -1,3 +1,4 @@
+-- refusal meets its contract: number, expander and phy are bytes, so the sum does not overflow and they can be told apart.
 use native.Mathlib.Omega.{arith}
 use borrow.Author.Needs.{needs}
 use Rattle.exports.proofs.packing.refusal.Statement.{statement}

@@ -1,3 +1,4 @@
+-- put_frame meets its contract: forty zeros, and then each field at its offset, are the forty bytes of the definition.
 use mathlib.Core.Path.{_∙_}
 use native.Mathlib.Omega.{arith}
 use lib.ListN.{length-set}

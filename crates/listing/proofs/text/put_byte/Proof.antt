@@ -1,3 +1,4 @@
+-- put_byte meets its contract: one store.
 use Rattle.listing.proofs.Puts.{put-one}
 use borrow.Author.Needs.{needs}
 use Rattle.listing.proofs.text.put_byte.Statement.{statement}

@@ -1,3 +1,4 @@
+-- put_bytes meets its contract. The loop's invariant: the first i bytes of the text have been put from `at` on.
 use Prim.Native.Nat.{ℕ, _+_, _-_, _≤_}
 use mathlib.Core.List.{List, [], _∷_}
 use native.Mathlib.Omega.{arith}

@@ -1,3 +1,4 @@
+-- put_decimal meets its contract: the digits that io::decimal writes are those of the definition, at most 20.
 use Prim.Native.Nat.{_≤_}
 use mathlib.Core.Path.{_∙_}
 use native.Mathlib.Omega.{arith}

@@ -1,3 +1,4 @@
+-- put_entry meets its contract: sixteen digits, and a newline after them.
 use native.Mathlib.Omega.{arith}
 use Rattle.listing.proofs.Puts.{put-then}
 use Rattle.listing.proofs.Numbers.{hex-short}

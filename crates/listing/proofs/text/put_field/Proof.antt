@@ -1,3 +1,4 @@
+-- put_field meets its contract: the number's digits, and one byte after them.
 use native.Mathlib.Omega.{arith}
 use Rattle.listing.proofs.Puts.{put-then}
 use Rattle.listing.proofs.Numbers.{decimal-short}

@@ -1,3 +1,4 @@
+-- put_hex meets its contract: the digits that io::hex writes are those of the definition, sixteen of them.
 use Prim.Native.Nat.{_≤_}
 use mathlib.Core.Path.{_∙_}
 use native.Mathlib.Omega.{arith}

@@ -1,3 +1,4 @@
+-- put_line meets its contract: four puts one after the other are one put of the whole line, and its parts are short enough.
 use native.Mathlib.Omega.{arith}
 use Rattle.listing.proofs.Puts.{put-then}
 use Rattle.listing.proofs.Numbers.{field-short}

@@ -1,3 +1,4 @@
+-- too_long meets its contract: the nine bytes are the line.
 use native.Mathlib.Omega.{arith}
 use Rattle.listing.proofs.Puts.{put-within}
 use borrow.Author.Needs.{needs}

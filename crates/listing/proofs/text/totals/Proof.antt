@@ -1,3 +1,4 @@
+-- totals meets its contract: two words and two fields, one after the other, are the line, which fits into 80 bytes.
 use native.Mathlib.Omega.{arith}
 use Rattle.listing.proofs.Puts.{put-then, put-within}
 use Rattle.listing.proofs.Numbers.{field-short}

@@ -1,3 +1,4 @@
+-- count_at meets its contract. The loop's invariant: `sum` counts the table phys among the first p phys.
 use Prim.Native.Nat.{ℕ, _+_, _-_, _≤_}
 use mathlib.Core.Path.{_≡_, ap}
 use native.Mathlib.Omega.{arith}

@@ -1,3 +1,4 @@
+-- is_table meets its contract: attribute 2 is the definition's test, and a vacant phy has attribute 3.
 use mathlib.Core.Path.{_∙_, ap}
 use lib.Dec.{eqb}
 use Rattle.wiring.specs.Domain.{attributeOf}

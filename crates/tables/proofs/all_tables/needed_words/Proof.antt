@@ -1,3 +1,4 @@
+-- needed_words meets its contract: the words before the expander after the last are all of them.
 use mathlib.Core.Path.{_∙_}
 use native.Mathlib.Omega.{arith}
 use Rattle.wiring.specs.Rows.{domainIn}

@@ -1,3 +1,4 @@
+-- table_count meets its contract. The loop's invariant: `sum` counts the tables of the first i expanders.
 use Prim.Native.Nat.{_+_, _-_, _*_, _≤_}
 use mathlib.Core.Path.{_≡_, _∙_}
 use native.Mathlib.Omega.{arith}

@@ -1,3 +1,4 @@
+-- words_before meets its contract. The loop's invariant: `sum` is the number of words of the tables of the first j expanders.
 use Prim.Native.Nat.{_-_, _*_, _≤_}
 use mathlib.Core.Path.{_≡_, _∙_, ap}
 use native.Mathlib.Omega.{arith}

@@ -1,3 +1,4 @@
+-- add_number meets its contract: a number that is there already, or has no room, leaves the list, and any other one goes behind it.
 use Prim.Native.Nat.{ℕ}
 use mathlib.Core.List.{List}
 use mathlib.Core.Path.{refl, sym}

@@ -1,3 +1,4 @@
+-- has_number meets its contract. The loop's invariant: the number is not among the first i.
 use Prim.Native.Nat.{_-_, _≤_}
 use mathlib.Core.Path.{_≡_, refl}
 use native.Mathlib.Omega.{arith}

@@ -1,3 +1,4 @@
+-- clear_from meets its contract. The loop's invariant: the words from n to i are zero, and the others are as lent.
 use Prim.Native.Nat.{_-_, _≤_}
 use mathlib.Core.List.{_++_}
 use mathlib.Core.Path.{_≡_, refl}

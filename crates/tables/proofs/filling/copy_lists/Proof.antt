@@ -1,3 +1,4 @@
+-- copy_lists meets its contract. The loop's invariant: the own lists of the first k expanders stand at the front, m words in all.
 use Prim.Native.Nat.{_-_, _≤_}
 use mathlib.Core.List.{_++_, flatMap}
 use mathlib.Core.Path.{_≡_, refl, _∙_}

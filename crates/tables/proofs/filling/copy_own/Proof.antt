@@ -1,3 +1,4 @@
+-- copy_own meets its contract: the cell of expander i has the length of its own list, and then the list.
 use Prim.Native.Nat.{ℕ, _+_, _-_, _*_, _<_}
 use mathlib.Core.List.{List, _++_, append-nil}
 use mathlib.Core.Path.{_≡_, _∙_, ap}

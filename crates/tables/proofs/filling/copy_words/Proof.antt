@@ -1,3 +1,4 @@
+-- copy_words meets its contract. The loop's invariant: the first k words stand behind the first n of `part`.
 use Prim.Native.Nat.{_+_, _-_, _≤_}
 use mathlib.Core.List.{_++_}
 use mathlib.Core.Path.{_≡_, refl, _∙_}

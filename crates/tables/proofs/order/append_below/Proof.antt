@@ -1,3 +1,4 @@
+-- append_below meets its contract: the cell of expander i has the number of expanders below it, and then these.
 use Prim.Native.Nat.{ℕ, _+_, _-_, _*_, _≤_, _<_}
 use mathlib.Core.List.{List, _++_, append-nil}
 use mathlib.Core.Path.{_≡_, _∙_, ap}

@@ -1,3 +1,4 @@
+-- append_numbers meets its contract. The loop's invariant: the first k numbers stand behind the first m of `order`.
 use Prim.Native.Nat.{_+_, _-_, _≤_}
 use mathlib.Core.List.{_++_}
 use mathlib.Core.Path.{_≡_, refl, _∙_}

@@ -1,3 +1,4 @@
+-- count_words meets its contract. The loop's invariant: `sum` is the number of words in the own lists of the first k expanders.
 use Prim.Native.Nat.{ℕ, _+_, _-_, _*_, _≤_}
 use mathlib.Core.List.{List, flatMap}
 use mathlib.Core.Path.{_≡_, _∙_, ap}

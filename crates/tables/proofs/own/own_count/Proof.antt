@@ -1,3 +1,4 @@
+-- own_count meets its contract: the count that is held for expander i, and 0 where there is no such expander, whose own list is empty.
 use borrow.Author.Needs.{needs}
 use mathlib.Core.Path.{sym, ap}
 use native.Mathlib.Omega.{arith}

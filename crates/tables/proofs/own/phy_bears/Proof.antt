@@ -1,3 +1,4 @@
+-- phy_bears meets its contract: type 0 is not attached, and otherwise the addresses are compared.
 use mathlib.Core.Path.{ap}
 use native.Mathlib.Omega.{arith}
 use lib.Dec.{eqb}

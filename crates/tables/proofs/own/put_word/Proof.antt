@@ -1,3 +1,4 @@
+-- put_word meets its contract: a word that belongs to the own list goes behind the first m.
 use mathlib.Core.List.{append-nil}
 use native.Mathlib.Omega.{arith}
 use borrow.Author.Tests.{not-true, not-false}

@@ -1,3 +1,4 @@
+-- word_of meets its contract: by whether anything is attached.
 use native.Mathlib.Omega.{arith}
 use borrow.Author.Tests.{eq-eqb, ne-eqb}
 use Rattle.wiring.specs.Domain.{typeOf}

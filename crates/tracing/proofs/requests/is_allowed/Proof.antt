@@ -1,3 +1,4 @@
+-- is_allowed meets its contract: the three tests of cause 15 in the definition's order.
 use Prim.Native.Nat.{ℕ}
 use mathlib.Core.Path.{refl, sym, _∙_, ap}
 use native.Mathlib.Omega.{arith}

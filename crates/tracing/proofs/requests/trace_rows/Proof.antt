@@ -1,3 +1,4 @@
+-- trace_rows meets its contract: past causes 15 to 18 there is a byte for each expander, as walk wants.
 use mathlib.Core.Path.{sym, _∙_, ap}
 use lib.ListN.{length}
 use Rattle.tables.specs.Wiring.{Domain}

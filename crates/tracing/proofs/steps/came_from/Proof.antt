@@ -1,3 +1,4 @@
+-- came_from meets its contract: by whether the request came in over a phy.
 use mathlib.Core.Path.{_∙_, ap}
 use borrow.Author.Tests.{eq-eqb, ne-eqb}
 use Rattle.tables.specs.Wiring.{addressOf}

@@ -1,3 +1,4 @@
+-- direct_step meets its contract: the phy that (ii) picks bears the address, so it is attached; without one the table step follows.
 use mathlib.Core.Path.{sym, _∙_, ap}
 use Rattle.tables.specs.Wiring.{Domain, domainIn}
 use Rattle.tables.specs.Entries.{entries, counted}

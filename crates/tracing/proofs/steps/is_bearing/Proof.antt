@@ -1,3 +1,4 @@
+-- is_bearing meets its contract: type 0 is not attached, and otherwise the addresses are compared.
 use native.Mathlib.Omega.{arith}
 use borrow.Author.Tests.{eq-eqb, ne-eqb}
 use Rattle.tables.specs.Wiring.{typeOf}

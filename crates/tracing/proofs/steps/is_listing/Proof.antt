@@ -1,3 +1,4 @@
+-- is_listing meets its contract: type and attribute as the definition tests them, and then the words of the phy's own stretch.
 use mathlib.Core.Path.{_≡_, _∙_, ap}
 use native.Mathlib.Omega.{arith}
 use borrow.Author.Tests.{eq-eqb, ne-eqb, le-leb, lt-leb}

@@ -1,3 +1,4 @@
+-- is_subtracting meets its contract: type 2 or 3, and attribute 1.
 use native.Mathlib.Omega.{arith}
 use borrow.Author.Tests.{le-leb, lt-leb}
 use Rattle.tables.specs.Wiring.{typeOf}

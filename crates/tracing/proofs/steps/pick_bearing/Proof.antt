@@ -1,3 +1,4 @@
+-- pick_bearing meets its contract. The loop's invariant: none of the first p phys bears the address.
 use Prim.Native.Nat.{ℕ, _-_, _≤_}
 use mathlib.Core.Path.{_≡_, sym, _∙_, ap}
 use native.Mathlib.Omega.{arith}

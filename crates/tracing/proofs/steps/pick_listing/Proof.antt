@@ -1,3 +1,4 @@
+-- pick_listing meets its contract. The loop's invariant: none of the first p phys lists the address, and `at` is where the stretch of phy p starts.
 use Prim.Native.Nat.{ℕ, _+_, _-_, _*_, _≤_}
 use mathlib.Core.Path.{_≡_, sym, _∙_, ap}
 use native.Mathlib.Omega.{arith}

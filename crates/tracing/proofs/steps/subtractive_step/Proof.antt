@@ -1,3 +1,4 @@
+-- subtractive_step meets its contract: the phy that (iv) picks is attached to an expander.
 use mathlib.Core.Path.{sym, _∙_, ap}
 use Rattle.tables.specs.Wiring.{domainIn}
 use Rattle.tracing.specs.Answers.{pickAnswer}

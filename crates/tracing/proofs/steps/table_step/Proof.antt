@@ -1,3 +1,4 @@
+-- table_step meets its contract: the phy that (iii) picks is attached to an expander; without one the subtractive step follows.
 use mathlib.Core.Path.{sym, _∙_, ap}
 use Rattle.tables.specs.Wiring.{Domain, domainIn}
 use Rattle.tables.specs.Entries.{entries, counted}

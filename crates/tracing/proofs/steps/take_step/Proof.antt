@@ -1,3 +1,4 @@
+-- take_step meets its contract: the expander's own address first, and then the direct step.
 use Prim.Native.Nat.{ℕ}
 use mathlib.Core.Path.{sym, _∙_, ap}
 use borrow.Author.Tests.{eq-eqb, ne-eqb}

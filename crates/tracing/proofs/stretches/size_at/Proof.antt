@@ -1,3 +1,4 @@
+-- size_at meets its contract: R words for a table phy, and none for any other.
 use mathlib.Core.Path.{_≡_, _∙_, ap}
 use native.Mathlib.Omega.{arith}
 use borrow.Author.Tests.{eq-eqb, ne-eqb}

@@ -1,3 +1,4 @@
+-- walk meets its contract. The loop's invariant: what is left of the walk from here, behind the k expanders passed, is the whole walk.
 use Prim.Native.Nat.{ℕ, _-_, _≤_}
 use mathlib.Core.Path.{_≡_, refl, sym, _∙_, ap}
 use native.Mathlib.Omega.{arith}

@@ -1,3 +1,4 @@
+-- is_naming meets its contract: type, address and attached phy are compared in the definition's order.
 use native.Mathlib.Omega.{arith}
 use borrow.Author.Needs.{needs}
 use borrow.Author.Tests.{eq-eqb, ne-eqb, le-leb, lt-leb}

@@ -1,3 +1,4 @@
+-- check_expander meets its contract: the expander's unit, and then its phys from where the unit ends.
 use mathlib.Core.Path.{sym, _∙_, ap}
 use borrow.Author.Needs.{needs}
 use Rattle.wiring.specs.Units.{expanderAnswer, physAnswer, expanderChecked}

@@ -1,3 +1,4 @@
+-- check_expanders meets its contract. The loop's invariant: reading the rest from offset `at`, with the addresses of the first i expanders seen, gives what reading all gives.
 use Prim.Native.Nat.{_≤_, _-_}
 use mathlib.Core.List.{[]}
 use mathlib.Core.Path.{_≡_, refl, sym, _∙_, ap}

@@ -1,3 +1,4 @@
+-- check_phys meets its contract. The loop's invariant: reading the phys from p on at `next` ends where reading all of them ends.
 use Prim.Native.Nat.{_≤_, _-_}
 use mathlib.Core.Path.{_≡_, sym, _∙_, ap}
 use native.Mathlib.Nat.{sub-zero}

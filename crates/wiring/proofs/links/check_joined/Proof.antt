@@ -1,3 +1,4 @@
+-- check_joined meets its contract. The loop's invariant: the first i expanders are in the set that the rounds from expander 0 reach.
 use Prim.Native.Nat.{_-_, _≤_}
 use mathlib.Core.Path.{_≡_, sym, _∙_, ap}
 use native.Mathlib.Nat.{sub-zero}

@@ -1,3 +1,4 @@
+-- all_of meets its contract: n ones, by shifting 64 of them.
 use mathlib.Core.Path.{sym}
 use borrow.Author.Needs.{needs}
 use Rattle.wiring.proofs.Bitsets.{set-all, all-shifted}

@@ -1,3 +1,4 @@
+-- is_next meets its contract: the count of common bits is the number of neighbours in the set, tested as each cause tests it.
 use mathlib.Core.Path.{refl, sym, _∙_}
 use borrow.Author.Needs.{needs}
 use borrow.Author.Tests.{eq-eqb, ne-eqb, not-true, not-false}

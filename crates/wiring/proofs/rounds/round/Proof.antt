@@ -1,3 +1,4 @@
+-- round meets its contract. The loop's invariant: `next` is the set of those among the first v expanders that belong to it.
 use Prim.Native.Nat.{_-_, _≤_}
 use mathlib.Core.Logic.{⊎-elim}
 use mathlib.Core.Path.{_≡_, refl, sym, _∙_, ap}

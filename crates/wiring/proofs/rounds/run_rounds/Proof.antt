@@ -1,3 +1,4 @@
+-- run_rounds meets its contract. The loop's invariant: the rounds that are left, from `next`, end where all rounds end.
 use Prim.Native.Nat.{_-_, _≤_}
 use mathlib.Core.Path.{_≡_, _∙_, ap}
 use native.Mathlib.Nat.{sub-zero}

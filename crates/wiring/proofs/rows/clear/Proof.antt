@@ -1,3 +1,4 @@
+-- clear meets its contract. The loop's invariant: the first k words are zero, and the others are as lent.
 use Prim.Native.Nat.{ℕ, _≤_, _-_}
 use mathlib.Core.List.{List, _++_}
 use mathlib.Core.Path.{_≡_, refl, _∙_, ap}

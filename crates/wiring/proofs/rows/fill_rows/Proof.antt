@@ -1,3 +1,4 @@
+-- fill_rows meets its contract. The loop's invariant: pasting the rows of the expanders from i on gives what pasting all of them gives.
 use Prim.Native.Nat.{_+_, _-_, _*_, _≤_}
 use mathlib.Core.Path.{_≡_, refl, sym, _∙_, ap}
 use native.Mathlib.Nat.{sub-zero}

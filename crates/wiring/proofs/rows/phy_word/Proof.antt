@@ -1,3 +1,4 @@
+-- phy_word meets its contract: the fields are small enough for the sum not to overflow.
 use mathlib.Core.Path.{sym, ap}
 use borrow.Author.Needs.{needs}
 use Rattle.wiring.specs.Rows.{phyWord}

@@ -1,3 +1,4 @@
+-- put_phys meets its contract. The loop's invariant: setting the words of the phys from p on gives what setting those of all gives.
 use Prim.Native.Nat.{_+_, _-_, _*_, _≤_}
 use mathlib.Core.Path.{_≡_, refl, sym, _∙_, ap}
 use native.Mathlib.Nat.{sub-zero}

@@ -1,3 +1,4 @@
+-- put_row meets its contract: two words of the expander, those of its phys, and zeros behind them are the row.
 use borrow.Author.Needs.{needs}
 use Prim.Native.Nat.{_+_, _-_, _*_}
 use mathlib.Core.Path.{_≡_, _∙_}

@@ -1,3 +1,4 @@
+-- read_domain meets its contract: a file that passed the tests is the domain that its rows hold.
 use mathlib.Core.Path.{sym, _∙_, ap}
 use native.Mathlib.Omega.{arith}
 use borrow.Author.Needs.{needs}

@@ -1,3 +1,4 @@
+-- is_in meets its contract. The loop's invariant: the address is not among the first i.
 use Prim.Native.Nat.{_≤_, _-_}
 use mathlib.Core.Path.{_≡_, refl}
 use native.Mathlib.Omega.{arith}

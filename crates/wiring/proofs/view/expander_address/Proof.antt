@@ -1,3 +1,4 @@
+-- expander_address meets its contract: the first word of the row, where there is such a row.
 use mathlib.Core.Path.{sym, _∙_, ap}
 use native.Mathlib.Omega.{arith}
 use borrow.Author.Needs.{needs}

@@ -1,3 +1,4 @@
+-- expander_count meets its contract: whole rows, and at most 64 of them.
 use native.Mathlib.Omega.{arith}
 use borrow.Author.Needs.{needs}
 use Rattle.wiring.proofs.InRows.{count-of}

@@ -1,3 +1,4 @@
+-- head_word meets its contract: the second word of the row, where there is such a row.
 use native.Mathlib.Omega.{arith}
 use borrow.Author.Needs.{needs}
 use Rattle.wiring.proofs.InRows.{head-in, no-head}

@@ -1,3 +1,4 @@
+-- phy_from meets its contract: the fields are taken from the word as the definition takes them.
 use borrow.Author.Needs.{needs}
 use borrow.Author.Tests.{eq-eqb, ne-eqb}
 use Rattle.wiring.proofs.view.phy_from.Statement.{statement}

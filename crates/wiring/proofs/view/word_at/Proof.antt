@@ -1,3 +1,4 @@
+-- word_at meets its contract: the word where there is one, and 0 past the end.
 use mathlib.Core.Path.{sym}
 use lib.ListN.{List·getD-eq-default}
 use borrow.Author.Needs.{needs}
