@@ -477,7 +477,9 @@ class Progress(unittest.TestCase):
                 with mock.patch.object(err, "isatty", return_value=terminal, create=True), clock:
                     self.assertEqual([1, 2, 3, 4], list(shared.progress([1, 2, 3, 4], 4, "tables")))
                 err.write("end\n")
-            shown = os.read(master, 1000).decode()
+            shown = ""
+            while not shown.endswith("end\r\n"):
+                shown += os.read(master, 1000).decode()
             os.close(master)
             self.assertEqual(expected, "tables 2 of 4" in shown, shown)
             self.assertEqual(expected, shown != "end\r\n", shown)
