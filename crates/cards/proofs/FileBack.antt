@@ -15,9 +15,9 @@ use Rattle.frames.specs.ReportGeneral.{generalRead}
 use Rattle.frames.specs.Discovery.{Discovered, vacant, fields, discoverRead}
 use Rattle.frames.specs.declared.Response.{Response}
 use Rattle.frames.specs.declared.Response.the-variants.{ReportGeneral, Discover as DiscoverResponse}
-use Rattle.frames.specs.ShortFrames.{shortGeneral, shortVacant, shortDiscover}
+use Rattle.cards.specs.ShortFrames.{shortGeneral, shortVacant, shortDiscover}
 use Rattle.frames.proofs.Numbers.{number-back, number-left, length-bytesOf}
-use Rattle.frames.proofs.ShortFrames.{length-general, length-vacant, length-discover, size-general, size-vacant, size-discover, general-back, vacant-back, discover-back}
+use Rattle.cards.proofs.ShortFrames.{length-general, length-vacant, length-discover, size-general, size-vacant, size-discover, general-back, vacant-back, discover-back}
 use Rattle.wiring.specs.declared.Setting.{Setting}
 use Rattle.wiring.specs.declared.ExpanderUnit.{ExpanderUnit}
 use Rattle.wiring.specs.declared.Phy.{Phy}

@@ -7,11 +7,11 @@ use native.Mathlib.Numerals.{add-one}
 use native.Mathlib.Nat.{zero-add}
 use lib.ListN.{length, getD, take, drop, set, length-append, drop-of-length-le}
 use lib.Seq.{sets, sets-eq, drop-cons}
-use Rattle.frames.specs.Bytes.{bytesOf}
-use Rattle.frames.specs.ShortFrames.{shortGeneral, atFront}
+use Rattle.frames.specs.Bytes.{bytesOf, atFront}
+use Rattle.cards.specs.ShortFrames.{shortGeneral}
 use Rattle.frames.specs.declared.General.{General}
-use Rattle.frames.proofs.Numbers.{length-bytesOf}
-use Rattle.frames.proofs.ShortFrames.{length-general, front-room}
+use Rattle.frames.proofs.Numbers.{length-bytesOf, front-room}
+use Rattle.cards.proofs.ShortFrames.{length-general}
 use Rattle.wiring.specs.declared.Phy.{Phy}
 use Rattle.wiring.specs.declared.Phy.the-variants.{Vacant}
 use Rattle.wiring.specs.Domain.{Expander, Domain, noExpander, expanderAt}

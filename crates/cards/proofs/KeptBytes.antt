@@ -13,7 +13,7 @@ use Rattle.frames.specs.Refusals.{Result, refused, good, unless, then, refusal}
 use Rattle.frames.specs.Sizes.{frameSize, byItself}
 use Rattle.frames.specs.ReportGeneral.{generalFixed, generalFields, generalIn, generalRead}
 use Rattle.frames.specs.Discovery.{Discovered, vacant, fields, discoverFixed, discoverFields, byResult, discovered, discoverIn, discoverRead}
-use Rattle.frames.specs.ShortFrames.{shortGeneral, shortVacant, shortDiscover}
+use Rattle.cards.specs.ShortFrames.{shortGeneral, shortVacant, shortDiscover}
 use Rattle.frames.specs.declared.General.{General}
 use Rattle.frames.specs.declared.Discover.{Discover}
 use Rattle.frames.specs.declared.Response.{Response}

@@ -1,3 +1,7 @@
+pub mod NumberBits
+pub mod Packing
+pub mod BitPlaces
+pub mod ShortFrames
 pub mod Legal
 pub mod CardBack
 pub mod CardIs

@@ -8,7 +8,7 @@ use Rattle.frames.specs.Bits.{numberBits, field, bitsOf, packedIn}
 use Rattle.frames.specs.Sizes.{frameSize}
 use Rattle.frames.specs.ReportGeneral.{generalFixed, generalRead}
 use Rattle.frames.specs.Discovery.{discoverFixed, discoverRead}
-use Rattle.frames.specs.ShortFrames.{shortGeneral, shortVacant, shortDiscover}
+use Rattle.cards.specs.ShortFrames.{shortGeneral, shortVacant, shortDiscover}
 use Rattle.frames.specs.Refusals.{refused, good, refusal}
 use Rattle.wiring.specs.declared.Setting.{Setting}
 use Rattle.wiring.specs.declared.Phy.{Phy}

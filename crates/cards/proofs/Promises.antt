@@ -12,7 +12,7 @@ use Rattle.frames.specs.Bits.{field, bitsOf, bytesFor}
 use Rattle.frames.specs.Refusals.{Result, refused, good, unless, then, refusal}
 use Rattle.frames.specs.declared.Refusal.{Refusal}
 use Rattle.frames.proofs.PackedBits.{length-packedIn}
-use Rattle.frames.proofs.Packing.{Bytes}
+use Rattle.cards.proofs.Packing.{Bytes}
 use Rattle.wiring.specs.declared.Setting.{Setting}
 use Rattle.wiring.specs.declared.Check.{Check}
 use Rattle.wiring.specs.declared.Check.the-variants.{Refused as NotPassed, Passed as AllPassed}
@@ -26,13 +26,14 @@ use Rattle.wiring.proofs.Read.{read-good}
 use Rattle.wiring.proofs.Back.{length-rowsOf, domain-back}
 use Rattle.cards.specs.declared.Made.{Made}
 use Rattle.cards.specs.declared.Made.the-variants.{Refused, Bytes as MadeBytes}
-use Rattle.cards.specs.Card.{cardBits, cardOf, cardSize, expandersOn, domainOn}
+use Rattle.cards.specs.Card.{cardBits, cardOf, cardSize, domainOn}
 use Rattle.cards.specs.CardRead.{formed, unitsTested, cardReadBy, cardRead}
 use Rattle.cards.specs.FileOf.{fileOf}
 use Rattle.cards.specs.Calls.{fitting, cardFor, cardCall, fileFor, fileCall, madeAnswer, lengthOf, newAfter, MadeDone}
 use Rattle.cards.specs.Walks.{afterCheck}
 use Rattle.cards.proofs.CardBack.{size-card}
 use Rattle.cards.proofs.CardIs.{card-is, count-expanders}
+use Rattle.cards.proofs.RowPuts.{domain-on}
 use Rattle.cards.proofs.Allowed.{legal-read, legal-fits}
 
 -- what was made did not fit, or it fitted
@@ -112,19 +113,6 @@ module _ (setting : Setting) (card before : List ℕ) where
           unfolding fileCall
           file-made d answer after z m = rw read (subst (λ (x : Domain). MadeDone (fileFor (length before) x) answer before after) z m)
 
--- what was counted, tested and stored is that of the card's domain
-pub domain-on : (card : List ℕ) (n : ℕ) → n ≡ suc (field 6 (drop 4 (bitsOf card))) → expandersOn n (drop 16 (bitsOf card)) ≡ domainOn (bitsOf card)
-unfolding domainOn
-domain-on card n e = rw e
-
+-- what was counted is the expanders of the card's domain
 pub count-on : (card : List ℕ) (n : ℕ) → n ≡ suc (field 6 (drop 4 (bitsOf card))) → n ≡ length (domainOn (bitsOf card))
-count-on card n e = sym (ap length (sym (domain-on card n e)) ∙ count-expanders n (drop 16 (bitsOf card)))
-
-pub units-on : (setting : Setting) (card : List ℕ) (n : ℕ) → n ≡ suc (field 6 (drop 4 (bitsOf card))) → (check : Check)
-    → ((k : Result Domain) → afterCheck check k ≡ unitsTested setting 0 [] (expandersOn n (drop 16 (bitsOf card))) k)
-    → (k : Result Domain) → afterCheck check k ≡ unitsTested setting 0 [] (domainOn (bitsOf card)) k
-units-on setting card n e check f k = f k ∙ ap (λ (d : Domain). unitsTested setting 0 [] d k) (domain-on card n e)
-
-pub rows-on : (card : List ℕ) (n : ℕ) → n ≡ suc (field 6 (drop 4 (bitsOf card))) → (rows after : List ℕ)
-    → after ≡ sets rows 0 (rowsOf (expandersOn n (drop 16 (bitsOf card)))) → after ≡ sets rows 0 (rowsOf (domainOn (bitsOf card)))
-rows-on card n e rows after f = f ∙ ap (λ (d : Domain). sets rows 0 (rowsOf d)) (domain-on card n e)
+count-on card n e = sym (ap length (sym (domain-on (bitsOf card) n e)) ∙ count-expanders n (drop 16 (bitsOf card)))

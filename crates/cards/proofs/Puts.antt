@@ -1,5 +1,5 @@
 -- Putting a domain's bits one number after the other.
-use Prim.Native.Nat.{ℕ, zero, suc, _+_, _-_, _*_, _/_, _%_, _≤_, _<_, min}
+use Prim.Native.Nat.{ℕ, zero, suc, _+_, _-_, _*_, _/_, _%_, _≤_, _<_}
 use mathlib.Core.Path.{_≡_, refl, sym, _∙_, ap}
 use mathlib.Core.Bool.{Bool, true, false}
 use mathlib.Core.List.{List, [], _∷_, _++_, append-assoc}
@@ -12,7 +12,7 @@ use lib.Dec.{eqb}
 use borrow.Author.Tests.{eq-eqb, ne-eqb}
 use Rattle.frames.specs.Bits.{numberBits, bitsOf, bytesFor, packed}
 use Rattle.frames.proofs.PackedBits.{length-numberBits, length-bitsOf, length-packedIn}
-use Rattle.frames.proofs.Packing.{Bytes, sets-append, unpacked, bitsOf-append, bitsOf-drop, same-bits, bytes-packedIn}
+use Rattle.cards.proofs.Packing.{Bytes, sets-append, unpacked, bitsOf-append, bitsOf-drop, same-bits, bytes-packedIn}
 use Rattle.wiring.specs.declared.Phy.{Phy}
 use Rattle.wiring.specs.declared.Phy.the-variants.{Vacant, Present}
 use Rattle.wiring.specs.declared.PhyFields.{PhyFields}
@@ -202,7 +202,3 @@ card-put d s s1 s2 s3 s4 s5 k at fill b b′ h e f g p1 p2 p3 p4 p5 =
     q6 ∙ sets-eq (bitsOf (cardOf d)) (bitsOf s) 0 (omega (arith, length-bitsOf s)) ∙ ap (λ (m : ℕ). bitsOf (cardOf d) ++ drop m (bitsOf s)) (zero-add (length (bitsOf (cardOf d))) ∙ lb) in
     let q8 : bitsOf s5 ≡ bitsOf (cardOf d ++ drop c s) = q7 ∙ sym (bitsOf-append (cardOf d) (drop c s) ∙ ap (λ (m : List ℕ). bitsOf (cardOf d) ++ m) (bitsOf-drop c s)) in
     same-bits s5 (cardOf d ++ drop c s) b′ (bytes-append (cardOf d) (drop c s) (bytes-packedIn (bytesFor (length (cardBits d))) (cardBits d) (bits-card d)) (bytes-drop c s b)) q8
-
--- fewer than 64 bits put
-pub fill-few : (l : List ℕ) (at w : ℕ) → w ≤ 64 → sets l at (numberBits (min w 64) 0) ≡ sets l at (numberBits w 0)
-fill-few l at w h = let e : min w 64 ≡ w = omega arith in rw e

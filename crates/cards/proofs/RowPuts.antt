@@ -1,29 +1,48 @@
--- Storing a card's expanders in rows: the words of one phy after the other, and one row after the other.
+-- Walking through a card: one phy more, one expander more, and the ends.
 use Prim.Native.Nat.{ℕ, zero, suc, _+_, _-_, _*_, _≤_, _<_}
 use mathlib.Core.Path.{_≡_, refl, sym, _∙_, ap}
+use mathlib.Core.Bool.{Bool, true, false, cond, _&&_}
 use mathlib.Core.List.{List, [], _∷_, _++_, append-assoc}
 use native.Mathlib.Omega.{arith}
 use lib.ListN.{length, take, drop, set, replicate, length-replicate, length-append}
 use lib.Seq.{sets, sets-eq, drop-drop}
+use lib.Dec.{eqb, leb}
 use Rattle.frames.specs.Bits.{field}
+use Rattle.frames.specs.Refusals.{Result, unless, then, refusal}
 use Rattle.frames.proofs.PackedBits.{Bits, bits-drop}
-use Rattle.frames.proofs.NumberBits.{field-lt}
+use Rattle.wiring.specs.declared.Setting.{Setting}
 use Rattle.wiring.specs.declared.ExpanderUnit.{ExpanderUnit}
 use Rattle.wiring.specs.declared.Phy.{Phy}
+use Rattle.wiring.specs.declared.Check.{Check}
+use Rattle.wiring.specs.declared.Check.the-variants.{Passed as AllPassed}
 use Rattle.wiring.specs.Domain.{Expander, Domain, addressOf}
+use Rattle.wiring.specs.File.{unitTested}
 use Rattle.wiring.specs.Rows.{phyWord, phyWords, headWord, rowOf, rowsOf}
 use Rattle.wiring.proofs.Filling.{length-phyWords, length-rowOf}
-use Rattle.cards.specs.Card.{phySize, physSize, phyOn, physOn, unitOn, expanderOn, expandersOn}
-use Rattle.cards.specs.Walks.{RowStored}
+use Rattle.cards.specs.declared.PhysWalk.{PhysWalk}
+use Rattle.cards.specs.declared.CardWalk.{CardWalk}
+use Rattle.cards.specs.Card.{phySize, physSize, expandersSize, cardSize, phyOn, physOn, unitOn, expanderOn, expandersOn, domainOn}
+use Rattle.cards.specs.CardRead.{resultFine, resultsFine, allFine, phyRanged, unitsTested}
+use Rattle.cards.specs.Walks.{rangedCount, afterCheck, PhysStored, RowStored, CardStored}
+use Rattle.cards.proofs.NumberBits.{field-lt}
 use Rattle.cards.proofs.CardIs.{count-phys, phys-in}
 use Rattle.cards.proofs.Puts.{puts}
-use Rattle.cards.proofs.Walks.{next-phys, no-phys, next-expanders, no-expanders, phys-from, sizes-few}
+use Rattle.cards.proofs.Walks.{next-phys, no-phys, next-expanders, no-expanders, sizes-few}
+use Rattle.cards.proofs.Checks.{ranged-go, ranged-end, tests-go}
 
 -- a part of a list written, as stores
 pub mid-sets : (s r : List ℕ) (a k : ℕ) → length r ≡ k → a + k ≤ length s → take a s ++ (r ++ drop k (drop a s)) ≡ sets s a r
 mid-sets s r a k e h =
     let d : drop k (drop a s) ≡ drop (a + length r) s = drop-drop k a s ∙ ap (λ (n : ℕ). drop (a + n) s) (sym e) in
     ap (λ (m : List ℕ). take a s ++ (r ++ m)) d ∙ sym (sets-eq r s a (omega arith) ∙ append-assoc (take a s) r (drop (a + length r) s))
+
+and-assoc : (a b c : Bool) → ((a && b) && c) ≡ (a && (b && c))
+and-assoc true b c = refl
+and-assoc false b c = refl
+
+and-true : (a : Bool) → (a && true) ≡ a
+and-true true = refl
+and-true false = refl
 
 -- one phy more, and the end
 module _ (l : List ℕ) (n p at : ℕ) where
@@ -48,6 +67,24 @@ module _ (l : List ℕ) (n p at : ℕ) where
   pub stored-end : (row : List ℕ) → n ≤ p → row ≡ sets row (2 + 2 * p) (phyWords (physOn (n - p) (drop at l)))
   stored-end row h = rw (no-phys l at n p h)
 
+  pub fine-go : (fine b v : Bool) (s : ℕ) → (fine && resultsFine (physOn (n - p) (drop at l))) ≡ v → b ≡ resultFine (phyOn (drop at l)) → s ≡ phySize (phyOn (drop at l)) → p < n
+      → ((fine && b) && resultsFine (physOn (n - (p + 1)) (drop (at + s) l))) ≡ v
+  unfolding resultsFine
+  fine-go fine b v s inv q e h =
+      rw (q, e) (and-assoc fine (resultFine (phyOn (drop at l))) _ ∙ sym (ap (λ (φs : List Phy). fine && resultsFine φs) (next-phys l at n p h)) ∙ inv)
+
+  pub fine-end : (fine v : Bool) → (fine && resultsFine (physOn (n - p) (drop at l))) ≡ v → n ≤ p → fine ≡ v
+  unfolding resultsFine
+  fine-end fine v inv h = sym (ap (λ (φs : List Phy). fine && resultsFine φs) (no-phys l at n p h) ∙ and-true fine) ∙ inv
+
+  pub count-go : (r s v k : ℕ) → r ≤ p → cond (eqb r p) (p + rangedCount (physOn (n - p) (drop at l))) r ≡ v → k ≡ cond (eqb r p && phyRanged (phyOn (drop at l))) (r + 1) r → s ≡ phySize (phyOn (drop at l)) → p < n
+      → (k ≤ p + 1) × (cond (eqb k (p + 1)) (p + 1 + rangedCount (physOn (n - (p + 1)) (drop (at + s) l))) k ≡ v)
+  count-go r s v k g inv q e h =
+      rw e (ranged-go (phyOn (drop at l)) (physOn (n - (p + 1)) (drop (at + phySize (phyOn (drop at l))) l)) r p v k g (sym (ap (λ (φs : List Phy). cond (eqb r p) (p + rangedCount φs) r) (next-phys l at n p h)) ∙ inv) q)
+
+  pub count-end : (r v : ℕ) → cond (eqb r p) (p + rangedCount (physOn (n - p) (drop at l))) r ≡ v → n ≤ p → r ≡ v
+  count-end r v inv h = ranged-end r p v (sym (ap (λ (φs : List Phy). cond (eqb r p) (p + rangedCount φs) r) (no-phys l at n p h)) ∙ inv)
+
 -- an expander's row
 drop-zeros : (k n : ℕ) → drop {A = ℕ} k (replicate n 0) ≡ replicate (n - k) 0
 drop-zeros zero n = let e : n - 0 ≡ n = omega arith in rw e
@@ -61,56 +98,96 @@ row-words l a w ws q h =
     let e : 2 + length ws ≡ suc (suc (length ws)) = omega arith in
     ap (λ (m : List ℕ). sets (set (set m 0 a) 1 w) 2 ws) q ∙ sets-eq ws (a ∷ w ∷ replicate 256 0) 2 (omega arith) ∙ rw (e, z)
 
-pub row-made : (l : List ℕ) (at : ℕ) (row after : List ℕ) (u : ExpanderUnit) (w next : ℕ) → Bits l → u ≡ unitOn (drop at l) → w ≡ headWord (u .indexes) (u .phys) (u .configurable)
-    → row ≡ replicate 258 0 → after ≡ sets (set (set row 0 (u .address)) 1 w) 2 (phyWords (physOn (u .phys) (drop (at + 88) l)))
-    → next ≡ at + 88 + physSize (physOn (u .phys) (drop (at + 88) l)) → RowStored (expanderOn (drop at l)) at next after
+pub row-made : (l : List ℕ) (at : ℕ) (row before after : List ℕ) (u : ExpanderUnit) (w : ℕ) (walk : PhysWalk) → u ≡ unitOn (drop at l) → u .phys ≤ 128 → w ≡ headWord (u .indexes) (u .phys) (u .configurable)
+    → row ≡ replicate 258 0 → before ≡ set (set row 0 (u .address)) 1 w → PhysStored (physOn (u .phys) (drop (at + 88) l)) (at + 88) walk before after → RowStored (expanderOn (drop at l)) at walk after
 unfolding rowOf expanderOn
-row-made l at row after u w next b qu qw qr qa qn =
+row-made l at row before after u w walk qu h qw qr qb s =
     let m : List ℕ = drop at l in
     let φs : List Phy = physOn (suc (field 7 (drop 81 m))) (drop 88 m) in
     let c : length φs ≡ suc (field 7 (drop 81 m)) = count-phys (suc (field 7 (drop 81 m))) (drop 88 m) in
-    let f = field-lt 7 (drop 81 m) (bits-drop 81 m (bits-drop at l b)) in
+    let n : u .phys ≡ suc (field 7 (drop 81 m)) = ap (λ (x : ExpanderUnit). x .phys) qu in
     let k : length (phyWords φs) ≡ 2 * length φs = length-phyWords φs in
     let p : physOn (u .phys) (drop (at + 88) l) ≡ φs = ap (λ (x : ExpanderUnit). physOn (x .phys) (drop (at + 88) l)) qu ∙ ap (physOn (suc (field 7 (drop 81 m)))) (sym (drop-drop 88 at l)) in
     let v : w ≡ headWord (field 16 (drop 64 m)) (length φs) (field 1 (drop 80 m)) = qw ∙ ap (λ (x : ExpanderUnit). headWord (x .indexes) (x .phys) (x .configurable)) qu ∙ ap (λ (x : ℕ). headWord (field 16 (drop 64 m)) x (field 1 (drop 80 m))) (sym c) in
     let a : u .address ≡ field 64 m = ap (λ (x : ExpanderUnit). x .address) qu in
     let d = ap (λ (x : List Phy). physSize x) p in
     record {
-      words = qa ∙ ap (λ (x : List Phy). sets (set (set row 0 (u .address)) 1 w) 2 (phyWords x)) p ∙ row-words row (u .address) w (phyWords φs) qr (omega arith)
+      words = s .words ∙ ap (λ (x : List ℕ). sets x 2 (phyWords (physOn (u .phys) (drop (at + 88) l)))) qb ∙ ap (λ (x : List Phy). sets (set (set row 0 (u .address)) 1 w) 2 (phyWords x)) p ∙ row-words row (u .address) w (phyWords φs) qr (omega arith)
           ∙ ap (λ (x : ℕ). x ∷ w ∷ (phyWords φs ++ replicate (256 - length (phyWords φs)) 0)) a ∙ ap (λ (x : ℕ). field 64 m ∷ x ∷ (phyWords φs ++ replicate (256 - length (phyWords φs)) 0)) v;
-      place = omega arith;
+      place = omega (arith, s .place);
+      results = s .results ∙ ap resultsFine p;
+      tests = s .tests ∙ ap rangedCount p;
     }
 
--- one row more, and the end
-module _ (l : List ℕ) (n i at : ℕ) (b : Bits l) where
-  phys-few : length (expanderOn (drop at l) .phys) ≤ 128
-  phys-few =
-      let f = field-lt 7 (drop 81 (drop at l)) (bits-drop 81 (drop at l) (bits-drop at l b)) in
-      let c : length (expanderOn (drop at l) .phys) ≡ suc (field 7 (drop 81 (drop at l))) = ap length (phys-in (drop at l)) ∙ count-phys (suc (field 7 (drop 81 (drop at l)))) (drop 88 (drop at l)) in
-      omega arith
-
-  pub place-next : (next : ℕ) → next ≡ at + (88 + physSize (expanderOn (drop at l) .phys)) → next ≤ at + 10072
-  place-next next e = let f = phys-few in omega (arith, sizes-few (expanderOn (drop at l) .phys))
-
-  pub rows-go : (ws v r : List ℕ) (a k next : ℕ) → sets ws (258 * i) (rowsOf (expandersOn (n - i) (drop at l))) ≡ v → r ≡ rowOf (expanderOn (drop at l))
-      → next ≡ at + (88 + physSize (expanderOn (drop at l) .phys)) → a ≡ 258 * i → k ≡ 258 → 258 * i + 258 ≤ length ws → i < n
-      → sets (take a ws ++ (r ++ drop k (drop a ws))) (258 * (i + 1)) (rowsOf (expandersOn (n - (i + 1)) (drop next l))) ≡ v
-  unfolding rowsOf
-  rows-go ws v r a k next inv qr qn qa qk h g =
-      let lr : length r ≡ 258 = ap length qr ∙ length-rowOf (expanderOn (drop at l)) phys-few in
-      let t : take a ws ++ (r ++ drop k (drop a ws)) ≡ sets ws a r = mid-sets ws r a k (omega arith) (omega arith) in
-      let rest : List ℕ = rowsOf (expandersOn (n - (i + 1)) (drop next l)) in
-      let s : expandersOn (n - i) (drop at l) ≡ expanderOn (drop at l) ∷ expandersOn (n - (i + 1)) (drop next l) = next-expanders l at n i g ∙ rw qn in
-      puts ws _ (sets (take a ws ++ (r ++ drop k (drop a ws))) (258 * (i + 1)) rest) (258 * i) (258 * (i + 1)) (rowOf (expanderOn (drop at l))) rest
-      (t ∙ ap (λ (x : ℕ). sets ws x r) qa ∙ ap (sets ws (258 * i)) qr) refl (omega (arith, length-rowOf (expanderOn (drop at l)) phys-few))
-      ∙ sym (ap (λ (d : Domain). sets ws (258 * i) (rowsOf d)) s) ∙ inv
-
-  pub rows-end : (ws v : List ℕ) → sets ws (258 * i) (rowsOf (expandersOn (n - i) (drop at l))) ≡ v → n ≤ i → ws ≡ v
-  unfolding rowsOf
-  rows-end ws v inv h = sym (ap (λ (d : Domain). sets ws (258 * i) (rowsOf d)) (no-expanders l at n i h)) ∙ inv
-
-pub unit-few : (l : List ℕ) (at : ℕ) → Bits l → (u : ExpanderUnit) → u ≡ unitOn (drop at l) → u .phys ≤ 128
-unit-few l at b u e =
+phys-few : (l : List ℕ) (at : ℕ) → Bits l → length (expanderOn (drop at l) .phys) ≤ 128
+phys-few l at b =
     let f = field-lt 7 (drop 81 (drop at l)) (bits-drop 81 (drop at l) (bits-drop at l b)) in
-    let p : u .phys ≡ suc (field 7 (drop 81 (drop at l))) = ap (λ (v : ExpanderUnit). v .phys) e in
+    let c : length (expanderOn (drop at l) .phys) ≡ suc (field 7 (drop 81 (drop at l))) = ap length (phys-in (drop at l)) ∙ count-phys (suc (field 7 (drop 81 (drop at l)))) (drop 88 (drop at l)) in
     omega arith
+
+-- what a walk through the expanders before expander i of a card's domain d holds, where `rest` are those to come
+pub record Walking (most : Setting) (before : List ℕ) (d : Domain) (i at : ℕ) (rows seen : List ℕ) (fine : Bool) (check : Check) (rest : Domain) : Type 0 where
+  pub words : sets rows (258 * i) (rowsOf rest) ≡ sets before 0 (rowsOf d)
+  pub place : at + expandersSize rest ≡ cardSize d
+  pub results : (fine && allFine rest) ≡ allFine d
+  pub tests : (k : Result Domain) → afterCheck check (unitsTested most i (take i seen) rest k) ≡ unitsTested most 0 [] d k
+
+pub domain-on : (l : List ℕ) (n : ℕ) → n ≡ suc (field 6 (drop 4 l)) → expandersOn n (drop 16 l) ≡ domainOn l
+unfolding domainOn
+domain-on l n e = rw e
+
+pub walk-starts : (most : Setting) (l rows seen : List ℕ) (n : ℕ) → n ≡ suc (field 6 (drop 4 l)) → Walking most rows (domainOn l) 0 16 rows seen true AllPassed (expandersOn (n - 0) (drop 16 l))
+walk-starts most l rows seen n e =
+    let z : n - 0 ≡ n = omega arith in
+    let q : expandersOn (n - 0) (drop 16 l) ≡ domainOn l = ap (λ (m : ℕ). expandersOn m (drop 16 l)) z ∙ domain-on l n e in
+    record {
+      words = ap (λ (d : Domain). sets rows 0 (rowsOf d)) q;
+      place = ap cardSize q;
+      results = ap allFine q;
+      tests = λ k. ap (λ (d : Domain). unitsTested most 0 [] d k) q;
+    }
+
+-- one expander more, and the end
+module _ (most : Setting) (l before : List ℕ) (d : Domain) (n i at : ℕ) (rows seen : List ℕ) (fine : Bool) (check : Check)
+    (inv : Walking most before d i at rows seen fine check (expandersOn (n - i) (drop at l))) where
+  pub walk-goes : (b : Bits l) (u : ExpanderUnit) (walk : PhysWalk) (r : List ℕ) (a k : ℕ) (unit both : Check) → i < n → RowStored (expanderOn (drop at l)) at walk r → u ≡ unitOn (drop at l)
+      → ((k : Result Domain) → afterCheck unit k ≡ then (unitTested most (take i seen) i u) (λ w. unless (leb (u .phys) (walk .ranged)) (refusal 6 i (walk .ranged)) k))
+      → ((k : Result Domain) → afterCheck both k ≡ afterCheck check (afterCheck unit k)) → i < length seen → a ≡ 258 * i → k ≡ 258 → 258 * i + 258 ≤ length rows
+      → Walking most before d (i + 1) (walk .next) (take a rows ++ (r ++ drop k (drop a rows))) (set seen i (u .address)) (fine && walk .fine) both (expandersOn (n - (i + 1)) (drop (walk .next) l))
+      × (walk .next ≤ at + 10072)
+  unfolding rowsOf expandersSize allFine
+  walk-goes b u walk r a k unit both g s qu f o h qa qk m =
+      let e : Expander = expanderOn (drop at l) in
+      let rest : Domain = expandersOn (n - (i + 1)) (drop (walk .next) l) in
+      let w : expandersOn (n - i) (drop at l) ≡ expanderOn (drop at l) ∷ expandersOn (n - (i + 1)) (drop (walk .next) l) =
+      next-expanders l at n i g ∙ ap (λ (x : ℕ). expanderOn (drop at l) ∷ expandersOn (n - (i + 1)) (drop x l)) (sym (s .place)) in
+      let c : length (expanderOn (drop at l) .phys) ≤ 128 = phys-few l at b in
+      let lr : length r ≡ 258 = ap length (s .words) ∙ length-rowOf (expanderOn (drop at l)) c in
+      let t : take a rows ++ (r ++ drop k (drop a rows)) ≡ sets rows (258 * i) (rowOf (expanderOn (drop at l))) =
+      mid-sets rows r a k (omega arith) (omega arith) ∙ ap (λ (x : ℕ). sets rows x r) qa ∙ ap (sets rows (258 * i)) (s .words) in
+      let ps = ap expandersSize w in
+      let z = sizes-few (expanderOn (drop at l) .phys) in (
+        record {
+          words = puts rows _ (sets (take a rows ++ (r ++ drop k (drop a rows))) (258 * (i + 1)) (rowsOf (expandersOn (n - (i + 1)) (drop (walk .next) l)))) (258 * i) (258 * (i + 1)) (rowOf (expanderOn (drop at l))) (rowsOf (expandersOn (n - (i + 1)) (drop (walk .next) l)))
+              t refl (omega (arith, length-rowOf (expanderOn (drop at l)) c)) ∙ sym (ap (λ (x : Domain). sets rows (258 * i) (rowsOf x)) w) ∙ inv .words;
+          place = omega (arith, inv .place, s .place);
+          results = ap (λ (x : Bool). (fine && x) && allFine (expandersOn (n - (i + 1)) (drop (walk .next) l))) (s .results)
+              ∙ and-assoc fine (resultsFine (expanderOn (drop at l) .phys)) (allFine (expandersOn (n - (i + 1)) (drop (walk .next) l))) ∙ sym (ap (λ (x : Domain). fine && allFine x) w) ∙ inv .results;
+          tests = tests-go most l seen i at (expandersOn (n - (i + 1)) (drop (walk .next) l)) check unit both u (walk .ranged) (λ x. unitsTested most 0 [] d x) qu (s .tests) f o h
+              (λ x. sym (ap (λ (y : Domain). afterCheck check (unitsTested most i (take i seen) y x)) w) ∙ inv .tests x);
+        },
+        omega (arith, s .place),
+      )
+
+  pub walk-ends : n ≤ i → at ≤ 644624 → CardStored most d (record { at = at; fine = fine; check = check }) before rows
+  unfolding rowsOf expandersSize allFine unitsTested
+  walk-ends h f =
+      let w : expandersOn (n - i) (drop at l) ≡ [] = no-expanders l at n i h in
+      let ps = ap expandersSize w in
+      record {
+        words = sym (ap (λ (x : Domain). sets rows (258 * i) (rowsOf x)) w) ∙ inv .words;
+        place = omega (arith, inv .place);
+        few = f;
+        results = sym (ap (λ (x : Domain). fine && allFine x) w ∙ and-true fine) ∙ inv .results;
+        tests = λ k. sym (ap (λ (x : Domain). afterCheck check (unitsTested most i (take i seen) x k)) w) ∙ inv .tests k;
+      }

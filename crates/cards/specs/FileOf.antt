@@ -3,7 +3,7 @@ use Prim.Native.Nat.{ℕ, _+_}
 use mathlib.Core.List.{List, [], _∷_, _++_}
 use lib.ListN.{length}
 use Rattle.frames.specs.Bytes.{bytesOf}
-use Rattle.frames.specs.ShortFrames.{shortGeneral, shortVacant, shortDiscover}
+use Rattle.cards.specs.ShortFrames.{shortGeneral, shortVacant, shortDiscover}
 use Rattle.frames.specs.declared.General.{General}
 use Rattle.frames.specs.declared.Discover.{Discover}
 use Rattle.wiring.specs.declared.Phy.{Phy}

@@ -1,5 +1,6 @@
 pub mod Card
 pub mod CardRead
+pub mod ShortFrames
 pub mod FileOf
 pub mod KeptBytes
 pub mod Calls

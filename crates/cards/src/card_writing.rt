@@ -1,5 +1,6 @@
 // Writes a domain's card.
 use crate::Made;
+use crate::bits;
 use crate::refusals;
 use crate::sizes;
 use wiring::ExpanderNumber;
@@ -33,14 +34,14 @@ fn put_present(card: &mut [u8], at: usize, x: PhyFields)
     requires { ⌜ at < 1000000 ⌝ }
     ensures { λ _. ⌜ bitsOf (now (card .exit)) ≡ sets (bitsOf (now (card .entry))) at (phyBits (Present x)) ⌝ }
 {
-    wiring::put_bits(card, at, 1, 1);
-    wiring::put_bits(card, at + 1, 3, x.device as u64);
-    wiring::put_bits(card, at + 4, 2, x.attribute as u64);
+    bits::put_bits(card, at, 1, 1);
+    bits::put_bits(card, at + 1, 3, x.device as u64);
+    bits::put_bits(card, at + 4, 2, x.attribute as u64);
     if x.device == 0 {
         return;
     }
-    wiring::put_bits(card, at + 6, 64, x.address);
-    wiring::put_bits(card, at + 70, 8, x.far.0 as u64);
+    bits::put_bits(card, at + 6, 64, x.address);
+    bits::put_bits(card, at + 70, 8, x.far.0 as u64);
 }
 
 // Puts a phy's bits from bit `at` on.
@@ -50,8 +51,8 @@ fn put_phy(card: &mut [u8], at: usize, f: Phy)
 {
     match f {
         Phy::Vacant(result) => {
-            wiring::put_bits(card, at, 1, 0);
-            wiring::put_bits(card, at + 1, 8, result as u64);
+            bits::put_bits(card, at, 1, 0);
+            bits::put_bits(card, at + 1, 8, result as u64);
         }
         Phy::Present(x) => {
             put_present(card, at, x);
@@ -81,10 +82,10 @@ fn put_head(card: &mut [u8], at: usize, rows: &[u64], i: ExpanderNumber)
     requires { ⌜ at < 1000000 ⌝ }
     ensures { λ _. ⌜ bitsOf (now (card .exit)) ≡ sets (bitsOf (now (card .entry))) at (headBits (expanderAt (domainIn (now (rows .entry))) (i .0))) ⌝ }
 {
-    wiring::put_bits(card, at, 64, wiring::expander_address(rows, i));
-    wiring::put_bits(card, at + 64, 16, wiring::index_count(rows, i) as u64);
-    wiring::put_bits(card, at + 80, 1, wiring::configurable_bit(rows, i) as u64);
-    wiring::put_bits(card, at + 81, 7, less_one(wiring::phy_count(rows, i)));
+    bits::put_bits(card, at, 64, wiring::expander_address(rows, i));
+    bits::put_bits(card, at + 64, 16, wiring::index_count(rows, i) as u64);
+    bits::put_bits(card, at + 80, 1, wiring::configurable_bit(rows, i) as u64);
+    bits::put_bits(card, at + 81, 7, less_one(wiring::phy_count(rows, i)));
 }
 
 // Puts the bits of all expanders from bit 16 on, and yields the place after them.
@@ -108,11 +109,11 @@ fn put_card(card: &mut [u8], rows: &[u64])
     requires { ⌜ bytesFor (cardSize (domainIn (now rows))) ≤ length (now card) ⌝ }
     ensures { λ _. ⌜ now (card .exit) ≡ cardOf (domainIn (now (rows .entry))) ++ drop (bytesFor (cardSize (domainIn (now (rows .entry))))) (now (card .entry)) ⌝ }
 {
-    wiring::put_bits(card, 0, 4, 2);
-    wiring::put_bits(card, 4, 6, less_one(wiring::expander_count(rows)));
-    wiring::put_bits(card, 10, 6, 0);
+    bits::put_bits(card, 0, 4, 2);
+    bits::put_bits(card, 4, 6, less_one(wiring::expander_count(rows)));
+    bits::put_bits(card, 10, 6, 0);
     let at = put_expanders(card, rows);
-    wiring::put_bits(card, at, (8 - at % 8) % 8, 0);
+    bits::put_bits(card, at, (8 - at % 8) % 8, 0);
 }
 
 // The card of the domain in rows, where it fits: 16 otherwise. The bytes after it stay, and all of them where it is refused.

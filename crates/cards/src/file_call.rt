@@ -1,7 +1,6 @@
 // Makes a file of a card.
 use crate::Made;
 use crate::card_rows;
-use crate::card_tests;
 use crate::file_writing;
 use crate::reading;
 use crate::refusals;
@@ -18,19 +17,19 @@ pub fn file_of_card(setting: Setting, card: &[u8], file: &mut [u8]) -> Made
     if !wiring::is_in_range(setting) {
         return refusals::made_refused(22);
     }
-    if !reading::is_formed(card) {
+    let n = reading::expanders_from(card);
+    let mut rows = [0u64; 16512];
+    let walk = card_rows::walk_card(&mut rows[..], setting, card, n);
+    if !reading::is_formed(card, walk.fine, walk.at) {
         return refusals::made_refused(19);
     }
-    let n = reading::expanders_from(card);
     if !wiring::is_within(n, setting.expanders) {
         return refusals::made_refused(3);
     }
-    let check = card_tests::check_units(setting, card, n);
+    let check = walk.check;
     match check {
         Check::Refused(r) => Made::Refused(r),
         Check::Passed => {
-            let mut rows = [0u64; 16512];
-            card_rows::fill_rows(&mut rows[..], card, n);
             let e = 258 * (n as usize);
             file_writing::file_of_rows(&rows[..e], file)
         }

@@ -1,6 +1,7 @@
 // Writes the file of a domain in rows: short frames, every ignored byte and bit zero.
 use crate::Made;
 use crate::refusals;
+use crate::short_frames;
 use wiring::Discover;
 use wiring::ExpanderNumber;
 use wiring::General;
@@ -39,10 +40,10 @@ fn put_phy(frame: &mut [u8], own: u64, p: PhyId, f: Phy)
 {
     match f {
         Phy::Vacant(result) => {
-            wiring::put_vacant(frame, result);
+            short_frames::put_vacant(frame, result);
         }
         Phy::Present(x) => {
-            wiring::put_discover(frame, discover_of(own, p, x));
+            short_frames::put_discover(frame, discover_of(own, p, x));
         }
     }
 }
@@ -60,7 +61,7 @@ fn put_head(file: &mut [u8], to: usize, rows: &[u64], i: ExpanderNumber)
     let m = to + 8;
     let e = to + 36;
     wiring::put_address(&mut file[to..m], wiring::expander_address(rows, i));
-    wiring::put_general(&mut file[m..e], g);
+    short_frames::put_general(&mut file[m..e], g);
 }
 
 // Writes the DISCOVER responses of expander i's phys from byte `to` on.

@@ -1,13 +1,14 @@
 // Refusals of the calls.
 use crate::Made;
+use wiring::Check;
 use wiring::ExpanderNumber;
 use wiring::PhyId;
-use wiring::PhysCheck;
 use wiring::Refusal;
 ghost use mathlib.Core.Path.{_≡_};
-ghost use Rattle.frames.specs.Refusals.{refused, refusal};
-ghost use Rattle.wiring.specs.Units.{physAnswer};
+ghost use Rattle.frames.specs.Refusals.{Result, refused, refusal};
+ghost use Rattle.wiring.specs.Domain.{Domain};
 ghost use Rattle.cards.specs.Calls.{madeAnswer};
+ghost use Rattle.cards.specs.Walks.{afterCheck};
 
 // Number k, with place 0, 0.
 pub(crate) fn made_refused(k: u8) -> Made
@@ -21,10 +22,10 @@ pub(crate) fn made_refused(k: u8) -> Made
 }
 
 // 6 at phy p of expander i.
-pub(crate) fn phys_refused(i: ExpanderNumber, p: u8) -> PhysCheck
-    ensures { λ r. ⌜ physAnswer r ≡ refused (refusal 6 (i .0) p) ⌝ }
+pub(crate) fn check_refused(i: ExpanderNumber, p: u8) -> Check
+    ensures { λ r. ⌜ ((k : Result Domain) → afterCheck r k ≡ refused (refusal 6 (i .0) p)) ⌝ }
 {
-    PhysCheck::Refused(Refusal {
+    Check::Refused(Refusal {
         number: 6,
         expander: i,
         phy: PhyId(p),

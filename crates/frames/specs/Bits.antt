@@ -17,10 +17,6 @@ field width [] = 0
 field zero (b ∷ l) = 0
 field (suc width) (b ∷ l) = b * 2 ^ width + field width l
 
--- a number with bit b above its lowest k bits
-abbrev pub withBit : ℕ → ℕ → ℕ → ℕ
-withBit v k b = v / 2 ^ suc k * 2 ^ suc k + (b * 2 ^ k + v % 2 ^ k)
-
 -- the bits of bytes, eight for each
 unfoldable pub bitsOf : List ℕ → List ℕ
 bitsOf [] = []

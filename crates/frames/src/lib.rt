@@ -1,5 +1,5 @@
-// SMP frames, each by itself: REPORT GENERAL and DISCOVER responses are read, and written short; CONFIGURE ROUTE
-// INFORMATION requests are written and read. Also bits packed into bytes, of which disable bits are made.
+// SMP frames, each by itself: REPORT GENERAL and DISCOVER responses are read, CONFIGURE ROUTE INFORMATION requests are
+// written and read. Also bits packed into bytes, of which disable bits are made.
 mod bits;
 mod bytes;
 pub mod codes;
@@ -7,15 +7,14 @@ mod configure_route;
 mod discovery;
 mod refusals;
 mod report_general;
-mod short_frames;
 mod sizes;
 
 pub use bits::bit_at;
-pub use bits::bits_at;
 pub use bits::bytes_for;
 pub use bits::mark_zeros;
-pub use bits::put_bits;
 pub use bytes::address_at;
+pub use bytes::byte_at;
+pub use bytes::put_address;
 pub use configure_route::put_route;
 pub use configure_route::read_route;
 pub use configure_route::route_refusal;
@@ -23,10 +22,6 @@ pub use configure_route::write_route;
 pub use discovery::read_discover;
 pub use report_general::read_general;
 pub use report_general::read_general_sas2;
-pub use short_frames::put_address;
-pub use short_frames::put_discover;
-pub use short_frames::put_general;
-pub use short_frames::put_vacant;
 pub use sizes::frame_size;
 
 // A phy identifier: which phy of an expander.

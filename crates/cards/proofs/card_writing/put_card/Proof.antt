@@ -10,7 +10,7 @@ use Rattle.wiring.specs.Domain.{Domain, Expander, expanderAt, phyAt}
 use Rattle.wiring.specs.Rows.{domainIn}
 use Rattle.frames.specs.Bits.{numberBits, field, bitsOf, bytesFor}
 use Rattle.cards.specs.Card.{cardSize}
-use Rattle.cards.proofs.Puts.{card-put, fill-few}
+use Rattle.cards.proofs.Puts.{card-put}
 use Rattle.cards.proofs.card_writing.put_card.Statement.{statement}
 use Rattle.cards.proofs.card_writing.put_card.Tie as tie
 
@@ -36,7 +36,7 @@ sub-put-bits : tie.Need-sub-put-bits
 sub-put-bits c = search needs
 
 put-bits-requires-4 : tie.Need-put-bits-requires-4
-put-bits-requires-4 c κs = search needs
+put-bits-requires-4 c κs = omega arith
 
 same-length : tie.Need-same-length
 same-length c = search needs
@@ -47,7 +47,7 @@ returns c =
     let at : c .before .before .before .before .before .before .put-expanders .result ≡ cardSize d = c .before .before .before .before .before .before .put-expanders .ensures .1 .0 in
     let n : c .before .before .before .before .before .before .before .before .before .before .before .before .before .before .before .less-one .result ≡ length d - 1 = c .before .before .before .before .before .before .before .before .before .before .before .before .before .before .before .less-one .ensures ∙ ap (λ (m : ℕ). m - 1) (c .before .before .before .before .before .before .before .before .before .before .before .before .before .before .before .before .expander-count .ensures .0) in
     card-put d (c .before .before .before .before .before .before .before .before .before .before .before .before .before .before .before .before .before .before .before .before .before .before .before .before .args .card .now) _ _ _ _ _ _ _ _ (λ j. c .before .before .before .before .before .before .before .before .before .before .before .before .before .before .before .before .before .before .before .before .before .before .before .slice-known .given j .fits) (λ j. c .slice-known6 .given j .fits) (c .before .before .before .before .before .before .before .before .before .before .before .before .before .before .before .before .before .before .before .before .before .before .before .before .pre) n at (omega arith)
-    (c .before .before .before .before .before .before .before .before .before .before .before .before .before .before .before .before .before .before .before .before .put-bits .ensures) (c .before .before .before .before .before .before .before .before .before .before .before .before .before .before .put-bits2 .ensures) (c .before .before .before .before .before .before .before .before .before .before .put-bits3 .ensures) (c .before .before .before .before .before .before .put-expanders .ensures .0) (c .before .before .put-bits4 .ensures ∙ fill-few _ _ _ (omega arith))
+    (c .before .before .before .before .before .before .before .before .before .before .before .before .before .before .before .before .before .before .before .before .put-bits .ensures) (c .before .before .before .before .before .before .before .before .before .before .before .before .before .before .put-bits2 .ensures) (c .before .before .before .before .before .before .before .before .before .before .put-bits3 .ensures) (c .before .before .before .before .before .before .put-expanders .ensures .0) (c .before .before .put-bits4 .ensures)
 
 pub put-card-spec : {M : Type 1} → statement M
 put-card-spec =

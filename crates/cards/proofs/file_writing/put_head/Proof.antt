@@ -8,10 +8,10 @@ use lib.ListN.{length, take, drop, set, replicate, length-set, length-take, leng
 use lib.Seq.{sets, length-take-le}
 use borrow.Rule.Slice.PartMut.{putMid, same-len-mid}
 use Rattle.frames.specs.Bytes.{bytesOf}
-use Rattle.frames.specs.ShortFrames.{shortGeneral}
+use Rattle.cards.specs.ShortFrames.{shortGeneral}
 use Rattle.frames.specs.declared.General.{General}
 use Rattle.frames.proofs.Numbers.{length-bytesOf}
-use Rattle.frames.proofs.ShortFrames.{length-general}
+use Rattle.cards.proofs.ShortFrames.{length-general}
 use Rattle.wiring.specs.Domain.{Domain, Expander, expanderAt}
 use Rattle.wiring.specs.Rows.{domainIn}
 use Rattle.cards.specs.FileOf.{generalOf}
@@ -65,7 +65,7 @@ returns c =
     let g = general-same e _ _ _ (c .before .before .before .before .before .before .before .before .before .before .before .index-count .ensures) (c .before .before .before .before .before .before .before .before .before .before .phy-count .ensures .0) (c .before .before .before .before .before .before .before .before .before .configurable-bit .ensures) in
     let gen : General = record { indexes = c .before .before .before .before .before .before .before .before .before .before .before .index-count .result; phys = c .before .before .before .before .before .before .before .before .before .before .phy-count .result; configurable = c .before .before .before .before .before .before .before .before .before .configurable-bit .result } in
     let f1 = c .before .before .before .before .before .before .put-address .ensures ∙ front-whole (bytesOf 8 x) (take (t + 8 - t) (drop t (a .file .now))) (simp (length-take, length-drop) (omega (arith, length-bytesOf 8 x))) in
-    let f2 = c .before .before .put-general .ensures ∙ front-whole (shortGeneral gen) (take (t + 36 - (t + 8)) (drop (t + 8) s)) (simp (length-take, length-drop) (omega (arith, n, length-general gen))) in
+    let f2 = c .before .before .put-general .ensures in
     head-put e (a .file .now) s _ (c .before .before .before .before .before .before .put-address .last .0) (c .before .before .put-general .last .0) t (t + 8 - t) (t + 36 - (t + 8)) x gen (c .before .before .before .before .before .before .before .before .before .before .before .before .before .before .pre .1) n (c .before .before .before .before .before .before .before .expander-address .ensures) g (omega arith) f1 refl (omega arith) f2 refl
 
 index-count-requires : tie.Need-index-count-requires
@@ -84,7 +84,11 @@ put-address-requires : tie.Need-put-address-requires
 put-address-requires c κs = search needs
 
 put-general-requires : tie.Need-put-general-requires
-put-general-requires c κs = search needs
+put-general-requires c κs =
+    let a = c .before .before .before .before .before .before .before .before .before .before .before .args in
+    let t = a .to in
+    let l = same-len-mid t (t + 8 - t) (a .file .now) (c .before .before .before .put-address .last .0) (c .before .before .before .put-address .kept .0) in
+    simp (length-take, length-drop) (omega arith)
 
 pub put-head-spec : {M : Type 1} → statement M
 put-head-spec = tie.close (tie.spec index-count-requires phy-count-requires configurable-bit-requires add-m add-e sub-put-address part-put-address-start part-put-address-end expander-address-requires put-address-requires sub-put-general part-put-general-start part-put-general-end put-general-requires same-length returns)

@@ -6,12 +6,9 @@ use mathlib.Core.Path.{_≡_, refl, sym, _∙_, ap, subst}
 use mathlib.Core.List.{List, [], _∷_, _++_}
 use lib.ListN.{length, take, drop, set, replicate, length-set, length-take, length-drop, length-replicate}
 use lib.Seq.{sets, length-take-le}
-use Rattle.frames.specs.ShortFrames.{shortVacant, shortDiscover, atFront}
-use Rattle.frames.proofs.ShortFrames.{length-vacant, length-discover}
-use Rattle.frames.specs.declared.Discover.{Discover}
+use Rattle.cards.specs.ShortFrames.{shortDiscover}
 use Rattle.wiring.specs.declared.Phy.{Phy}
-use Rattle.cards.specs.FileOf.{discoverOf, phyFrame}
-use Rattle.cards.proofs.FilePuts.{front-whole}
+use Rattle.cards.specs.FileOf.{phyFrame}
 use Rattle.cards.proofs.file_writing.put_phy.Statement.{statement}
 use Rattle.cards.proofs.file_writing.put_phy.Tie as tie
 
@@ -21,15 +18,12 @@ same-length c = search needs
 returns : tie.Need-returns
 returns c =
     let a = c .before .before .before .before .before .before .before .before .args in
-    let r = c .before .before .before .before .before .f .given .0 .0 in
-    c .before .before .put-vacant .ensures ∙ front-whole (shortVacant r) (a .frame .now) (c .before .before .before .before .before .before .before .before .pre ∙ sym (length-vacant r)) ∙ sym (ap (phyFrame (a .own) (a .p .0)) (c .before .before .before .before .before .f .given .1))
+    c .before .before .put-vacant .ensures ∙ sym (ap (phyFrame (a .own) (a .p .0)) (c .before .before .before .before .before .f .given .1))
 
 returns-2 : tie.Need-returns-2
 returns-2 c =
     let a = c .before .before .before .before .before .before .before .before .before .args in
-    let x = c .before .before .before .before .before .before .f2 .given .0 .0 in
-    c .before .before .put-discover .ensures ∙ ap (λ (d : Discover). atFront (shortDiscover d) (a .frame .now)) (c .before .before .before .discover-of .ensures)
-    ∙ front-whole (shortDiscover (discoverOf (a .own) (a .p .0) x)) (a .frame .now) (c .before .before .before .before .before .before .before .before .before .pre ∙ sym (length-discover (discoverOf (a .own) (a .p .0) x))) ∙ sym (ap (phyFrame (a .own) (a .p .0)) (c .before .before .before .before .before .before .f2 .given .1))
+    c .before .before .put-discover .ensures ∙ ap shortDiscover (c .before .before .before .discover-of .ensures) ∙ sym (ap (phyFrame (a .own) (a .p .0)) (c .before .before .before .before .before .before .f2 .given .1))
 
 enum-known-f : tie.Need-enum-known-f
 enum-known-f c = search needs

@@ -1,66 +1,64 @@
--- phy_from reads the bit, and the numbers that follow it.
+-- phy_from reads the first eight bits, and the numbers that follow.
+use mathlib.Core.Path.{_≡_, sym, _∙_}
 use native.Mathlib.Omega.{arith}
 use borrow.Author.Needs.{needs}
-use mathlib.Core.Path.{_≡_, refl, sym, _∙_, ap, subst}
-use Rattle.frames.specs.Bits.{numberBits, field, bitsOf, bytesFor}
-use Rattle.cards.proofs.Walks.{vacant-from, idle-from, bound-from}
+use Rattle.frames.specs.Bits.{bitsOf}
+use Rattle.cards.proofs.Packing.{bits-bitsOf}
+use Rattle.cards.proofs.Walks.{head-bits, vacant-from, idle-from, bound-from}
 use Rattle.cards.proofs.reading.phy_from.Statement.{statement}
 use Rattle.cards.proofs.reading.phy_from.Tie as tie
 
-bits-at-requires : tie.Need-bits-at-requires
-bits-at-requires c κs = search needs
+byte-from-requires : tie.Need-byte-from-requires
+byte-from-requires c κs = omega arith
 
-add-bits-at : tie.Need-add-bits-at
-add-bits-at c = search needs
+add-byte-from : tie.Need-add-byte-from
+add-byte-from c = omega arith
 
-bits-at-requires-2 : tie.Need-bits-at-requires-2
-bits-at-requires-2 c κs = search needs
+byte-from-requires-2 : tie.Need-byte-from-requires-2
+byte-from-requires-2 c κs = omega arith
 
 cast-t11 : tie.Need-cast-t11
 cast-t11 c = search needs
 
 returns : tie.Need-returns
-returns c = vacant-from (bitsOf (c .before .before .before .before .args .card .now)) (c .before .before .before .before .args .at) _ (sym (c .before .before .bits-at .ensures .0) ∙ c .before .if1 .taken) (c .bits-at2 .ensures .0)
-
-add-bits-at-2 : tie.Need-add-bits-at-2
-add-bits-at-2 c = search needs
-
-bits-at-requires-3 : tie.Need-bits-at-requires-3
-bits-at-requires-3 c κs = search needs
+returns c =
+    let a = c .before .before .before .before .args in
+    let h = head-bits (bitsOf (a .card .now)) (a .at) _ (bits-bitsOf (a .card .now)) (c .before .before .byte-from .ensures .0) in
+    vacant-from (bitsOf (a .card .now)) (a .at) _ (h .vacant (c .before .if1 .taken)) (c .byte-from2 .ensures .0)
 
 cast-device : tie.Need-cast-device
 cast-device c = search needs
-
-add-bits-at-3 : tie.Need-add-bits-at-3
-add-bits-at-3 c = search needs
-
-bits-at-requires-4 : tie.Need-bits-at-requires-4
-bits-at-requires-4 c κs = search needs
 
 cast-attribute : tie.Need-cast-attribute
 cast-attribute c = search needs
 
 returns-2 : tie.Need-returns-2
-returns-2 c = idle-from (bitsOf (c .before .before .before .before .before .before .args .card .now)) (c .before .before .before .before .before .before .args .at) _ _ (λ z. c .before .before .before .if1 .left (c .before .before .before .before .bits-at .ensures .0 ∙ z)) (c .before .before .bits-at3 .ensures .0) (c .before .bits-at4 .ensures .0) (c .if2 .taken)
+returns-2 c =
+    let a = c .before .before .before .before .args in
+    let h = head-bits (bitsOf (a .card .now)) (a .at) _ (bits-bitsOf (a .card .now)) (c .before .before .byte-from .ensures .0) in
+    idle-from (bitsOf (a .card .now)) (a .at) _ _ (h .present (c .before .if1 .left)) (h .device) (h .attribute) (c .if2 .taken)
 
-add-bits-at-4 : tie.Need-add-bits-at-4
-add-bits-at-4 c = search needs
+add-word-from : tie.Need-add-word-from
+add-word-from c = omega arith
 
-bits-at-requires-5 : tie.Need-bits-at-requires-5
-bits-at-requires-5 c κs = search needs
+word-from-requires : tie.Need-word-from-requires
+word-from-requires c κs = omega arith
 
-add-bits-at-5 : tie.Need-add-bits-at-5
-add-bits-at-5 c = search needs
+add-byte-from-2 : tie.Need-add-byte-from-2
+add-byte-from-2 c = omega arith
 
-bits-at-requires-6 : tie.Need-bits-at-requires-6
-bits-at-requires-6 c κs = search needs
+byte-from-requires-3 : tie.Need-byte-from-requires-3
+byte-from-requires-3 c κs = omega arith
 
 cast-far : tie.Need-cast-far
 cast-far c = search needs
 
 returns-3 : tie.Need-returns-3
-returns-3 c = bound-from (bitsOf (c .before .before .before .before .before .before .before .before .args .card .now)) (c .before .before .before .before .before .before .before .before .args .at) _ _ _ _ (λ z. c .before .before .before .before .before .if1 .left (c .before .before .before .before .before .before .bits-at .ensures .0 ∙ z)) (c .before .before .before .before .bits-at3 .ensures .0) (c .before .before .before .bits-at4 .ensures .0) (c .before .bits-at5 .ensures .0) (c .bits-at6 .ensures .0) (c .before .before .if2 .left)
+returns-3 c =
+    let a = c .before .before .before .before .before .before .args in
+    let h = head-bits (bitsOf (a .card .now)) (a .at) _ (bits-bitsOf (a .card .now)) (c .before .before .before .before .byte-from .ensures .0) in
+    bound-from (bitsOf (a .card .now)) (a .at) _ _ _ _ (h .present (c .before .before .before .if1 .left)) (h .device) (h .attribute) (c .before .word-from .ensures) (c .byte-from3 .ensures .0) (c .before .before .if2 .left)
 
 pub phy-from-spec : {M : Type 1} → statement M
 phy-from-spec =
-    tie.close (tie.spec bits-at-requires add-bits-at bits-at-requires-2 cast-t11 returns add-bits-at-2 bits-at-requires-3 cast-device add-bits-at-3 bits-at-requires-4 cast-attribute returns-2 add-bits-at-4 bits-at-requires-5 add-bits-at-5 bits-at-requires-6 cast-far returns-3)
+    tie.close (tie.spec byte-from-requires add-byte-from byte-from-requires-2 cast-t11 returns cast-device cast-attribute returns-2 add-word-from word-from-requires add-byte-from-2 byte-from-requires-3 cast-far returns-3)
