@@ -11,8 +11,8 @@ use lib.Dec.{eqb, leb}
 use borrow.Author.Tests.{eq-eqb, ne-eqb, eqb-true, le-leb}
 use Rattle.frames.specs.Bits.{numberBits, field, bitsOf, bytesFor, packed}
 use Rattle.frames.proofs.PackedBits.{Bits, length-numberBits, length-packedIn}
-use Rattle.cards.proofs.NumberBits.{bits-numberBits, bits-append, field-back}
-use Rattle.cards.proofs.Packing.{unpacked, drop-past, field-zeros}
+use Rattle.frames.proofs.NumberBits.{bits-numberBits, bits-append, field-back}
+use Rattle.frames.proofs.Packing.{unpacked, drop-past, field-zeros}
 use Rattle.frames.specs.Refusals.{good}
 use Rattle.wiring.specs.declared.Setting.{Setting}
 use Rattle.wiring.specs.declared.Phy.{Phy}

@@ -12,8 +12,8 @@ use lib.Dec.{T, eqb, leb, leb→le}
 use borrow.Author.Tests.{eqb-true, eqb-false}
 use Rattle.frames.specs.Bits.{numberBits, field, bitsOf, bytesFor, packed}
 use Rattle.frames.proofs.PackedBits.{Bits, length-bitsOf, bits-drop}
-use Rattle.cards.proofs.NumberBits.{bits-back, field-lt}
-use Rattle.cards.proofs.Packing.{Bytes, bits-bitsOf, unpacked, bytes-packedIn, same-bits}
+use Rattle.frames.proofs.NumberBits.{bits-back, field-lt}
+use Rattle.frames.proofs.Packing.{Bytes, bits-bitsOf, unpacked, bytes-packedIn, same-bits}
 use Rattle.frames.specs.Refusals.{Result, good, unless, then, refusal}
 use Rattle.wiring.specs.declared.Setting.{Setting}
 use Rattle.wiring.specs.declared.ExpanderUnit.{ExpanderUnit}

@@ -7,7 +7,7 @@ use lib.Seq.{take-at}
 use lib.Dec.{leb}
 use Rattle.frames.specs.Bits.{bytesFor}
 use Rattle.frames.specs.Refusals.{Result, refused, good, unless, then, refusal}
-use Rattle.cards.proofs.Packing.{bytes-packedIn}
+use Rattle.frames.proofs.Packing.{bytes-packedIn}
 use Rattle.wiring.specs.declared.Setting.{Setting}
 use Rattle.wiring.specs.Domain.{Domain}
 use Rattle.wiring.specs.Read.{Bytes, Read, FitsDomain}

@@ -1,5 +1,4 @@
-pub mod NumberBits
-pub mod Packing
+pub mod BitSets
 pub mod BitPlaces
 pub mod ShortFrames
 pub mod Legal

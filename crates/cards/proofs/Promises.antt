@@ -12,7 +12,7 @@ use Rattle.frames.specs.Bits.{field, bitsOf, bytesFor}
 use Rattle.frames.specs.Refusals.{Result, refused, good, unless, then, refusal}
 use Rattle.frames.specs.declared.Refusal.{Refusal}
 use Rattle.frames.proofs.PackedBits.{length-packedIn}
-use Rattle.cards.proofs.Packing.{Bytes}
+use Rattle.frames.proofs.Packing.{Bytes}
 use Rattle.wiring.specs.declared.Setting.{Setting}
 use Rattle.wiring.specs.declared.Check.{Check}
 use Rattle.wiring.specs.declared.Check.the-variants.{Refused as NotPassed, Passed as AllPassed}

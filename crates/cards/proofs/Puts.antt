@@ -12,7 +12,7 @@ use lib.Dec.{eqb}
 use borrow.Author.Tests.{eq-eqb, ne-eqb}
 use Rattle.frames.specs.Bits.{numberBits, bitsOf, bytesFor, packed}
 use Rattle.frames.proofs.PackedBits.{length-numberBits, length-bitsOf, length-packedIn}
-use Rattle.cards.proofs.Packing.{Bytes, sets-append, unpacked, bitsOf-append, bitsOf-drop, same-bits, bytes-packedIn}
+use Rattle.frames.proofs.Packing.{Bytes, sets-append, unpacked, bitsOf-append, bitsOf-drop, same-bits, bytes-packedIn}
 use Rattle.wiring.specs.declared.Phy.{Phy}
 use Rattle.wiring.specs.declared.Phy.the-variants.{Vacant, Present}
 use Rattle.wiring.specs.declared.PhyFields.{PhyFields}

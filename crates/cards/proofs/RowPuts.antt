@@ -24,7 +24,7 @@ use Rattle.cards.specs.declared.CardWalk.{CardWalk}
 use Rattle.cards.specs.Card.{phySize, physSize, expandersSize, cardSize, phyOn, physOn, unitOn, expanderOn, expandersOn, domainOn}
 use Rattle.cards.specs.CardRead.{resultFine, resultsFine, allFine, phyRanged, unitsTested}
 use Rattle.cards.specs.Walks.{rangedCount, afterCheck, PhysStored, RowStored, CardStored}
-use Rattle.cards.proofs.NumberBits.{field-lt}
+use Rattle.frames.proofs.NumberBits.{field-lt}
 use Rattle.cards.proofs.CardIs.{count-phys, phys-in}
 use Rattle.cards.proofs.Puts.{puts}
 use Rattle.cards.proofs.Walks.{next-phys, no-phys, next-expanders, no-expanders, sizes-few}

@@ -17,8 +17,8 @@ use Rattle.wiring.specs.declared.Phy.the-variants.{Vacant, Present}
 use Rattle.wiring.specs.Domain.{Domain}
 use Rattle.cards.specs.Card.{phySize, physSize, cardSize, presentOn, phyOn, physOn, unitOn, expanderOn, expandersOn, domainOn}
 use Rattle.cards.specs.CardRead.{allFine, formed}
-use Rattle.cards.proofs.NumberBits.{field-lt, field-split}
-use Rattle.cards.proofs.Packing.{bits-bitsOf}
+use Rattle.frames.proofs.NumberBits.{field-lt, field-split}
+use Rattle.frames.proofs.Packing.{bits-bitsOf}
 use Rattle.cards.proofs.CardBack.{phy-by}
 use Rattle.cards.proofs.CardIs.{phys-in}
 use Rattle.cards.proofs.Puts.{phy-at-most}

@@ -5,7 +5,7 @@ use native.Mathlib.Omega.{arith}
 use borrow.Author.Needs.{needs}
 use lib.ListN.{set}
 use Rattle.frames.specs.Bits.{bitsOf}
-use Rattle.cards.proofs.Packing.{bits-set}
+use Rattle.cards.proofs.BitSets.{bits-set}
 use Rattle.cards.proofs.BitPlaces.{bit-past}
 use Rattle.cards.proofs.bits.set_bit.Statement.{statement}
 use Rattle.cards.proofs.bits.set_bit.Tie as tie

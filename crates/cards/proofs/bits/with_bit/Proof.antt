@@ -4,7 +4,7 @@ use mathlib.Core.Path.{sym, subst}
 use native.Mathlib.Omega.{arith}
 use borrow.Author.Needs.{needs}
 use Rattle.cards.proofs.BitPlaces.{mixed, mixed-is}
-use Rattle.cards.proofs.Packing.{withBit-lt}
+use Rattle.cards.proofs.BitSets.{withBit-lt}
 use Rattle.cards.proofs.bits.with_bit.Statement.{statement}
 use Rattle.cards.proofs.bits.with_bit.Tie as tie
 

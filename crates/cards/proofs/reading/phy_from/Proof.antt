@@ -3,7 +3,7 @@ use mathlib.Core.Path.{_≡_, sym, _∙_}
 use native.Mathlib.Omega.{arith}
 use borrow.Author.Needs.{needs}
 use Rattle.frames.specs.Bits.{bitsOf}
-use Rattle.cards.proofs.Packing.{bits-bitsOf}
+use Rattle.frames.proofs.Packing.{bits-bitsOf}
 use Rattle.cards.proofs.Walks.{head-bits, vacant-from, idle-from, bound-from}
 use Rattle.cards.proofs.reading.phy_from.Statement.{statement}
 use Rattle.cards.proofs.reading.phy_from.Tie as tie
