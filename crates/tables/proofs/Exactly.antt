@@ -49,15 +49,19 @@ linked-numbered P a b c chain d =
     (λ _. numbered-then P (joinedIn (upTo (length d)) d) _ (joined-numbered P (upTo (length d)) d b)
     (λ _. numbered-unless P (chainsWithin chain d) (refusal 23 0 0) (good d) c tt))
 
-pub judged-numbered : (P : ℕ → Type 0) → ((n : ℕ) → judgingNumber n → P n) → (setting : Setting) (file : List ℕ) → Numbered P (judged setting file)
+-- so judging refuses a domain with a number from 7 to 12, 14 or 23
+pub domain-numbered : (P : ℕ → Type 0) → ((n : ℕ) → 7 ≤ n → n ≤ 12 → P n) → P 14 → P 23 → (chain : ℕ) (d : Domain) → Numbered P (judgedDomain chain d)
 unfolding judgedDomain
+domain-numbered P h a b chain d =
+    numbered-then P (wiredDomain d) _ (wired-numbered P (λ n k l. h n k (omega arith)) d)
+    (λ _. numbered-then P (linkedDomain chain d) _ (linked-numbered P (h 11 (omega arith) (omega arith)) (h 12 (omega arith) (omega arith)) b chain d)
+    (λ _. first-numbered P 14 (overlong d) _ d a))
+
+pub judged-numbered : (P : ℕ → Type 0) → ((n : ℕ) → judgingNumber n → P n) → (setting : Setting) (file : List ℕ) → Numbered P (judged setting file)
 judged-numbered P h setting file =
     numbered-then P (domainRead setting file) (judgedDomain (setting .chain))
     (read-numbered setting file P (λ n. ⊎-elim (λ k. h n (inl (k .0, omega arith))) (λ k. h n (inr (inr (inl k))))))
-    (λ d. numbered-then P (wiredDomain d) _ (wired-numbered P (λ n a b. h n (inl (omega arith, omega arith))) d)
-    (λ _. numbered-then P (linkedDomain (setting .chain) d) _
-    (linked-numbered P (h 11 (inl (omega arith, omega arith))) (h 12 (inl (omega arith, omega arith))) (h 23 (inr (inr (inr refl)))) (setting .chain) d)
-    (λ _. first-numbered P 14 (overlong d) _ d (h 14 (inr (inl refl))))))
+    (λ d. domain-numbered P (λ n a b. h n (inl (omega arith, omega arith))) (h 14 (inr (inl refl))) (h 23 (inr (inr (inr refl)))) (setting .chain) d)
 
 -- a file is accepted exactly when none of its causes holds
 pub judged-causes : (setting : Setting) (file : List ℕ) (d : Domain) → judged setting file ≡ good d → (c : NoJudgingCause setting file) × (c .domain ≡ d)

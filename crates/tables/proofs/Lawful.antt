@@ -23,10 +23,10 @@ use Rattle.wiring.proofs.Calls.{checked-room}
 use Rattle.tables.specs.declared.TablesGiven.{TablesGiven}
 use Rattle.tables.specs.Tables.{levelList, table, tablePlaces, tables}
 use Rattle.tables.specs.Entries.{Entries, roomOf, putBefore}
-use Rattle.tables.specs.Judge.{overlong, judgedDomain, judged, tablesFor, tableCall, tablesAfter, TablesDone}
+use Rattle.tables.specs.Judge.{overlong, judgedDomain, tablesFor, judgedTables, tableCall, tablesAfter, TablesDone}
 use Rattle.tables.specs.Own.{own, ownList}
 use Rattle.tables.specs.Prepared.{orderList, overOwn, filledTo, ownTablesOf, ownTables, judgedIn, ownAfter, OwnDone}
-use Rattle.tables.proofs.Given.{judged-wires, tableCall-iff}
+use Rattle.tables.proofs.Given.{judged-routable, accepted-iff, tables-iff, table-call}
 use Rattle.tables.proofs.Law.{law}
 use Rattle.tables.proofs.Orders.{order-levels}
 use Rattle.tables.proofs.Judging.{judge-checked, own-checked}
@@ -48,15 +48,13 @@ law-order : (d : Domain) → Wired d → Linked d → Same d
 unfolding ownList orderList
 law-order d w r x p = law d w r x p ∙ ap (flatMap (own d)) (sym (order-levels d w r x p))
 
--- it holds of a domain that is read and passes causes 7 to 12 and 23, and so of one that was read from a file
+-- it holds of a domain that is read and passes causes 7 to 12 and 23
 pub read-lawful : (most : Setting) (d : Domain) → Read most d → (chain : ℕ) → checkedDomain chain d ≡ good d → Same d
 read-lawful most d g chain f = let p = checked-passes chain d d f in law-order d (wired-iff most d g .0 (p .1)) (linked-iff chain d .0 (p .2) .0)
 
-lawful : (setting : Setting) (file : List ℕ) (d : Domain) → domainRead setting file ≡ good d → checkedDomain (setting .chain) d ≡ good d → Same d
-lawful setting file d e = read-lawful setting d (read-good setting file d e) (setting .chain)
-
-judged-same : (setting : Setting) (file : List ℕ) (d : Domain) → judged setting file ≡ good d → Same d
-judged-same setting file d j = let w = judged-wires setting file d j in law-order d (w .0) (w .1 .linked)
+-- and so of one that is accepted
+judged-same : (most : Setting) (d : Domain) → Read most d → (chain : ℕ) → judgedDomain chain d ≡ good d → Same d
+judged-same most d g chain j = let w = accepted-iff most d g chain .0 j in law-order d (w .0) (w .1 .linked)
 
 -- two tests that agree have the same lowest place
 first-same : (k : ℕ) (f g : ℕ → ℕ → Bool) (qs : List Place) (d : Domain) → ((i p : ℕ) → f i p ≡ g i p) → firstIn k f qs d ≡ firstIn k g qs d
@@ -70,19 +68,24 @@ over-same : (d : Domain) → Same d → (i p : ℕ) → overOwn d i p ≡ overlo
 unfolding overOwn overlong
 over-same d s i p = ap (λ (l : List ℕ). routes 2 (phyAt d i p) && ltb (expanderAt d i .indexes) (length l)) (sym (s i p))
 
--- causes 7 to 12, 23 and 14 by own lists are those causes, with room for the entries
+-- causes 7 to 12, 23 and 14 by own lists are those causes, on a domain that is read, with room for the entries
+pub judged-read : (most : Setting) (d : Domain) → Read most d → (chain : ℕ) (first low : List ℕ) → IndexRoom d first low
+    → judgedIn chain (length first) (length low) d ≡ judgedDomain chain d
+judged-read most d g chain first low r = go (checkedDomain chain d) refl
+  where
+    own : (x : Result Domain) → checkedDomain chain d ≡ x → judgedIn chain (length first) (length low) d ≡ then x (λ _. firstOf 14 (overOwn d) d)
+    own x q = own-checked chain (length first) (length low) d x (checked-room chain d (length first) (length low) (r .slots) (r .phys) ∙ q)
+
+    go : (x : Result Domain) → checkedDomain chain d ≡ x → judgedIn chain (length first) (length low) d ≡ judgedDomain chain d
+    go (refused s) q = own (refused s) q ∙ sym (judge-checked chain d (refused s) q)
+    go (good a) q =
+        let same = read-lawful most d g chain (q ∙ ap good (sym (checked-passes chain d a q .0))) in
+        own (good a) q ∙ first-same 14 (overOwn d) (overlong d) (places d) d (over-same d same) ∙ sym (judge-checked chain d (good a) q)
+
+-- and so on the domain of a file
 pub judged-own : (setting : Setting) (file first low : List ℕ) (d : Domain) → domainRead setting file ≡ good d → IndexRoom d first low
     → judgedIn (setting .chain) (length first) (length low) d ≡ judgedDomain (setting .chain) d
-judged-own setting file first low d e r = go (checkedDomain (setting .chain) d) refl
-  where
-    own : (x : Result Domain) → checkedDomain (setting .chain) d ≡ x → judgedIn (setting .chain) (length first) (length low) d ≡ then x (λ _. firstOf 14 (overOwn d) d)
-    own x q = own-checked (setting .chain) (length first) (length low) d x (checked-room (setting .chain) d (length first) (length low) (r .slots) (r .phys) ∙ q)
-
-    go : (x : Result Domain) → checkedDomain (setting .chain) d ≡ x → judgedIn (setting .chain) (length first) (length low) d ≡ judgedDomain (setting .chain) d
-    go (refused s) q = own (refused s) q ∙ sym (judge-checked (setting .chain) d (refused s) q)
-    go (good a) q =
-        let same = lawful setting file d e (q ∙ ap good (sym (checked-passes (setting .chain) d a q .0))) in
-        own (good a) q ∙ first-same 14 (overOwn d) (overlong d) (places d) d (over-same d same) ∙ sym (judge-checked (setting .chain) d (good a) q)
+judged-own setting file first low d e = judged-read setting d (read-good setting file d e) (setting .chain) first low
 
 -- tables by own lists are the tables
 tables-same : (d : Domain) → Same d → ownTables d ≡ tables d
@@ -94,15 +97,23 @@ tables-same d s = go (tablePlaces d)
     go [] = refl
     go (q ∷ qs) = rw (s (q .expander) (q .phy), go qs)
 
--- the table call on a file, by own lists
+-- the table call on a domain that is read, by own lists
+pub read-done : (most : Setting) (d : Domain) → Read most d → (chain : ℕ) (before after : Entries) (x : Result Domain) (answer : TablesGiven) → x ≡ judgedDomain chain d
+    → OwnDone (then x (tablesFor (roomOf before))) answer before after → TablesDone (judgedTables chain d (roomOf before)) answer before after
+read-done most d g chain before after x answer q o =
+    let w = subst (λ y. OwnDone (then y (tablesFor (roomOf before))) answer before after) q o in
+    record { answers = w .answers; left = w .left ∙ go (judgedTables chain d (roomOf before)) refl }
+  where
+    go : (y : Result Domain) → judgedTables chain d (roomOf before) ≡ y → ownAfter y before ≡ tablesAfter y before
+    go (refused r) h = refl
+    go (good a) h =
+        let j = tables-iff (judgedDomain chain d) (roomOf before) a .0 h .0 in
+        let e = judged-routable chain d a j .0 in
+        ap (λ (l : List ℕ). putBefore l before) (subst (λ b. ownTables b ≡ tables b) e (tables-same d (judged-same most d g chain (j ∙ ap good (sym e)))))
+
+-- and on a file
 pub call-done : (setting : Setting) (file : List ℕ) (before after : Entries) (d : Domain) (x : Result Domain) (answer : TablesGiven) → domainRead setting file ≡ good d → x ≡ judgedDomain (setting .chain) d
     → OwnDone (then x (tablesFor (roomOf before))) answer before after → TablesDone (tableCall setting file (roomOf before)) answer before after
-unfolding tableCall
 call-done setting file before after d x answer e q o =
-    let c : then x (tablesFor (roomOf before)) ≡ tableCall setting file (roomOf before) = rw (e, q) in
-    let w = subst (λ y. OwnDone y answer before after) c o in
-    record { answers = w .answers; left = w .left ∙ go (tableCall setting file (roomOf before)) refl }
-  where
-    go : (y : Result Domain) → tableCall setting file (roomOf before) ≡ y → ownAfter y before ≡ tablesAfter y before
-    go (refused r) h = refl
-    go (good a) h = ap (λ (l : List ℕ). putBefore l before) (tables-same a (judged-same setting file a (tableCall-iff setting file a (roomOf before) .0 h .0)))
+    subst (λ y. TablesDone y answer before after) (sym (table-call setting file d e (roomOf before)))
+    (read-done setting d (read-good setting file d e) (setting .chain) before after x answer q o)
