@@ -3,6 +3,7 @@ pub mod Picks
 pub mod WhichRule
 pub mod Turns
 pub mod Asked
+pub mod TracedList
 pub mod Stepping
 pub mod TableToTable
 pub mod Passing

@@ -6,3 +6,5 @@ pub mod Reasons
 pub mod Tested
 pub mod Demand
 pub mod Courses
+pub mod Packing
+pub mod Many

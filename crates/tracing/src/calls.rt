@@ -15,7 +15,7 @@ ghost use Rattle.tables.specs.Entries.{entries};
 
 // Causes 7 to 12, 23, 14 and 15 to 18 of a request over rows, then the walk. A chain may have `chain` expanders. `first` and `low` have room for who has which
 // address; 16 where there is too little.
-fn request_rows(
+pub fn request_rows(
     rows: &[u64],
     first: &mut [u16],
     low: &mut [u8],

@@ -1,5 +1,7 @@
 // Connection requests, traced over lent table words.
 mod calls;
+mod many;
+mod packing;
 mod reasons;
 mod requests;
 mod step_call;
@@ -7,7 +9,11 @@ mod steps;
 mod stretches;
 mod walks;
 
+pub use calls::request_rows;
 pub use calls::trace;
+pub use many::trace_list;
+pub use packing::pack_end;
+pub use packing::pack_refusal;
 pub use step_call::explain_step;
 
 // What the layer above uses of the layers below.
@@ -85,4 +91,10 @@ pub struct End {
 pub enum TraceAnswer {
     Refused(Refusal),
     Ended(End),
+}
+
+// What tracing a list of requests answers: how many requests there are.
+pub enum ListAnswer {
+    Refused(Refusal),
+    Requests(usize),
 }

@@ -1,0 +1,53 @@
+-- answer_one meets its contract: 15 above 65535, and else the request by itself with 64 bytes.
+use Prim.Native.Nat.{ℕ}
+use mathlib.Core.Path.{_∙_, ap}
+use native.Mathlib.Omega.{arith}
+use lib.ListN.{length-replicate}
+use Rattle.tables.specs.Wiring.{domainIn}
+use Rattle.tables.specs.Entries.{entries}
+use Rattle.tracing.specs.Packing.{packRefusal}
+use Rattle.tracing.proofs.TracedList.{one-high, one-low}
+use borrow.Author.Needs.{needs}
+use Rattle.tracing.proofs.many.answer_one.Statement.{statement}
+use Rattle.tracing.proofs.many.answer_one.Tie as tie
+
+refused-requires : tie.Need-refused-requires
+refused-requires c κs = search needs
+
+pack-refusal-requires : tie.Need-pack-refusal-requires
+pack-refusal-requires c κs = search needs
+
+returns : tie.Need-returns
+returns c = one-high (domainIn (((c .before .before .before .before .before .before .before .args)) .rows .now)) (entries (((c .before .before .before .before .before .before .before .args)) .words .now) (((c .before .before .before .before .before .before .before .args)) .bits .now)) (((c .before .before .before .before .before .before .before .args)) .w) (((c .before .before .before .before .before .before .before .args)) .s) _ (omega arith) (((c .pack-refusal)) .ensures ∙ ap packRefusal (((c .before .refused)) .ensures))
+
+cast-t14 : tie.Need-cast-t14
+cast-t14 c = search needs
+
+cast-t14-2 : tie.Need-cast-t14-2
+cast-t14-2 c = search needs
+
+slice-aggregate-trace-rows : tie.Need-slice-aggregate-trace-rows
+slice-aggregate-trace-rows c = search needs
+
+trace-rows-requires : tie.Need-trace-rows-requires
+trace-rows-requires c κs = search needs
+
+pack-trace-requires : tie.Need-pack-trace-requires
+pack-trace-requires c κs = search needs
+
+returns-2 : tie.Need-returns-2
+returns-2 c = one-low (domainIn (((c .before .before .before .before .before .before .before .before .before .args)) .rows .now)) (entries (((c .before .before .before .before .before .before .before .before .before .args)) .words .now) (((c .before .before .before .before .before .before .before .before .before .args)) .bits .now)) (((c .before .before .before .before .before .before .before .before .before .args)) .w) (((c .before .before .before .before .before .before .before .before .before .args)) .s) _ _ _ _ _ (omega arith) (length-replicate {A = ℕ} 64 0) (((c .pack-trace)) .ensures) (((c .before .before .trace-rows)) .ensures)
+
+pub answer-one-spec : {M : Type 1} → statement M
+answer-one-spec =
+    tie.close
+    (tie.spec
+    refused-requires
+    pack-refusal-requires
+    returns
+    cast-t14
+    cast-t14-2
+    slice-aggregate-trace-rows
+    trace-rows-requires
+    pack-trace-requires
+    returns-2)
