@@ -1,0 +1,11 @@
+pub mod Held
+pub mod Tested
+pub mod Compared
+pub mod Written
+pub mod Legal
+pub mod Matched
+pub mod Promised
+pub mod Normals
+pub mod Traces
+pub mod Backs
+pub mod Exact

@@ -1,0 +1,53 @@
+-- make_few meets its contract: the second byte states how many expanders there are, so the room is enough.
+use Prim.Native.Nat.{ℕ, _+_, _-_, _*_, _/_, _%_, _≤_, _<_}
+use mathlib.Core.Path.{_≡_, refl, sym, _∙_, ap, subst}
+use lib.ListN.{length-replicate}
+use Rattle.wiring.specs.Read.{Read}
+use Rattle.wiring.proofs.Read.{read-good, stated-expanders}
+use Rattle.wiring.proofs.Opening.{file-room}
+use borrow.Author.Needs.{needs}
+use native.Mathlib.Omega.{arith}
+use Rattle.forms.proofs.making.make_few.Statement.{statement}
+use Rattle.forms.proofs.making.make_few.Tie as tie
+
+stated-count-requires : tie.Need-stated-count-requires
+stated-count-requires c κs = search needs
+
+slice-aggregate-make-in : tie.Need-slice-aggregate-make-in
+slice-aggregate-make-in c = search needs
+
+slice-aggregate-make-in-2 : tie.Need-slice-aggregate-make-in-2
+slice-aggregate-make-in-2 c = search needs
+
+slice-aggregate-make-in-3 : tie.Need-slice-aggregate-make-in-3
+slice-aggregate-make-in-3 c = search needs
+
+make-in-requires : tie.Need-make-in-requires
+make-in-requires c κs = file-room ((c .before .before .before .before .before .before .before .before .args) .setting) 2 ((c .before .before .before .before .before .before .before .before .args) .file .now) _ _ _ (λ d e. omega (arith, stated-expanders ((c .before .before .before .before .before .before .before .before .args) .setting) ((c .before .before .before .before .before .before .before .before .args) .file .now) d e, (c .before .before .before .before .before .stated-count) .ensures)) (omega (arith, length-replicate {A = ℕ} 516 0)) (omega (arith, length-replicate {A = ℕ} 320 0)) (omega (arith, length-replicate {A = ℕ} 256 0))
+
+same-length : tie.Need-same-length
+same-length c = search needs
+
+returns : tie.Need-returns
+returns c = search needs
+
+slice-aggregate-make-in-4 : tie.Need-slice-aggregate-make-in-4
+slice-aggregate-make-in-4 c = search needs
+
+slice-aggregate-make-in-5 : tie.Need-slice-aggregate-make-in-5
+slice-aggregate-make-in-5 c = search needs
+
+slice-aggregate-make-in-6 : tie.Need-slice-aggregate-make-in-6
+slice-aggregate-make-in-6 c = search needs
+
+make-in-requires-2 : tie.Need-make-in-requires-2
+make-in-requires-2 c κs = file-room ((c .before .before .before .before .before .before .before .before .args) .setting) 8 ((c .before .before .before .before .before .before .before .before .args) .file .now) _ _ _ (λ d e. omega (arith, stated-expanders ((c .before .before .before .before .before .before .before .before .args) .setting) ((c .before .before .before .before .before .before .before .before .args) .file .now) d e, (c .before .before .before .before .before .before .before .before .pre))) (omega (arith, length-replicate {A = ℕ} 2064 0)) (omega (arith, length-replicate {A = ℕ} 1088 0)) (omega (arith, length-replicate {A = ℕ} 1024 0))
+
+same-length-2 : tie.Need-same-length-2
+same-length-2 c = search needs
+
+returns-2 : tie.Need-returns-2
+returns-2 c = search needs
+
+pub make-few-spec : {M : Type 1} → statement M
+make-few-spec = tie.close (tie.spec stated-count-requires slice-aggregate-make-in slice-aggregate-make-in-2 slice-aggregate-make-in-3 make-in-requires same-length returns slice-aggregate-make-in-4 slice-aggregate-make-in-5 slice-aggregate-make-in-6 make-in-requires-2 same-length-2 returns-2)

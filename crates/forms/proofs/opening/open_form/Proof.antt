@@ -1,0 +1,49 @@
+-- open_form meets its contract: the rows hold what the words read as, and so the tests say what they say of it.
+use Prim.Native.Nat.{ℕ, _+_, _-_, _*_, _/_, _%_, _≤_, _<_}
+use mathlib.Core.Path.{_≡_, refl, sym, _∙_, ap, subst}
+use lib.ListN.{length}
+use lib.Seq.{length-take-le}
+use Rattle.forms.proofs.Compared.{opens-no, opens-by}
+use borrow.Author.Needs.{needs}
+use native.Mathlib.Omega.{arith}
+use Rattle.forms.proofs.opening.open_form.Statement.{statement}
+use Rattle.forms.proofs.opening.open_form.Tie as tie
+
+read-rows-requires : tie.Need-read-rows-requires
+read-rows-requires c κs = ((c .before .before .before .pre) .0 .0, (c .before .before .before .pre) .1)
+
+mul-e : tie.Need-mul-e
+mul-e c = omega arith
+
+slice-reshare-prefix-is-unread : tie.Need-slice-reshare-prefix-is-unread
+slice-reshare-prefix-is-unread c = omega (arith, (c .before .before .read-rows) .kept .1 .0, (c .before .before .before .before .before .before .pre) .1)
+
+slice-aggregate-is-unread : tie.Need-slice-aggregate-is-unread
+slice-aggregate-is-unread c = sym (length-take-le _ ((c .before .before .before .read-rows) .last .1 .0) (omega (arith, (c .before .before .before .read-rows) .kept .1 .0, (c .before .before .before .before .before .before .before .pre) .1)))
+
+is-unread-requires : tie.Need-is-unread-requires
+is-unread-requires c κs = search needs
+
+same-length : tie.Need-same-length
+same-length c = search needs
+
+returns : tie.Need-returns
+returns c = record { answers = opens-no ((c .before .before .before .before .before .before .before .before .before .args) .most) ((c .before .before .before .before .before .before .before .before .before .args) .ws .now) _ ((c .before .before .before .before .before .read-rows) .ensures) ((c .before .is-unread) .ensures) ((c .if1) .taken); holds = (c .before .before .before .before .before .read-rows) .ensures }
+
+slice-reshare-prefix-are-right : tie.Need-slice-reshare-prefix-are-right
+slice-reshare-prefix-are-right c = omega (arith, (c .before .before .before .before .before .read-rows) .kept .1 .0, (c .before .before .before .before .before .before .before .before .before .pre) .1)
+
+slice-aggregate-are-right : tie.Need-slice-aggregate-are-right
+slice-aggregate-are-right c = sym (length-take-le _ ((c .before .before .before .before .before .before .read-rows) .last .1 .0) (omega (arith, (c .before .before .before .before .before .before .read-rows) .kept .1 .0, (c .before .before .before .before .before .before .before .before .before .before .pre) .1)))
+
+are-right-requires : tie.Need-are-right-requires
+are-right-requires c κs = search needs
+
+same-length-2 : tie.Need-same-length-2
+same-length-2 c = search needs
+
+returns-2 : tie.Need-returns-2
+returns-2 c = record { answers = opens-by ((c .before .before .before .before .before .before .before .before .before .before .before .args) .most) ((c .before .before .before .before .before .before .before .before .before .before .before .args) .ws .now) _ ((c .before .before .before .before .before .before .before .read-rows) .ensures) ((c .before .before .before .is-unread) .ensures) ((c .before .before .if1) .left) ((c .are-right) .ensures); holds = (c .before .before .before .before .before .before .before .read-rows) .ensures }
+
+pub open-form-spec : {M : Type 1} → statement M
+open-form-spec = tie.close (tie.spec read-rows-requires mul-e slice-reshare-prefix-is-unread slice-aggregate-is-unread is-unread-requires same-length returns slice-reshare-prefix-are-right slice-aggregate-are-right are-right-requires same-length-2 returns-2)

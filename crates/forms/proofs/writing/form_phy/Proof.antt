@@ -1,0 +1,42 @@
+-- form_phy writes each case of a phy; who is attached, the entries tell.
+use Prim.Native.Nat.{ℕ, _+_, _-_, _*_, _/_, _%_, _≤_, _<_}
+use mathlib.Core.Path.{_≡_, refl, sym, _∙_, ap, subst}
+use Rattle.wiring.specs.Domain.{phyAt}
+use Rattle.wiring.specs.Rows.{domainIn}
+use Rattle.forms.specs.Opened.{SmallPhy}
+use Rattle.forms.proofs.Compared.{rows-small}
+use Rattle.forms.proofs.Written.{field-vacant, field-low, field-far, far-number}
+use borrow.Author.Needs.{needs}
+use native.Mathlib.Omega.{arith}
+use Rattle.forms.proofs.writing.form_phy.Statement.{statement}
+use Rattle.forms.proofs.writing.form_phy.Tie as tie
+
+phy-at-requires : tie.Need-phy-at-requires
+phy-at-requires c κs = search needs
+
+enum-told : tie.Need-enum-told
+enum-told c = search needs
+
+enum-known-x : tie.Need-enum-known-x
+enum-known-x c = search needs
+
+pack-requires : tie.Need-pack-requires
+pack-requires c κs = let h = subst SmallPhy (sym ((c .before .before .before .before .before .phy-at) .ensures) ∙ (c .before .before .before .x) .given .1) (rows-small ((c .before .before .before .before .before .before .before .before .args) .rows .now) ((c .before .before .before .before .before .before .before .before .args) .i .0) ((c .before .before .before .before .before .before .before .before .args) .p .0)) in (h .0, (h .1 .0, omega arith))
+
+returns : tie.Need-returns
+returns c = field-low (domainIn ((c .before .before .before .before .before .before .before .before .before .args) .rows .now)) (phyAt (domainIn ((c .before .before .before .before .before .before .before .before .before .args) .rows .now)) ((c .before .before .before .before .before .before .before .before .before .args) .i .0) ((c .before .before .before .before .before .before .before .before .before .args) .p .0)) _ (sym ((c .before .before .before .before .before .before .phy-at) .ensures) ∙ (c .before .before .before .before .x) .given .1) _ (omega arith) ((c .pack) .ensures)
+
+far-number-requires : tie.Need-far-number-requires
+far-number-requires c κs = search needs
+
+pack-requires-2 : tie.Need-pack-requires-2
+pack-requires-2 c κs = let h = subst SmallPhy (sym ((c .before .before .before .before .before .before .phy-at) .ensures) ∙ (c .before .before .before .before .x) .given .1) (rows-small ((c .before .before .before .before .before .before .before .before .before .args) .rows .now) ((c .before .before .before .before .before .before .before .before .before .args) .i .0) ((c .before .before .before .before .before .before .before .before .before .args) .p .0)) in (h .0, (h .1 .0, far-number ((c .before .before .before .before .before .before .before .before .before .args) .rows .now) ((c .before .before .before .before .before .before .before .before .before .args) .first .now) ((c .before .before .before .before .before .before .before .before .before .args) .i .0) ((c .before .before .before .before .before .before .before .before .before .args) .p .0) _ _ ((c .before .before .before .before .before .before .before .before .before .pre)) (sym ((c .before .before .before .before .before .before .phy-at) .ensures) ∙ (c .before .before .before .before .x) .given .1) (omega arith) ((c .far-number) .ensures) .1))
+
+returns-2 : tie.Need-returns-2
+returns-2 c = field-vacant (domainIn ((c .before .before .before .before .before .args) .rows .now)) (phyAt (domainIn ((c .before .before .before .before .before .args) .rows .now)) ((c .before .before .before .before .before .args) .i .0) ((c .before .before .before .before .before .args) .p .0)) _ (sym ((c .before .before .phy-at) .ensures) ∙ (c .enum-told) .given .1)
+
+returns-3 : tie.Need-returns-3
+returns-3 c = field-far (domainIn ((c .before .before .before .before .before .before .before .before .before .before .args) .rows .now)) (phyAt (domainIn ((c .before .before .before .before .before .before .before .before .before .before .args) .rows .now)) ((c .before .before .before .before .before .before .before .before .before .before .args) .i .0) ((c .before .before .before .before .before .before .before .before .before .before .args) .p .0)) _ (sym ((c .before .before .before .before .before .before .before .phy-at) .ensures) ∙ (c .before .before .before .before .before .x) .given .1) _ _ (omega arith) (far-number ((c .before .before .before .before .before .before .before .before .before .before .args) .rows .now) ((c .before .before .before .before .before .before .before .before .before .before .args) .first .now) ((c .before .before .before .before .before .before .before .before .before .before .args) .i .0) ((c .before .before .before .before .before .before .before .before .before .before .args) .p .0) _ _ ((c .before .before .before .before .before .before .before .before .before .before .pre)) (sym ((c .before .before .before .before .before .before .before .phy-at) .ensures) ∙ (c .before .before .before .before .before .x) .given .1) (omega arith) ((c .before .far-number) .ensures) .0) ((c .pack2) .ensures)
+
+pub form-phy-spec : {M : Type 1} → statement M
+form-phy-spec = tie.close (tie.spec phy-at-requires enum-told enum-known-x pack-requires returns far-number-requires pack-requires-2 returns-2 returns-3)

@@ -1,0 +1,127 @@
+// Tables over a form.
+use crate::opening;
+use crate::reading;
+use tables::TablesGiven;
+use wiring::Setting;
+ghost use Prim.Native.Nat.{_≤_};
+ghost use mathlib.Core.Path.{_≡_};
+ghost use lib.ListN.{length};
+ghost use Rattle.tables.specs.Entries.{entries, roomOf};
+ghost use Rattle.tables.specs.Judge.{TablesDone};
+ghost use Rattle.forms.specs.Form.{formIn};
+ghost use Rattle.forms.specs.Formed.{formTables};
+ghost use Rattle.forms.specs.Opened.{FormRoom};
+
+// The tables of a form, with room for the rows of its n expanders and for who has which address.
+fn tables_in(
+    setting: Setting,
+    form: &[u64],
+    n: u8,
+    rows: &mut [u64],
+    first: &mut [u16],
+    low: &mut [u8],
+    words: &mut [u64],
+    bits: &mut [u8],
+) -> TablesGiven
+    requires { ⌜ FormRoom (now form) n (now rows) (now first) (now low) ⌝ }
+    ensures { λ r. ⌜ TablesDone (formTables setting (now (form .entry)) (roomOf (entries (now (words .entry)) (now (bits .entry)))))
+        r (entries (now (words .entry)) (now (bits .entry))) (entries (now (words .exit)) (now (bits .exit))) ⌝ }
+{
+    if !wiring::is_in_range(setting) {
+        return TablesGiven::Refused(opening::refused(22));
+    }
+    if !opening::open_form(setting, form, rows, n) {
+        return TablesGiven::Refused(opening::refused(1));
+    }
+    let e = 258 * (n as usize);
+    let chain = setting.chain;
+    let answer = tables::give_rows(&rows[..e], first, low, words, bits, chain);
+    opening::as_tables(answer)
+}
+
+// The tables of a form of few expanders: at most 2, or at most 8.
+fn tables_few(
+    setting: Setting,
+    form: &[u64],
+    n: u8,
+    words: &mut [u64],
+    bits: &mut [u8],
+) -> TablesGiven
+    requires { ⌜ (n ≡ length (formIn (now form))) × (n ≤ 8) ⌝ }
+    ensures { λ r. ⌜ TablesDone (formTables setting (now (form .entry)) (roomOf (entries (now (words .entry)) (now (bits .entry)))))
+        r (entries (now (words .entry)) (now (bits .entry))) (entries (now (words .exit)) (now (bits .exit))) ⌝ }
+{
+    if n <= 2 {
+        let mut rows = [0u64; 516];
+        let mut first = [0u16; 320];
+        let mut low = [0u8; 256];
+        return tables_in(
+            setting,
+            form,
+            n,
+            &mut rows[..],
+            &mut first[..],
+            &mut low[..],
+            words,
+            bits,
+        );
+    }
+    let mut rows = [0u64; 2064];
+    let mut first = [0u16; 1088];
+    let mut low = [0u8; 1024];
+    tables_in(
+        setting,
+        form,
+        n,
+        &mut rows[..],
+        &mut first[..],
+        &mut low[..],
+        words,
+        bits,
+    )
+}
+
+// The tables of a form, with room for the most expanders.
+fn tables_many(
+    setting: Setting,
+    form: &[u64],
+    n: u8,
+    words: &mut [u64],
+    bits: &mut [u8],
+) -> TablesGiven
+    requires { ⌜ (n ≡ length (formIn (now form))) × (n ≤ 64) ⌝ }
+    ensures { λ r. ⌜ TablesDone (formTables setting (now (form .entry)) (roomOf (entries (now (words .entry)) (now (bits .entry)))))
+        r (entries (now (words .entry)) (now (bits .entry))) (entries (now (words .exit)) (now (bits .exit))) ⌝ }
+{
+    let mut rows = [0u64; 16512];
+    let mut first = [0u16; 8256];
+    let mut low = [0u8; 8192];
+    tables_in(
+        setting,
+        form,
+        n,
+        &mut rows[..],
+        &mut first[..],
+        &mut low[..],
+        words,
+        bits,
+    )
+}
+
+// The tables of a form: 22, 1 where the words are the form of no accepted domain, then 16 and 18. It leaves and answers what the table call
+// does on a file with this form.
+pub fn form_tables(
+    setting: Setting,
+    form: &[u64],
+    words: &mut [u64],
+    bits: &mut [u8],
+) -> TablesGiven
+    ensures { λ r. ⌜ TablesDone (formTables setting (now (form .entry)) (roomOf (entries (now (words .entry)) (now (bits .entry)))))
+        r (entries (now (words .entry)) (now (bits .entry))) (entries (now (words .exit)) (now (bits .exit))) ⌝ }
+{
+    let n = reading::count_expanders(form);
+    if n <= 8 {
+        return tables_few(setting, form, n, words, bits);
+    }
+    tables_many(setting, form, n, words, bits)
+}

@@ -1,0 +1,172 @@
+// Traces over a form.
+use crate::opening;
+use crate::reading;
+use tracing::TraceAnswer;
+use wiring::ExpanderNumber;
+use wiring::PhyId;
+use wiring::Setting;
+ghost use Prim.Native.Nat.{_≤_};
+ghost use mathlib.Core.Path.{_≡_};
+ghost use lib.ListN.{length};
+ghost use Rattle.tables.specs.Entries.{entries};
+ghost use Rattle.tracing.specs.Trace.{request, TraceDone};
+ghost use Rattle.forms.specs.Form.{formIn};
+ghost use Rattle.forms.specs.Formed.{formTrace};
+ghost use Rattle.forms.specs.Opened.{FormRoom};
+
+// A trace over a form, with room for the rows of its n expanders and for who has which address.
+fn trace_in(
+    setting: Setting,
+    form: &[u64],
+    n: u8,
+    rows: &mut [u64],
+    first: &mut [u16],
+    low: &mut [u8],
+    words: &[u64],
+    bits: &[u8],
+    start: ExpanderNumber,
+    arrival: PhyId,
+    s: u64,
+    passed: &mut [u8],
+) -> TraceAnswer
+    requires { ⌜ FormRoom (now form) n (now rows) (now first) (now low) ⌝ }
+    ensures { λ r. ⌜ TraceDone
+        (formTrace setting (now (form .entry)) (entries (now (words .entry)) (now (bits .entry))) (length (now (passed .entry))) (request (start .0) (arrival .0) s))
+        r (now (passed .entry)) (now (passed .exit)) ⌝ }
+{
+    if !wiring::is_in_range(setting) {
+        return TraceAnswer::Refused(opening::refused(22));
+    }
+    if !opening::open_form(setting, form, rows, n) {
+        return TraceAnswer::Refused(opening::refused(1));
+    }
+    let e = 258 * (n as usize);
+    let chain = setting.chain;
+    let answer = tracing::request_rows(
+        &rows[..e],
+        first,
+        low,
+        words,
+        bits,
+        start,
+        arrival,
+        s,
+        passed,
+        chain,
+    );
+    opening::as_trace(answer)
+}
+
+// A trace over a form of few expanders: at most 2, or at most 8.
+fn trace_few(
+    setting: Setting,
+    form: &[u64],
+    n: u8,
+    words: &[u64],
+    bits: &[u8],
+    start: ExpanderNumber,
+    arrival: PhyId,
+    s: u64,
+    passed: &mut [u8],
+) -> TraceAnswer
+    requires { ⌜ (n ≡ length (formIn (now form))) × (n ≤ 8) ⌝ }
+    ensures { λ r. ⌜ TraceDone
+        (formTrace setting (now (form .entry)) (entries (now (words .entry)) (now (bits .entry))) (length (now (passed .entry))) (request (start .0) (arrival .0) s))
+        r (now (passed .entry)) (now (passed .exit)) ⌝ }
+{
+    if n <= 2 {
+        let mut rows = [0u64; 516];
+        let mut first = [0u16; 320];
+        let mut low = [0u8; 256];
+        return trace_in(
+            setting,
+            form,
+            n,
+            &mut rows[..],
+            &mut first[..],
+            &mut low[..],
+            words,
+            bits,
+            start,
+            arrival,
+            s,
+            passed,
+        );
+    }
+    let mut rows = [0u64; 2064];
+    let mut first = [0u16; 1088];
+    let mut low = [0u8; 1024];
+    trace_in(
+        setting,
+        form,
+        n,
+        &mut rows[..],
+        &mut first[..],
+        &mut low[..],
+        words,
+        bits,
+        start,
+        arrival,
+        s,
+        passed,
+    )
+}
+
+// A trace over a form, with room for the most expanders.
+fn trace_many(
+    setting: Setting,
+    form: &[u64],
+    n: u8,
+    words: &[u64],
+    bits: &[u8],
+    start: ExpanderNumber,
+    arrival: PhyId,
+    s: u64,
+    passed: &mut [u8],
+) -> TraceAnswer
+    requires { ⌜ (n ≡ length (formIn (now form))) × (n ≤ 64) ⌝ }
+    ensures { λ r. ⌜ TraceDone
+        (formTrace setting (now (form .entry)) (entries (now (words .entry)) (now (bits .entry))) (length (now (passed .entry))) (request (start .0) (arrival .0) s))
+        r (now (passed .entry)) (now (passed .exit)) ⌝ }
+{
+    let mut rows = [0u64; 16512];
+    let mut first = [0u16; 8256];
+    let mut low = [0u8; 8192];
+    trace_in(
+        setting,
+        form,
+        n,
+        &mut rows[..],
+        &mut first[..],
+        &mut low[..],
+        words,
+        bits,
+        start,
+        arrival,
+        s,
+        passed,
+    )
+}
+
+// A trace over a form: 22, 1 where the words are the form of no accepted domain, then 15, 16, 18 and 17, or how the request ends over the
+// words that count. The numbers of the expanders passed fill the first of the lent bytes; the rest stay, and all of them where it is refused.
+pub fn form_trace(
+    setting: Setting,
+    form: &[u64],
+    words: &[u64],
+    bits: &[u8],
+    start: ExpanderNumber,
+    arrival: PhyId,
+    s: u64,
+    passed: &mut [u8],
+) -> TraceAnswer
+    ensures { λ r. ⌜ TraceDone
+        (formTrace setting (now (form .entry)) (entries (now (words .entry)) (now (bits .entry))) (length (now (passed .entry))) (request (start .0) (arrival .0) s))
+        r (now (passed .entry)) (now (passed .exit)) ⌝ }
+{
+    let n = reading::count_expanders(form);
+    if n <= 8 {
+        return trace_few(setting, form, n, words, bits, start, arrival, s, passed);
+    }
+    trace_many(setting, form, n, words, bits, start, arrival, s, passed)
+}
