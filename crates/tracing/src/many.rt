@@ -37,16 +37,7 @@ fn answer_one(rows: &[u64], first: &[u16], words: &[u64], bits: &[u8], w: u64, s
     let mut passed = [0u8; 64];
     let start = ExpanderNumber((w / 256) as u8);
     let arrival = PhyId((w % 256) as u8);
-    let answer = requests::trace_rows(
-        rows,
-        first,
-        words,
-        bits,
-        start,
-        arrival,
-        s,
-        &mut passed[..],
-    );
+    let answer = requests::trace_rows(rows, first, words, bits, start, arrival, s, &mut passed[..]);
     packing::pack_trace(answer)
 }
 
