@@ -4,28 +4,17 @@ use mathlib.Core.Bool.{cond, not}
 use mathlib.Core.List.{List}
 use lib.Dec.{eqb, leb}
 use Rattle.tracing.specs.Tables.{Result, refused, good, GeneralSas2, short, long, Discovered, vacant, fields, Refusal, General, LongGeneral, Discover, Route, Setting, Counted, Entry}
-use Rattle.tracing.specs.Trace.{Reported}
+pub use Rattle.tracing.specs.Packing.{packRefusal, packed, packEnd, endPacked}
+use Rattle.forms.specs.Calls.{FormCounts}
 use Rattle.tracing.specs.Steps.{Step, here, endDevice, bad, lost, onward}
 use Rattle.tracing.specs.Reasons.{StepTold}
 use Rattle.tracing.specs.declared.Reason.{Reason}
-use Rattle.tracing.specs.declared.Outcome.{Outcome}
-use Rattle.tracing.specs.declared.Outcome.the-variants.{Arrived, NoDestination, BadDestination}
 
 -- a setting: most expanders, most phys and longest chain, a byte each; with a bit above these 24, one outside its range (22)
 abbrev pub settingOf : ℕ → Setting
 settingOf n =
     cond (leb (2 ^ 24) n) (record { expanders = 0; phys = 0; chain = 0 })
     (record { expanders = n / 2 ^ 16; phys = n / 2 ^ 8 % 2 ^ 8; chain = n % 2 ^ 8 })
-
--- a refusal: bit 63, then number, expander and phy, a byte each
-abbrev pub packRefusal : Refusal → ℕ
-packRefusal r = 2 ^ 63 + r .number * 65536 + r .expander .0 * 256 + r .phy .0
-
-module _ {A : Type 0} where
-  -- a refusal, or what the call yields
-  abbrev pub packed : (A → ℕ) → Result A → ℕ
-  packed f (refused r) = packRefusal r
-  packed f (good a) = f a
 
 -- the version of the interface: major, minor and patch
 abbrev pub version : ℕ
@@ -39,21 +28,13 @@ entryPacked e = e .expander .0 * 2 ^ 24 + e .phy .0 * 2 ^ 16 + e .index .0
 abbrev pub number : ℕ → ℕ
 number n = n
 
+-- how many expanders, and how many words a form has
+abbrev pub formPacked : FormCounts → ℕ
+formPacked c = c .expanderCount * 2 ^ 32 + c .wordCount
+
 -- how many tables, and how many words
 abbrev pub counts : Counted → ℕ
 counts c = c .tableCount * 2 ^ 32 + c .wordCount
-
-abbrev pub packOutcome : Outcome → ℕ
-packOutcome Arrived = 0
-packOutcome NoDestination = 1
-packOutcome BadDestination = 2
-
-abbrev pub packEnd : Outcome → ℕ → ℕ → ℕ → ℕ
-packEnd o last phy count = packOutcome o * 2 ^ 24 + last * 2 ^ 16 + phy * 2 ^ 8 + count
-
--- outcome, last expander, phy, count
-abbrev pub endPacked : Reported → ℕ
-endPacked t = packEnd (t .outcome) (t .last) (t .phy) (t .count)
 
 -- 1 for BAD DESTINATION
 abbrev pub packBad : Step → ℕ

@@ -3,12 +3,14 @@
 mod packing;
 
 use cards::Made;
+use forms::FormMade;
 use shelves::Shelf;
 use tracing::DiscoverRead;
 use tracing::ExpanderNumber;
 use tracing::GeneralRead;
 use tracing::GeneralReadSas2;
 use tracing::Judgement;
+use tracing::ListAnswer;
 use tracing::PhyId;
 use tracing::Route;
 use tracing::RouteIndex;
@@ -26,10 +28,13 @@ ghost use Rattle.tracing.specs.Tables.{Entries, entries, roomOf};
 ghost use Rattle.tracing.specs.Tables.{wiringCall, bitsSet, wordsAfter, judged, expandersIn, tableCall, countsIn, tablesAfter, wordPlace};
 ghost use Rattle.tracing.specs.Reasons.{stepCall};
 ghost use Rattle.tracing.specs.Trace.{request, traceCall, report, bytesAfter};
+ghost use Rattle.tracing.specs.Many.{requestCount, listAfter};
+ghost use Rattle.forms.specs.Formed.{formCall, formTables, formTrace, formList};
+ghost use Rattle.forms.specs.Calls.{formCounts, formAfter, requestsIn};
 ghost use Rattle.cards.specs.Calls.{cardCall, fileCall, lengthOf, newAfter};
 ghost use Rattle.shelves.specs.Shelf.{shelfBytes, made, stepped, entryAt, disabledAt};
 ghost use Rattle.exports.specs.Shelves.{ShelfDone};
-ghost use Rattle.exports.specs.Packing.{version, settingOf, packed, number, counts, entryPacked, endPacked, stepPacked, forty, general, generalSas2, discovered, ownAddress, attachedAddress, route, routeTold, routeAddress};
+ghost use Rattle.exports.specs.Packing.{version, settingOf, packed, number, counts, formPacked, entryPacked, endPacked, stepPacked, forty, general, generalSas2, discovered, ownAddress, attachedAddress, route, routeTold, routeAddress};
 
 // The version of this interface.
 #[no_mangle]
@@ -140,6 +145,92 @@ pub extern "C" fn metzurgo_trace(
     match answer {
         TraceAnswer::Refused(r) => packing::refusal(r),
         TraceAnswer::Ended(e) => packing::end(e),
+    }
+}
+
+// The form of a file's domain: the number of expanders, times 2 to the power 32, and the number of words.
+#[no_mangle]
+pub extern "C" fn metzurgo_compact(setting: u32, file: &[u8], form: &mut [u64]) -> u64
+    ensures { λ r. ⌜ (r ≡ packed formPacked (then (formCall (settingOf setting) (now (file .entry)) (length (now (form .entry)))) formCounts))
+        × (now (form .exit) ≡ formAfter (formCall (settingOf setting) (now (file .entry)) (length (now (form .entry)))) (now (form .entry))) ⌝ }
+{
+    let course = packing::setting(setting);
+    let answer = forms::make_form(course, file, form);
+    match answer {
+        FormMade::Refused(r) => packing::refusal(r),
+        FormMade::Counts(n, w) => packing::form_counts(n, w),
+    }
+}
+
+// The tables of a form: the number of tables, times 2 to the power 32, and the number of words.
+#[no_mangle]
+pub extern "C" fn metzurgo_compact_tables(
+    setting: u32,
+    form: &[u64],
+    words: &mut [u64],
+    bits: &mut [u8],
+) -> u64
+    ensures { λ r. ⌜ (r ≡ packed counts (then (formTables (settingOf setting) (now (form .entry)) (roomOf (entries (now (words .entry)) (now (bits .entry))))) countsIn))
+        × (entries (now (words .exit)) (now (bits .exit)) ≡ tablesAfter (formTables (settingOf setting) (now (form .entry)) (roomOf (entries (now (words .entry)) (now (bits .entry))))) (entries (now (words .entry)) (now (bits .entry)))) ⌝ }
+{
+    let course = packing::setting(setting);
+    let answer = forms::form_tables(course, form, words, bits);
+    match answer {
+        TablesGiven::Refused(r) => packing::refusal(r),
+        TablesGiven::Counts(t, w) => packing::table_counts(t, w),
+    }
+}
+
+// A trace over a form: outcome, last expander, phy and count.
+#[no_mangle]
+pub extern "C" fn metzurgo_compact_trace(
+    setting: u32,
+    form: &[u64],
+    words: &[u64],
+    bits: &[u8],
+    start: u8,
+    arrival: u8,
+    address: u64,
+    passed: &mut [u8],
+) -> u64
+    ensures { λ r. ⌜ (r ≡ packed endPacked (then (formTrace (settingOf setting) (now (form .entry)) (entries (now (words .entry)) (now (bits .entry))) (length (now (passed .entry))) (request start arrival address)) report))
+        × (now (passed .exit) ≡ bytesAfter (formTrace (settingOf setting) (now (form .entry)) (entries (now (words .entry)) (now (bits .entry))) (length (now (passed .entry))) (request start arrival address)) (now (passed .entry))) ⌝ }
+{
+    let course = packing::setting(setting);
+    let answer = forms::form_trace(
+        course,
+        form,
+        words,
+        bits,
+        ExpanderNumber(start),
+        PhyId(arrival),
+        address,
+        passed,
+    );
+    match answer {
+        TraceAnswer::Refused(r) => packing::refusal(r),
+        TraceAnswer::Ended(e) => packing::end(e),
+    }
+}
+
+// A list of requests over a form: the number of requests. Each answer is that of the trace over the form by itself.
+#[no_mangle]
+pub extern "C" fn metzurgo_compact_trace_many(
+    setting: u32,
+    form: &[u64],
+    words: &[u64],
+    bits: &[u8],
+    requests: &[u64],
+    answers: &mut [u64],
+) -> u64
+    ensures { λ r. ⌜ (r ≡ packed number (then (formList (settingOf setting) (now (form .entry)) (roomOf (entries (now (words .entry)) (now (bits .entry)))) (length (now (answers .entry))) (requestCount (now (requests .entry)))) (requestsIn (now (requests .entry)))))
+        × (now (answers .exit) ≡ listAfter (formList (settingOf setting) (now (form .entry)) (roomOf (entries (now (words .entry)) (now (bits .entry)))) (length (now (answers .entry))) (requestCount (now (requests .entry)))) (entries (now (words .entry)) (now (bits .entry))) (now (requests .entry)) (now (answers .entry))) ⌝ }
+{
+    let course = packing::setting(setting);
+    let answer = forms::form_list(course, form, words, bits, requests, answers);
+    match answer {
+        ListAnswer::Refused(r) => packing::refusal(r),
+        ListAnswer::Requests(n) => n as u64,
     }
 }
 

@@ -6,7 +6,6 @@ use tracing::End;
 use tracing::Entry;
 use tracing::General;
 use tracing::LongGeneral;
-use tracing::Outcome;
 use tracing::PhyId;
 use tracing::Reason;
 use tracing::Refusal;
@@ -19,7 +18,7 @@ ghost use Prim.Native.Nat.{_≤_, _<_, _^_};
 ghost use Rattle.shelves.specs.Shelf.{entryAt, disabledAt};
 ghost use Rattle.exports.specs.Shelves.{packAnswer};
 ghost use Rattle.tracing.specs.Answers.{stepAnswer};
-ghost use Rattle.exports.specs.Packing.{settingOf, packRefusal, packEnd, packOutcome, packBad, packNext, packReason, stepPacked, counts, entryPacked, packFields, packLong, general, route};
+ghost use Rattle.exports.specs.Packing.{settingOf, packRefusal, packEnd, packBad, packNext, packReason, stepPacked, counts, formPacked, entryPacked, packFields, packLong, general, route};
 
 // A setting: most expanders, most phys and longest chain, a byte each. A bit above these 24 makes one
 // outside its range.
@@ -44,26 +43,21 @@ pub(crate) fn setting(n: u32) -> Setting
 pub(crate) fn refusal(r: Refusal) -> u64
     ensures { λ n. ⌜ n ≡ packRefusal r ⌝ }
 {
-    9223372036854775808 + (r.number as u64) * 65536 + (r.expander.0 as u64) * 256 + (r.phy.0 as u64)
-}
-
-// 0 arrived, 1 NO DESTINATION, 2 BAD DESTINATION.
-fn outcome(o: Outcome) -> u64
-    ensures { λ n. ⌜ (n ≡ packOutcome o) × (n ≤ 2) ⌝ }
-{
-    match o {
-        Outcome::Arrived => 0,
-        Outcome::NoDestination => 1,
-        Outcome::BadDestination => 2,
-    }
+    tracing::pack_refusal(r)
 }
 
 // How a request ends: outcome, last expander, phy and count, a byte each.
 pub(crate) fn end(e: End) -> u64
     ensures { λ n. ⌜ n ≡ packEnd (e .outcome) (e .last .0) (e .phy .0) (e .count) ⌝ }
 {
-    let o = e.outcome;
-    outcome(o) * 16777216 + (e.last.0 as u64) * 65536 + (e.phy.0 as u64) * 256 + (e.count as u64)
+    tracing::pack_end(e)
+}
+
+// How many expanders and words a form has: the number of expanders, times 2 to the power 32, and the number of words.
+pub(crate) fn form_counts(expanders: u8, words: u32) -> u64
+    ensures { λ n. ⌜ n ≡ formPacked (record { expanderCount = expanders; wordCount = words }) ⌝ }
+{
+    (expanders as u64) * 4294967296 + (words as u64)
 }
 
 // How many tables and words there are: the number of tables, times 2 to the power 32, and the number of words.
