@@ -9,3 +9,4 @@ pub mod Normals
 pub mod Traces
 pub mod Backs
 pub mod Exact
+pub mod Excess

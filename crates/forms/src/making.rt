@@ -118,8 +118,14 @@ fn make_many(setting: Setting, file: &[u8], words: &mut [u64]) -> FormMade
 pub fn make_form(setting: Setting, file: &[u8], words: &mut [u64]) -> FormMade
     ensures { λ r. ⌜ FormDone (formCall setting (now (file .entry)) (length (now (words .entry)))) r (now (words .entry)) (now (words .exit)) ⌝ }
 {
-    if wiring::stated_count(file) <= 8 {
+    let n = wiring::stated_count(file);
+    if n <= 8 {
         return make_few(setting, file, words);
+    }
+    if n > 64 {
+        if file.len() > 2 {
+            return make_form(setting, &file[..2], words);
+        }
     }
     make_many(setting, file, words)
 }

@@ -134,6 +134,8 @@ fn list_many(
 
 // A list of requests over a form: 22, 1 where the words are the form of no accepted domain, then 16 and 18. A request's own 15 or 17 stands
 // as its answer. The answers fill the first of the lent words; the rest stay, and all of them where it is refused.
+// More than 16,512 words are no form, as no words are none; that it calls itself there gives each room a stack frame of its own
+// (docs/DECISIONS.md, 17).
 pub fn form_list(
     setting: Setting,
     form: &[u64],
@@ -149,6 +151,9 @@ pub fn form_list(
     let n = reading::count_expanders(form);
     if n <= 8 {
         return list_few(setting, form, n, words, bits, requests, answers);
+    }
+    if form.len() > 16512 {
+        return form_list(setting, &form[..0], words, bits, requests, answers);
     }
     list_many(setting, form, n, words, bits, requests, answers)
 }

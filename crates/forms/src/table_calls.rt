@@ -110,6 +110,8 @@ fn tables_many(
 
 // The tables of a form: 22, 1 where the words are the form of no accepted domain, then 16 and 18. It leaves and answers what the table call
 // does on a file with this form.
+// More than 16,512 words are no form, as no words are none; that it calls itself there gives each room a stack frame of its own
+// (docs/DECISIONS.md, 17).
 pub fn form_tables(
     setting: Setting,
     form: &[u64],
@@ -122,6 +124,9 @@ pub fn form_tables(
     let n = reading::count_expanders(form);
     if n <= 8 {
         return tables_few(setting, form, n, words, bits);
+    }
+    if form.len() > 16512 {
+        return form_tables(setting, &form[..0], words, bits);
     }
     tables_many(setting, form, n, words, bits)
 }

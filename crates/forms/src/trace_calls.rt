@@ -150,6 +150,8 @@ fn trace_many(
 
 // A trace over a form: 22, 1 where the words are the form of no accepted domain, then 15, 16, 18 and 17, or how the request ends over the
 // words that count. The numbers of the expanders passed fill the first of the lent bytes; the rest stay, and all of them where it is refused.
+// More than 16,512 words are no form, as no words are none; that it calls itself there gives each room a stack frame of its own
+// (docs/DECISIONS.md, 17).
 pub fn form_trace(
     setting: Setting,
     form: &[u64],
@@ -167,6 +169,9 @@ pub fn form_trace(
     let n = reading::count_expanders(form);
     if n <= 8 {
         return trace_few(setting, form, n, words, bits, start, arrival, s, passed);
+    }
+    if form.len() > 16512 {
+        return form_trace(setting, &form[..0], words, bits, start, arrival, s, passed);
     }
     trace_many(setting, form, n, words, bits, start, arrival, s, passed)
 }
