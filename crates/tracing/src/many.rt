@@ -1,7 +1,9 @@
 // A list of requests over one domain that is judged once.
 use crate::ListAnswer;
+use crate::TraceAnswer;
 use crate::packing;
 use crate::requests;
+use crate::walks::walk;
 use tables::Check;
 use tables::ExpanderNumber;
 use tables::PhyId;
@@ -11,7 +13,9 @@ ghost use mathlib.Core.List.{_++_};
 ghost use Prim.Native.Nat.{_≤_};
 ghost use lib.ListN.{length, drop};
 ghost use Rattle.tables.specs.Wiring.{domainIn, refusal, IndexedFirst};
-ghost use Rattle.tables.specs.Entries.{entries, roomOf};
+ghost use Rattle.tables.specs.Tables.{needed};
+ghost use Rattle.tables.specs.Entries.{entries, roomOf, Enough};
+ghost use Rattle.tracing.specs.Trace.{request, tracedRequest, TraceDone};
 ghost use Rattle.tracing.specs.Many.{oneAnswer, answersOf, requestCount, listFor, listIn, listAnswer, ListTraced};
 ghost use Rattle.tracing.specs.declared.ListAnswer.the-variants.{Refused};
 
@@ -26,9 +30,34 @@ fn refused(number: u8) -> Refusal
     }
 }
 
+// A request where the tables, their bits and the expanders passed have room: 15 and 17 are left to test.
+fn trace_lent(
+    rows: &[u64],
+    first: &[u16],
+    words: &[u64],
+    bits: &[u8],
+    start: ExpanderNumber,
+    arrival: PhyId,
+    s: u64,
+    passed: &mut [u8],
+) -> TraceAnswer
+    requires { ⌜ IndexedFirst (domainIn (now rows)) (now first) × (Enough (needed (domainIn (now rows))) (roomOf (entries (now words) (now bits))) × (length (domainIn (now rows)) ≤ length (now passed))) ⌝ }
+    ensures { λ r. ⌜ TraceDone
+        (tracedRequest (domainIn (now (rows .entry))) (entries (now (words .entry)) (now (bits .entry))) (length (now (passed .entry))) (request (start .0) (arrival .0) s))
+        r (now (passed .entry)) (now (passed .exit)) ⌝ }
+{
+    if !requests::is_allowed(rows, start, arrival) {
+        return TraceAnswer::Refused(refused(15));
+    }
+    if s == 0 {
+        return TraceAnswer::Refused(refused(17));
+    }
+    TraceAnswer::Ended(walk(rows, first, words, bits, start, arrival, s, passed))
+}
+
 // The answer to the request of two words: 15 where the first is 65536 or more.
 fn answer_one(rows: &[u64], first: &[u16], words: &[u64], bits: &[u8], w: u64, s: u64) -> u64
-    requires { ⌜ IndexedFirst (domainIn (now rows)) (now first) ⌝ }
+    requires { ⌜ IndexedFirst (domainIn (now rows)) (now first) × Enough (needed (domainIn (now rows))) (roomOf (entries (now words) (now bits))) ⌝ }
     ensures { λ r. ⌜ r ≡ oneAnswer (domainIn (now (rows .entry))) (entries (now (words .entry)) (now (bits .entry))) w s ⌝ }
 {
     if w >= 65536 {
@@ -37,7 +66,7 @@ fn answer_one(rows: &[u64], first: &[u16], words: &[u64], bits: &[u8], w: u64, s
     let mut passed = [0u8; 64];
     let start = ExpanderNumber((w / 256) as u8);
     let arrival = PhyId((w % 256) as u8);
-    let answer = requests::trace_rows(rows, first, words, bits, start, arrival, s, &mut passed[..]);
+    let answer = trace_lent(rows, first, words, bits, start, arrival, s, &mut passed[..]);
     packing::pack_trace(answer)
 }
 
@@ -50,7 +79,7 @@ fn answer_all(
     requests: &[u64],
     answers: &mut [u64],
 )
-    requires { ⌜ IndexedFirst (domainIn (now rows)) (now first) × (requestCount (now requests) ≤ length (now answers)) ⌝ }
+    requires { ⌜ (IndexedFirst (domainIn (now rows)) (now first) × Enough (needed (domainIn (now rows))) (roomOf (entries (now words) (now bits)))) × (requestCount (now requests) ≤ length (now answers)) ⌝ }
     ensures { λ _. ⌜ now (answers .exit) ≡ answersOf (domainIn (now (rows .entry))) (entries (now (words .entry)) (now (bits .entry))) (now (requests .entry)) ++ drop (requestCount (now (requests .entry))) (now (answers .entry)) ⌝ }
 {
     let n = requests.len() / 2;

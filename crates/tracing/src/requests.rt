@@ -16,7 +16,7 @@ ghost use Rattle.tracing.specs.Trace.{request, allowed, requested, trace
 
 // Does cause 15 not hold: the start is an expander, and the arrival phy is 255 or attached to an end
 // device?
-fn is_allowed(rows: &[u64], start: ExpanderNumber, arrival: PhyId) -> bool
+pub(crate) fn is_allowed(rows: &[u64], start: ExpanderNumber, arrival: PhyId) -> bool
     ensures { λ r. ⌜ r ≡ allowed (domainIn (now (rows .entry))) (start .0) (arrival .0) ⌝ }
 {
     if tables::expander_count(rows) <= start.0 {

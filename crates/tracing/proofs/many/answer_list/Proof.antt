@@ -54,7 +54,7 @@ returns-3 c =
     (lt-leb (bytesFor (needed d)) (length (a .bits .now)) (omega (arith, c .before .before .before .before .before .needed-words .ensures .0, c .before .before .bytes-for .ensures)))) (c .refused3 .ensures)
 
 answer-all-requires : tie.Need-answer-all-requires
-answer-all-requires c κs = (c .before .before .before .before .before .before .before .before .before .before .before .before .pre, omega arith)
+answer-all-requires c κs = ((c .before .before .before .before .before .before .before .before .before .before .before .before .pre, record { words = omega (arith, c .before .before .before .before .before .needed-words .ensures .0); bits = omega (arith, c .before .before .before .before .before .needed-words .ensures .0, c .before .before .bytes-for .ensures) }), omega arith)
 
 same-length : tie.Need-same-length
 same-length c = search needs

@@ -5,6 +5,7 @@ use native.Mathlib.Omega.{arith}
 use lib.ListN.{length-replicate}
 use Rattle.tables.specs.Wiring.{domainIn}
 use Rattle.tables.specs.Entries.{entries}
+use Rattle.tables.proofs.Wiring.{domain-few}
 use Rattle.tracing.specs.Packing.{packRefusal}
 use Rattle.tracing.proofs.TracedList.{one-high, one-low}
 use borrow.Author.Needs.{needs}
@@ -26,17 +27,17 @@ cast-t14 c = search needs
 cast-t14-2 : tie.Need-cast-t14-2
 cast-t14-2 c = search needs
 
-slice-aggregate-trace-rows : tie.Need-slice-aggregate-trace-rows
-slice-aggregate-trace-rows c = search needs
+slice-aggregate-trace-lent : tie.Need-slice-aggregate-trace-lent
+slice-aggregate-trace-lent c = search needs
 
-trace-rows-requires : tie.Need-trace-rows-requires
-trace-rows-requires c κs = search needs
+trace-lent-requires : tie.Need-trace-lent-requires
+trace-lent-requires c κs = (c .before .before .before .before .before .before .pre .0, (c .before .before .before .before .before .before .pre .1, omega (arith, length-replicate {A = ℕ} 64 0, domain-few (c .before .before .before .before .before .before .args .rows .now))))
 
 pack-trace-requires : tie.Need-pack-trace-requires
 pack-trace-requires c κs = search needs
 
 returns-2 : tie.Need-returns-2
-returns-2 c = one-low (domainIn (((c .before .before .before .before .before .before .before .before .before .args)) .rows .now)) (entries (((c .before .before .before .before .before .before .before .before .before .args)) .words .now) (((c .before .before .before .before .before .before .before .before .before .args)) .bits .now)) (((c .before .before .before .before .before .before .before .before .before .args)) .w) (((c .before .before .before .before .before .before .before .before .before .args)) .s) _ _ _ _ _ (omega arith) (length-replicate {A = ℕ} 64 0) (((c .pack-trace)) .ensures) (((c .before .before .trace-rows)) .ensures)
+returns-2 c = one-low (domainIn (((c .before .before .before .before .before .before .before .before .before .args)) .rows .now)) (entries (((c .before .before .before .before .before .before .before .before .before .args)) .words .now) (((c .before .before .before .before .before .before .before .before .before .args)) .bits .now)) (((c .before .before .before .before .before .before .before .before .before .args)) .w) (((c .before .before .before .before .before .before .before .before .before .args)) .s) _ _ _ _ _ (omega arith) (length-replicate {A = ℕ} 64 0) (((c .pack-trace)) .ensures) (((c .before .before .trace-lent)) .ensures)
 
 pub answer-one-spec : {M : Type 1} → statement M
 answer-one-spec =
@@ -47,7 +48,7 @@ answer-one-spec =
     returns
     cast-t14
     cast-t14-2
-    slice-aggregate-trace-rows
-    trace-rows-requires
+    slice-aggregate-trace-lent
+    trace-lent-requires
     pack-trace-requires
     returns-2)
