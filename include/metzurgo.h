@@ -5,14 +5,14 @@
  * valid and aligned for its length; where the length is 0 nothing is read or
  * written there, and in every call the pointer may be NULL. A lent buffer must
  * not overlap the file or another buffer of the same call. Nothing is kept
- * after a call returns. A call that takes a file uses some 300,000 bytes of
- * stack (docs/BENCHMARK.md has the measured bytes).
+ * after a call returns. A call that takes a file or a form uses some 300,000
+ * bytes of stack (docs/BENCHMARK.md has the measured bytes).
  *
- * Every call that takes a file or a card takes a course's setting before it: the most
- * expanders (1 to 64), the most phys of an expander (1 to 128) and the longest
- * chain in expanders (1 to 64), packed by METZURGO_SETTING. A setting outside
- * this range, or a bit set above the 24 that it has, is refused with 22 before
- * anything else is tested.
+ * Every call that takes a file, a card or a form takes a course's setting
+ * before it: the most expanders (1 to 64), the most phys of an expander (1 to
+ * 128) and the longest chain in expanders (1 to 64), packed by
+ * METZURGO_SETTING. A setting outside this range, or a bit set above the 24 that
+ * it has, is refused with 22 before anything else is tested.
  *
  * Refusals: bit 63 of the answer is set, and the answer is
  *     2^63 + number * 65536 + expander * 256 + phy.
@@ -101,7 +101,8 @@ extern "C" {
  * it: X(number, words) for each.
  */
 #define METZURGO_REFUSALS(X)                                                  \
-    X(1, "The file ends too early, or has bytes after its last phy.")         \
+    X(1, "The file ends too early, or has bytes after its last phy; or "      \
+         "words are the form of no accepted rig.")                            \
     X(2, "The first byte of the file, or a fixed byte of a frame, is "        \
          "wrong; or a frame states a length that is not its own.")            \
     X(3, "There are no expanders or more than the setting allows (64 "        \
@@ -356,6 +357,69 @@ uint64_t metzurgo_card_of_file(uint32_t setting, const uint8_t *file,
 uint64_t metzurgo_file_of_card(uint32_t setting, const uint8_t *card,
                                size_t card_len, uint8_t *file,
                                size_t file_len);
+
+/*
+ * The compact form: an accepted domain decoded once into 64-bit words, for many
+ * traces, as docs/FILE-FORMAT.md has it. No form is longer than
+ * METZURGO_LONGEST_FORM words. The calls over a form take exactly the words that
+ * metzurgo_compact wrote: words that are the form of no domain accepted under the
+ * setting, one word more or fewer among them, are refused with 1. What they
+ * answer and write is what the calls over the file do.
+ */
+#define METZURGO_LONGEST_FORM 16512
+
+/*
+ * Makes the form of a file. Tests the causes of judging, then 16 (fewer words
+ * than the form has). Later words stay. Answer: expanders * 2^32 + words.
+ */
+uint64_t metzurgo_compact(uint32_t setting, const uint8_t *file,
+                          size_t file_len, uint64_t *form, size_t form_len);
+
+/*
+ * metzurgo_tables over a form. Tests 22, then 1, 16 and 18. Answer: tables *
+ * 2^32 + words.
+ */
+uint64_t metzurgo_compact_tables(uint32_t setting, const uint64_t *form,
+                                 size_t form_len, uint64_t *words,
+                                 size_t words_len, uint8_t *bits,
+                                 size_t bits_len);
+
+/*
+ * metzurgo_trace over a form. Tests 22, then 1, 15, 16, 18 and 17. Answer: that
+ * of metzurgo_trace.
+ */
+uint64_t metzurgo_compact_trace(uint32_t setting, const uint64_t *form,
+                                size_t form_len, const uint64_t *words,
+                                size_t words_len, const uint8_t *bits,
+                                size_t bits_len, uint8_t start,
+                                uint8_t arrival, uint64_t address,
+                                uint8_t *passed, size_t passed_len);
+
+/*
+ * Traces a list of requests over one form, which is tested once. A request is
+ * two words: start * 256 + arrival (METZURGO_REQUEST makes it), then the
+ * address; a last word by itself is no request. Tests 22, then 1, 16 (fewer table
+ * words than needed, or fewer answers than requests) and 18. Writes an answer
+ * for each request, in their order: what metzurgo_compact_trace answers to it,
+ * so its own refusal with 15 or 17 stands there; a first word above 65535 is 15.
+ * The expanders passed are counted and not named. Later answers stay. Answer: the
+ * number of requests.
+ */
+uint64_t metzurgo_compact_trace_many(uint32_t setting, const uint64_t *form,
+                                     size_t form_len, const uint64_t *words,
+                                     size_t words_len, const uint8_t *bits,
+                                     size_t bits_len, const uint64_t *requests,
+                                     size_t requests_len, uint64_t *answers,
+                                     size_t answers_len);
+
+/*
+ * The first word of a request; 65536, which is refused with 15, where start or
+ * arrival exceeds 255.
+ */
+#define METZURGO_REQUEST(start, arrival)                                      \
+    ((uint64_t)(start) > 255 || (uint64_t)(arrival) > 255                     \
+         ? (uint64_t)65536                                                    \
+         : (uint64_t)(start) << 8 | (uint64_t)(arrival))
 
 /*
  * A shelf: a software expander that its owner holds and the calls alter where it

@@ -24,7 +24,7 @@ impl Tables {
         bit_bytes(self.word_count())
     }
 
-    fn of(answer: u64) -> Tables {
+    pub(crate) fn of(answer: u64) -> Tables {
         Tables {
             tables: (answer >> 32) as u32,
             words: answer as u32,
@@ -50,7 +50,7 @@ pub struct Request {
 }
 
 impl Request {
-    fn arrival_byte(self) -> u8 {
+    pub(crate) fn arrival_byte(self) -> u8 {
         self.arrival.map_or(NONE, |phy| phy.0)
     }
 }
@@ -63,6 +63,16 @@ pub enum Outcome {
     BadDestination,
 }
 
+impl Outcome {
+    pub(crate) fn of(answer: u64) -> Outcome {
+        match answer >> 24 {
+            0 => Outcome::Arrived,
+            1 => Outcome::NoDestination,
+            _ => Outcome::BadDestination,
+        }
+    }
+}
+
 /// The answer of a trace: how the request ended and at which expander, the phy of
 /// the end device arrived at, and the expanders passed, in order.
 #[derive(Clone, Copy, Debug, PartialEq, Eq, Hash)]
@@ -71,6 +81,17 @@ pub struct Trace<'a> {
     pub last: Expander,
     pub phy: Option<Phy>,
     pub passed: &'a [Expander],
+}
+
+impl<'a> Trace<'a> {
+    pub(crate) fn of(answer: u64, passed: &'a [Expander]) -> Trace<'a> {
+        Trace {
+            outcome: Outcome::of(answer),
+            last: Expander((answer >> 16) as u8),
+            phy: Phy::found((answer >> 8) as u8),
+            passed: &passed[..usize::from(answer as u8)],
+        }
+    }
 }
 
 /// Which of the rules (i) to (v) an expander goes by.
@@ -204,7 +225,7 @@ pub fn trace<'a>(
     request: Request,
     passed: &'a mut [Expander],
 ) -> Result<Trace<'a>, Refusal> {
-    let answer = accepted(raw::trace(
+    let answer = raw::trace(
         setting.packed(),
         file,
         words,
@@ -213,17 +234,8 @@ pub fn trace<'a>(
         request.arrival_byte(),
         request.address,
         Expander::bytes(passed),
-    ))?;
-    Ok(Trace {
-        outcome: match answer >> 24 {
-            0 => Outcome::Arrived,
-            1 => Outcome::NoDestination,
-            _ => Outcome::BadDestination,
-        },
-        last: Expander((answer >> 16) as u8),
-        phy: Phy::found((answer >> 8) as u8),
-        passed: &passed[..usize::from(answer as u8)],
-    })
+    );
+    accepted(answer).map(|answer| Trace::of(answer, passed))
 }
 
 /// The step of a request at the expander that it has come to, over the table

@@ -1,5 +1,6 @@
 //! Calls of the Metzurgo SAS configurator: domain files, wiring, route tables,
-//! request tracing, rig cards, loading frames, and a software expander that obeys them.
+//! request tracing, rig cards, compact forms, loading frames, and a software expander that
+//! obeys them.
 //!
 //! The functions at the top level take slices and give an answer with a type, or
 //! a [`Refusal`]. The module [`raw`] has the same calls with the answer as the
@@ -32,6 +33,7 @@ mod bits;
 mod cards;
 pub mod codes;
 mod files;
+mod forms;
 mod frames;
 mod places;
 pub mod raw;
@@ -45,6 +47,7 @@ pub use files::{
     judge, needed, step, tables, trace, wire, word_place, Outcome, Request, Rule, Step, Tables,
     Trace, WordPlace,
 };
+pub use forms::{End, Form, LONGEST_FORM};
 pub use frames::{
     read_discover, read_general, read_general_sas2, read_route, write_route, Discover, General,
     GeneralSas2, LongGeneral, Route,

@@ -62,6 +62,49 @@ mod linked {
             file: *mut u8,
             file_len: usize,
         ) -> u64;
+        pub fn metzurgo_compact(
+            setting: u32,
+            file: *const u8,
+            file_len: usize,
+            form: *mut u64,
+            form_len: usize,
+        ) -> u64;
+        pub fn metzurgo_compact_tables(
+            setting: u32,
+            form: *const u64,
+            form_len: usize,
+            words: *mut u64,
+            words_len: usize,
+            bits: *mut u8,
+            bits_len: usize,
+        ) -> u64;
+        pub fn metzurgo_compact_trace(
+            setting: u32,
+            form: *const u64,
+            form_len: usize,
+            words: *const u64,
+            words_len: usize,
+            bits: *const u8,
+            bits_len: usize,
+            start: u8,
+            arrival: u8,
+            address: u64,
+            passed: *mut u8,
+            passed_len: usize,
+        ) -> u64;
+        pub fn metzurgo_compact_trace_many(
+            setting: u32,
+            form: *const u64,
+            form_len: usize,
+            words: *const u64,
+            words_len: usize,
+            bits: *const u8,
+            bits_len: usize,
+            requests: *const u64,
+            requests_len: usize,
+            answers: *mut u64,
+            answers_len: usize,
+        ) -> u64;
         pub fn metzurgo_write_route(
             buf: *mut u8,
             buf_len: usize,
@@ -196,6 +239,79 @@ pub fn card_of_file(setting: u32, file: &[u8], card: &mut [u8]) -> u64 {
 pub fn file_of_card(setting: u32, card: &[u8], file: &mut [u8]) -> u64 {
     let (start, len) = (file.as_mut_ptr(), file.len());
     unsafe { linked::metzurgo_file_of_card(setting, card.as_ptr(), card.len(), start, len) }
+}
+
+pub fn compact(setting: u32, file: &[u8], form: &mut [u64]) -> u64 {
+    let (start, len) = (form.as_mut_ptr(), form.len());
+    unsafe { linked::metzurgo_compact(setting, file.as_ptr(), file.len(), start, len) }
+}
+
+pub fn compact_tables(setting: u32, form: &[u64], words: &mut [u64], bits: &mut [u8]) -> u64 {
+    unsafe {
+        linked::metzurgo_compact_tables(
+            setting,
+            form.as_ptr(),
+            form.len(),
+            words.as_mut_ptr(),
+            words.len(),
+            bits.as_mut_ptr(),
+            bits.len(),
+        )
+    }
+}
+
+#[allow(clippy::too_many_arguments)]
+pub fn compact_trace(
+    setting: u32,
+    form: &[u64],
+    words: &[u64],
+    bits: &[u8],
+    start: u8,
+    arrival: u8,
+    address: u64,
+    passed: &mut [u8],
+) -> u64 {
+    unsafe {
+        linked::metzurgo_compact_trace(
+            setting,
+            form.as_ptr(),
+            form.len(),
+            words.as_ptr(),
+            words.len(),
+            bits.as_ptr(),
+            bits.len(),
+            start,
+            arrival,
+            address,
+            passed.as_mut_ptr(),
+            passed.len(),
+        )
+    }
+}
+
+pub fn compact_trace_many(
+    setting: u32,
+    form: &[u64],
+    words: &[u64],
+    bits: &[u8],
+    requests: &[u64],
+    answers: &mut [u64],
+) -> u64 {
+    unsafe {
+        linked::metzurgo_compact_trace_many(
+            setting,
+            form.as_ptr(),
+            form.len(),
+            words.as_ptr(),
+            words.len(),
+            bits.as_ptr(),
+            bits.len(),
+            requests.as_ptr(),
+            requests.len(),
+            answers.as_mut_ptr(),
+            answers.len(),
+        )
+    }
 }
 
 pub fn write_route(

@@ -56,7 +56,7 @@ macro_rules! causes {
 }
 
 causes! {
-    Length 1 "The file ends too early, or has bytes after its last phy."
+    Length 1 "The file ends too early, or has bytes after its last phy; or words are the form of no accepted rig."
     FixedByte 2 "The first byte of the file, or a fixed byte of a frame, is wrong; or a frame states a length that is not its own."
     Count 3 "There are no expanders or more than the setting allows (64 at most), or an expander has no phys or more than it allows (128 at most); or a shelf is told phys, R or kinds that it cannot have."
     ExpanderAddress 4 "An expander's address is zero, or an earlier expander has it."

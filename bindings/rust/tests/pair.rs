@@ -90,7 +90,7 @@ fn judging_a_cut_file() {
     assert_eq!(cut, Err(refused(Cause::Length, 1, 2)));
     assert_eq!(
         cut.unwrap_err().to_string(),
-        "refused 1 1 2: The file ends too early, or has bytes after its last phy."
+        "refused 1 1 2: The file ends too early, or has bytes after its last phy; or words are the form of no accepted rig."
     );
 }
 
