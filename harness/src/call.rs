@@ -9,6 +9,9 @@
 //!                                                 BAD DESTINATION 1 count 1
 //!     card_of_file [bytes BYTES]                  bytes 64
 //!     file_of_card CARD [bytes BYTES]             bytes 334
+//!     compact [words WORDS]                       expanders 2 words 14
+//!     compact_tables FORM WORDS [bits BYTES]      tables 1 entries 4
+//!     compact_trace_many [REQUEST ...]            requests 1
 //!
 //! Before the call may stand `setting EXPANDERS PHYS CHAIN`; without it the
 //! setting is 64 128 64. WORDS and BYTES are the lengths of the lent buffers:
@@ -17,15 +20,19 @@
 //! EXPANDER.PHY.INDEX; `disable` sets its bit before the trace, `enable` clears it,
 //! as often as they stand there and in that order. Without lengths the buffers are
 //! as long as needed, the bits of the table call as long as WORDS need. A CARD is in
-//! hexadecimal; `file_of_card` reads it in place of the file. Further lines have the
-//! words and the bits written, the expanders passed, or the card or file made. A
-//! refusal is the line `refused` with number, expander and phy.
+//! hexadecimal; `file_of_card` reads it in place of the file. A FORM is its words in
+//! hexadecimal, 16 digits each, one after the other; `compact_tables` reads it in
+//! place of the file. A REQUEST is START.ARRIVAL.ADDRESS; `compact_trace_many` goes
+//! over the form of the file and over the words and bits that its table call gives.
+//! Further lines have the words and the bits written, the expanders passed, the card,
+//! file or form made, or the answers of a list. A refusal is the line `refused` with
+//! number, expander and phy.
 
 use crate::calls::Calls;
 use crate::compare::{hex, Difference, Lent};
 use crate::generate::WIDEST;
 use crate::reference;
-use metzurgo::{LONGEST_CARD, LONGEST_CARD_FILE};
+use metzurgo::{LONGEST_CARD, LONGEST_CARD_FILE, LONGEST_FORM};
 
 /// The most words that the table call is lent for a trace.
 const MOST_WORDS: usize = 1 << 24;
@@ -34,7 +41,9 @@ const USAGE: &str = "[setting EXPANDERS PHYS CHAIN] judge | wire WORDS | \
                      tables WORDS [bits BYTES] | trace START ARRIVAL ADDRESS [words WORDS] \
                      [bits BYTES] [bytes BYTES] [disable EXPANDER.PHY.INDEX] \
                      [enable EXPANDER.PHY.INDEX] | card_of_file [bytes BYTES] | \
-                     file_of_card CARD [bytes BYTES]";
+                     file_of_card CARD [bytes BYTES] | compact [words WORDS] | \
+                     compact_tables FORM WORDS [bits BYTES] | \
+                     compact_trace_many [START.ARRIVAL.ADDRESS ...]";
 
 pub enum Failed {
     /// The words do not state a call.
@@ -76,21 +85,18 @@ fn under(subject: &dyn Calls, setting: u32, file: &[u8], call: &[&str]) -> Resul
                 return Ok(refused);
             }
             let written = lent.written(|| "wire".into(), &before, usize::from(file[1]))?;
-            Ok(format!("bits {answer}\n{}", list(&written)))
+            Ok(format!("bits {answer}\n{}", list("words", &written)))
         }
-        ["tables", length] => {
-            let length: usize = number(length)?;
-            tables(subject, setting, file, length, length.div_ceil(8))
-        }
-        ["tables", length, "bits", bytes] => {
-            tables(subject, setting, file, number(length)?, number(bytes)?)
+        ["tables", length, ref rest @ ..] => {
+            let call =
+                |words: &mut [u64], bits: &mut [u8]| subject.tables(setting, file, words, bits);
+            tables(length, rest, call)
         }
         ["trace", start, arrival, address, ref rest @ ..] => {
             let request = Request {
                 start: number(start)?,
                 arrival: number(arrival)?,
-                address: u64::from_str_radix(address, 16)
-                    .map_err(|_| Failed::Usage(format!("not an address: {address}")))?,
+                address: self::address(address)?,
             };
             trace(subject, setting, file, request, rest)
         }
@@ -102,6 +108,22 @@ fn under(subject: &dyn Calls, setting: u32, file: &[u8], call: &[&str]) -> Resul
             let card = bytes(card)?;
             let call = |room: &mut [u8]| subject.file_of_card(setting, &card, room);
             made("file", room(rest, LONGEST_CARD_FILE)?, call)
+        }
+        ["compact"] => compact(subject, setting, file, LONGEST_FORM),
+        ["compact", "words", length] => compact(subject, setting, file, number(length)?),
+        ["compact_tables", form, length, ref rest @ ..] => {
+            let form = words(form)?;
+            let call = |words: &mut [u64], bits: &mut [u8]| {
+                subject.compact_tables(setting, &form, words, bits)
+            };
+            tables(length, rest, call)
+        }
+        ["compact_trace_many", ref requests @ ..] => {
+            let mut list = Vec::new();
+            for request in requests {
+                list.extend(request_words(request)?);
+            }
+            trace_many(subject, setting, file, &list)
         }
         _ => Err(usage()),
     }
@@ -139,18 +161,90 @@ fn bytes(text: &str) -> Result<Vec<u8>, Failed> {
         .ok_or_else(|| Failed::Usage(format!("not bytes in hexadecimal: {text}")))
 }
 
-/// The table call with so many words and bytes of disable bits.
-fn tables(
+/// The words of hexadecimal digits, 16 for each.
+fn words(text: &str) -> Result<Vec<u64>, Failed> {
+    let bytes = bytes(text)?;
+    let word = |eight: &[u8]| eight.try_into().map(u64::from_be_bytes).ok();
+    bytes
+        .chunks(8)
+        .map(word)
+        .collect::<Option<_>>()
+        .ok_or_else(|| Failed::Usage(format!("not words of 16 digits: {text}")))
+}
+
+/// The form of the file, with so many words lent.
+fn compact(
     subject: &dyn Calls,
     setting: u32,
     file: &[u8],
     length: usize,
-    bytes: usize,
 ) -> Result<String, Failed> {
+    let mut lent = Lent::new(length, || 0x7777_7777_7777_7777);
+    let before = lent.after(&[]);
+    let answer = subject.compact(setting, file, lent.part());
+    if let Some(refused) = refusal(answer) {
+        lent.check(|| "compact".into(), &before)?;
+        return Ok(refused);
+    }
+    let (expanders, count) = (answer >> 32, (answer & 0xffff_ffff) as usize);
+    let written = lent.written(|| "compact".into(), &before, count)?;
+    let form = list("form", &written);
+    Ok(format!("expanders {expanders} words {count}\n{form}"))
+}
+
+/// The two words of START.ARRIVAL.ADDRESS.
+fn request_words(request: &str) -> Result<[u64; 2], Failed> {
+    let parts: Vec<&str> = request.split('.').collect();
+    let [start, arrival, address] = parts[..] else {
+        return Err(usage());
+    };
+    let start = [number(start)?, number(arrival)?];
+    Ok([u16::from_be_bytes(start).into(), self::address(address)?])
+}
+
+/// The answers to a list of requests over the form of the file.
+fn trace_many(
+    subject: &dyn Calls,
+    setting: u32,
+    file: &[u8],
+    requests: &[u64],
+) -> Result<String, Failed> {
+    let mut form = vec![0; LONGEST_FORM];
+    let made = subject.compact(setting, file, &mut form);
+    if let Some(refused) = refusal(made) {
+        return Ok(refused);
+    }
+    form.truncate((made & 0xffff_ffff) as usize);
+    let (words, bits) = given(subject, setting, file);
+    let mut lent = Lent::new(requests.len() / 2, || 0x7777_7777_7777_7777);
+    let before = lent.after(&[]);
+    let answer = subject.compact_trace_many(setting, &form, &words, &bits, requests, lent.part());
+    if let Some(refused) = refusal(answer) {
+        lent.check(|| "compact_trace_many".into(), &before)?;
+        return Ok(refused);
+    }
+    let what = || "compact_trace_many".into();
+    let written = lent.written(what, &before, answer as usize)?;
+    Ok(format!("requests {answer}\n{}", list("answers", &written)))
+}
+
+/// The table call, of a file or a form, with so many words, and with the bytes of
+/// disable bits that `rest` states or that the words need.
+fn tables(
+    length: &str,
+    rest: &[&str],
+    call: impl FnOnce(&mut [u64], &mut [u8]) -> u64,
+) -> Result<String, Failed> {
+    let length: usize = number(length)?;
+    let bytes = match *rest {
+        [] => length.div_ceil(8),
+        ["bits", bytes] => number(bytes)?,
+        _ => return Err(usage()),
+    };
     let mut words = Lent::new(length, || 0x7777_7777_7777_7777);
     let mut bits = Lent::new(bytes, || 0x77);
     let before = (words.after(&[]), bits.after(&[]));
-    let answer = subject.tables(setting, file, words.part(), bits.part());
+    let answer = call(words.part(), bits.part());
     if let Some(refused) = refusal(answer) {
         words.check(|| "tables".into(), &before.0)?;
         bits.check(|| "tables, disable bits".into(), &before.1)?;
@@ -166,7 +260,7 @@ fn tables(
     let bits: Vec<String> = bits.iter().map(|byte| format!(" {byte:02x}")).collect();
     Ok(format!(
         "tables {tables} entries {count}\n{}\nbits{}",
-        list(&words),
+        list("words", &words),
         bits.concat()
     ))
 }
@@ -289,9 +383,14 @@ fn refusal(answer: u64) -> Option<String> {
     })
 }
 
-fn list(words: &[u64]) -> String {
+fn list(what: &str, words: &[u64]) -> String {
     let words: Vec<String> = words.iter().map(|word| format!(" {word:016x}")).collect();
-    format!("words{}", words.concat())
+    format!("{what}{}", words.concat())
+}
+
+/// An address in hexadecimal.
+fn address(text: &str) -> Result<u64, Failed> {
+    u64::from_str_radix(text, 16).map_err(|_| Failed::Usage(format!("not an address: {text}")))
 }
 
 /// The words and disable bits of the table call; none where it refuses for another

@@ -35,6 +35,30 @@ pub trait Calls: Sync {
     ) -> u64;
     fn card_of_file(&self, setting: u32, file: &[u8], card: &mut [u8]) -> u64;
     fn file_of_card(&self, setting: u32, card: &[u8], file: &mut [u8]) -> u64;
+    fn compact(&self, setting: u32, file: &[u8], form: &mut [u64]) -> u64;
+    fn compact_tables(&self, setting: u32, form: &[u64], words: &mut [u64], bits: &mut [u8])
+        -> u64;
+    #[allow(clippy::too_many_arguments)]
+    fn compact_trace(
+        &self,
+        setting: u32,
+        form: &[u64],
+        words: &[u64],
+        bits: &[u8],
+        start: u8,
+        arrival: u8,
+        address: u64,
+        passed: &mut [u8],
+    ) -> u64;
+    fn compact_trace_many(
+        &self,
+        setting: u32,
+        form: &[u64],
+        words: &[u64],
+        bits: &[u8],
+        requests: &[u64],
+        answers: &mut [u64],
+    ) -> u64;
     fn write_route(
         &self,
         buf: &mut [u8],
@@ -118,6 +142,46 @@ impl Calls for Archive {
 
     fn file_of_card(&self, setting: u32, card: &[u8], file: &mut [u8]) -> u64 {
         metzurgo::raw::file_of_card(setting, card, file)
+    }
+
+    fn compact(&self, setting: u32, file: &[u8], form: &mut [u64]) -> u64 {
+        metzurgo::raw::compact(setting, file, form)
+    }
+
+    fn compact_tables(
+        &self,
+        setting: u32,
+        form: &[u64],
+        words: &mut [u64],
+        bits: &mut [u8],
+    ) -> u64 {
+        metzurgo::raw::compact_tables(setting, form, words, bits)
+    }
+
+    fn compact_trace(
+        &self,
+        setting: u32,
+        form: &[u64],
+        words: &[u64],
+        bits: &[u8],
+        start: u8,
+        arrival: u8,
+        address: u64,
+        passed: &mut [u8],
+    ) -> u64 {
+        metzurgo::raw::compact_trace(setting, form, words, bits, start, arrival, address, passed)
+    }
+
+    fn compact_trace_many(
+        &self,
+        setting: u32,
+        form: &[u64],
+        words: &[u64],
+        bits: &[u8],
+        requests: &[u64],
+        answers: &mut [u64],
+    ) -> u64 {
+        metzurgo::raw::compact_trace_many(setting, form, words, bits, requests, answers)
     }
 
     fn write_route(

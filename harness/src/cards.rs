@@ -12,15 +12,15 @@ use crate::reference::{refuse, Discover, Domain, General, Refusal, Setting, NOWH
 // ---------------------------------------------------------------- reference
 
 /// What a card says of an expander.
-struct Expander {
-    address: u64,
-    route_indexes: u64,
-    configurable: bool,
-    phys: Vec<Phy>,
+pub struct Expander {
+    pub address: u64,
+    pub route_indexes: u64,
+    pub configurable: bool,
+    pub phys: Vec<Phy>,
 }
 
 /// What a card says of a phy.
-enum Phy {
+pub enum Phy {
     Vacant(u64),
     Fields {
         device_type: u64,
@@ -124,7 +124,7 @@ fn test(setting: Setting, expanders: &[Expander]) -> Result<(), Refusal> {
 }
 
 /// A file of short frames; what is ignored is zero.
-fn write_file(expanders: &[Expander]) -> Vec<u8> {
+pub fn write_file(expanders: &[Expander]) -> Vec<u8> {
     let mut file = vec![0x10, expanders.len() as u8];
     for expander in expanders {
         let mut general = [0; 28];
@@ -172,7 +172,7 @@ fn response<T>(
 }
 
 /// What is in a file that causes 1 to 6 leave.
-fn read_file(file: &[u8]) -> Vec<Expander> {
+pub fn read_file(file: &[u8]) -> Vec<Expander> {
     let mut rest = &file[2..];
     let mut expanders = Vec::new();
     for _ in 0..file[1] {

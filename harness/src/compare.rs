@@ -63,6 +63,13 @@ pub struct Counts {
     /// Files that have a card, and cards that were spoiled.
     pub cards: u64,
     pub spoiled_cards: u64,
+    /// Files that have a form; other words as a form, and those that are one.
+    pub forms: u64,
+    pub other_forms: u64,
+    pub other_forms_accepted: u64,
+    /// Requests in lists, and those refused with 15 and with 17.
+    pub listed: u64,
+    pub list_refusals: [u64; 2],
     /// Steps by their rule, (i) to (v), and those that are BAD DESTINATION.
     pub rules: [u64; 5],
     pub bad_steps: u64,
@@ -83,6 +90,13 @@ impl Counts {
         self.shelves += other.shelves;
         self.cards += other.cards;
         self.spoiled_cards += other.spoiled_cards;
+        self.forms += other.forms;
+        self.other_forms += other.other_forms;
+        self.other_forms_accepted += other.other_forms_accepted;
+        self.listed += other.listed;
+        for (sum, more) in self.list_refusals.iter_mut().zip(other.list_refusals) {
+            *sum += more;
+        }
         self.shelf_frames += other.shelf_frames;
         self.shelf_refusals += other.shelf_refusals;
         for (sum, more) in self.shelf_results.iter_mut().zip(other.shelf_results) {
@@ -110,6 +124,14 @@ impl Counts {
         self.calls += 1;
         if answer >> 63 == 1 {
             self.refusals[(answer >> 16 & 0xff) as usize] += 1;
+        }
+    }
+
+    /// The answers to a list of requests.
+    pub fn list(&mut self, answers: &[u64]) {
+        self.listed += answers.len() as u64;
+        for answer in answers.iter().filter(|&answer| answer >> 63 == 1) {
+            self.list_refusals[(answer >> 16 & 0xff != 15) as usize] += 1;
         }
     }
 

@@ -3,6 +3,7 @@
 
 use crate::calls::Calls;
 use crate::cards;
+use crate::reference::Reference;
 use crate::shelves::Words;
 
 const VACANT: u8 = 0;
@@ -795,6 +796,46 @@ impl Calls for Fast {
 
     fn file_of_card(&self, setting: u32, card: &[u8], file: &mut [u8]) -> u64 {
         cards::put(cards::file_of_card(setting, card), file)
+    }
+
+    fn compact(&self, setting: u32, file: &[u8], form: &mut [u64]) -> u64 {
+        Reference.compact(setting, file, form)
+    }
+
+    fn compact_tables(
+        &self,
+        setting: u32,
+        form: &[u64],
+        words: &mut [u64],
+        bits: &mut [u8],
+    ) -> u64 {
+        Reference.compact_tables(setting, form, words, bits)
+    }
+
+    fn compact_trace(
+        &self,
+        setting: u32,
+        form: &[u64],
+        words: &[u64],
+        bits: &[u8],
+        start: u8,
+        arrival: u8,
+        address: u64,
+        passed: &mut [u8],
+    ) -> u64 {
+        Reference.compact_trace(setting, form, words, bits, start, arrival, address, passed)
+    }
+
+    fn compact_trace_many(
+        &self,
+        setting: u32,
+        form: &[u64],
+        words: &[u64],
+        bits: &[u8],
+        requests: &[u64],
+        answers: &mut [u64],
+    ) -> u64 {
+        Reference.compact_trace_many(setting, form, words, bits, requests, answers)
     }
 
     fn write_route(

@@ -16,6 +16,7 @@ mod calls;
 mod cards;
 mod compare;
 mod fast;
+mod forms;
 mod generate;
 mod layout;
 mod random;
@@ -161,7 +162,7 @@ fn check(subject: &dyn Calls, seed: u64, counts: &mut Counts) -> Result<&'static
             }
             cards::check(subject, setting, &made.file, &mut random, counts)
                 .map_err(|difference| difference.under(setting))?;
-            Ok(())
+            forms::check(subject, setting, &made.file, &mut random, counts)
         })
         .map_err(|difference| Failure {
             seed,
@@ -305,6 +306,10 @@ fn run(subject: &dyn Calls, files: u64, seed: u64) {
         counts.cards, counts.spoiled_cards
     );
     println!(
+        "  forms: {} of files, {} other words, {} of these a form; requests in lists: {}, {} of these refused with 15, {} with 17",
+        counts.forms, counts.other_forms, counts.other_forms_accepted, counts.listed, counts.list_refusals[0], counts.list_refusals[1]
+    );
+    println!(
         "  steps: {} in all, {} by (i), {} (ii), {} (iii), {} (iv), {} (v), {} BAD DESTINATION; {} traces followed by steps",
         counts.rules.iter().sum::<u64>(), counts.rules[0], counts.rules[1], counts.rules[2], counts.rules[3], counts.rules[4], counts.bad_steps, counts.walks
     );
@@ -335,6 +340,14 @@ fn run(subject: &dyn Calls, files: u64, seed: u64) {
     }
     if counts.rules.contains(&0) || counts.bad_steps == 0 || counts.walks == 0 {
         println!("a rule of a step was never reached");
+        exit(1);
+    }
+    if counts.other_forms_accepted == 0 || counts.other_forms_accepted == counts.other_forms {
+        println!("no other words, or all of them, were a form");
+        exit(1);
+    }
+    if counts.list_refusals.contains(&0) {
+        println!("no request of a list was refused with 15, or none with 17");
         exit(1);
     }
     if counts.switched == 0 {

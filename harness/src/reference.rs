@@ -9,7 +9,9 @@ use std::ops::Range;
 
 use crate::calls::Calls;
 use crate::cards;
+use crate::forms;
 use crate::shelves::{self, Plain, Words};
+use crate::traces::Request;
 
 /// The answer "number, expander, phy".
 #[derive(Clone, Copy, Debug, PartialEq, Eq)]
@@ -1259,6 +1261,64 @@ impl Calls for Reference {
 
     fn file_of_card(&self, setting: u32, card: &[u8], file: &mut [u8]) -> u64 {
         cards::put(cards::file_of_card(setting, card), file)
+    }
+
+    fn compact(&self, setting: u32, file: &[u8], form: &mut [u64]) -> u64 {
+        forms::put(forms::compact(setting, file), file, form)
+    }
+
+    fn compact_tables(
+        &self,
+        setting: u32,
+        form: &[u64],
+        words: &mut [u64],
+        bits: &mut [u8],
+    ) -> u64 {
+        answer(forms::judged(setting, form).and_then(|judged| {
+            let (given, disabled) = forms::tables(&judged, words.len(), bits.len())?;
+            words[..given.len()].copy_from_slice(&given);
+            bits[..disabled.len()].copy_from_slice(&disabled);
+            Ok(judged.table_answer())
+        }))
+    }
+
+    fn compact_trace(
+        &self,
+        setting: u32,
+        form: &[u64],
+        words: &[u64],
+        bits: &[u8],
+        start: u8,
+        arrival: u8,
+        address: u64,
+        passed: &mut [u8],
+    ) -> u64 {
+        answer(forms::judged(setting, form).and_then(|judged| {
+            let request = Request {
+                start,
+                arrival,
+                address,
+            };
+            let trace = forms::trace(&judged, words, bits, request, passed.len())?;
+            passed[..trace.passed.len()].copy_from_slice(&trace.passed);
+            Ok(trace.answer())
+        }))
+    }
+
+    fn compact_trace_many(
+        &self,
+        setting: u32,
+        form: &[u64],
+        words: &[u64],
+        bits: &[u8],
+        requests: &[u64],
+        answers: &mut [u64],
+    ) -> u64 {
+        answer(forms::judged(setting, form).and_then(|judged| {
+            let found = forms::trace_many(&judged, words, bits, requests, answers.len())?;
+            answers[..found.len()].copy_from_slice(&found);
+            Ok(found.len() as u64)
+        }))
     }
 
     fn write_route(

@@ -12,6 +12,7 @@ use std::fmt::Write;
 
 use crate::calls::Calls;
 use crate::compare::{hex, same, Counts, Difference, Lent, MOST_WORDS};
+use crate::forms::Form;
 use crate::random::Random;
 use crate::reference::{self, Attached, Judged, Outcome, Routes, Trace};
 use crate::steps::Steps;
@@ -319,12 +320,14 @@ impl<'a> Traces<'a> {
             ..
         } = *self;
         let steps = Steps::of(subject, setting, file, judged, &self.requests);
+        let form = Form::of_file(subject, setting, file, judged);
         if judged.needed > MOST_WORDS {
             counts.untraced_files += 1;
             let words = Lent::new(10, || random.next());
             let bits = Lent::new(10, || random.byte());
             let tables = Tables::of(words, bits, Content::Other, judged);
             steps.refusals(&tables, &mut random.aside(), counts)?;
+            form.too_few(&tables, &mut random.aside(), counts)?;
             return self.wild(&tables, random, counts);
         }
         let given = judged.table_words();
@@ -335,8 +338,9 @@ impl<'a> Traces<'a> {
             Content::Other,
         ] {
             let tables = self.tables(content, &given, random);
-            self.over(&tables, random, counts)?;
+            let traced = self.over(&tables, random, counts)?;
             steps.over(&tables, &mut random.aside(), counts)?;
+            form.over(&tables, &traced, &mut random.aside(), counts)?;
             if content == Content::Other {
                 self.lengths(&tables, random, counts)?;
                 self.wild(&tables, random, counts)?;
@@ -377,13 +381,13 @@ impl<'a> Traces<'a> {
         Tables::of(words, bits, content, self.judged)
     }
 
-    /// The requests chosen, over these words and bits.
+    /// The requests chosen, over these words and bits, and their answers.
     fn over(
         &self,
         tables: &Tables,
         random: &mut Random,
         counts: &mut Counts,
-    ) -> Result<(), Difference> {
+    ) -> Result<Vec<(Request, u64)>, Difference> {
         let every = matches!(tables.content, Content::Given | Content::Other);
         let mut lengths = Lengths {
             words: self.judged.needed + random.pick(&[0, 0, 1, MORE]),
@@ -391,6 +395,7 @@ impl<'a> Traces<'a> {
             passed: 0,
         };
         let mut taken = HashSet::new();
+        let mut traced = Vec::new();
         for request in self.requests.choose(every, random) {
             lengths.passed = self.judged.expanders() + random.pick(&[0, 0, 1, 9]);
             if let Some(trace) = self.one(tables, lengths, request, random, counts)? {
@@ -402,10 +407,12 @@ impl<'a> Traces<'a> {
                     Content::WordsChanged | Content::Other => (),
                 }
                 taken.insert(request);
+                traced.push((request, trace.answer()));
             }
         }
         tables.check()?;
-        self.requests.test_taken(&taken, every)
+        self.requests.test_taken(&taken, every)?;
+        Ok(traced)
     }
 
     /// Requests with every length around the needed one, of words, bits and bytes.

@@ -132,6 +132,33 @@ pub fn pair_card() -> Vec<u8> {
         .collect()
 }
 
+/// The compact form of the pair rig, word by word, and its tables and disable bits.
+pub const PAIR_FORM: [u64; 14] = [
+    // expander 0: address; R 4, 2 phys
+    X10,
+    0x0004_0200_0000_0000,
+    // phy 0: type 2, table, to expander 1 phy 0
+    X20,
+    0x5020_0000_0000_0000,
+    // phy 1: type 1, direct, to drive A1
+    A1,
+    0x2000_0000_0000_0000,
+    // expander 1: address; R 0, 3 phys
+    X20,
+    0x0000_0300_0000_0000,
+    // phy 0: type 2, subtractive, to expander 0 phy 0
+    X10,
+    0x4800_0000_0000_0000,
+    // phy 1: type 1, direct, to drive B1
+    B1,
+    0x2000_0000_0000_0000,
+    // phy 2: nothing attached, direct
+    0,
+    0,
+];
+const PAIR_WORDS: [u64; 4] = [B1, 0, 0, 0];
+const PAIR_BITS: [u8; 1] = [0x70];
+
 /// The pair rig of document 01, byte by byte.
 pub fn pair_rig() -> Vec<u8> {
     let mut file = vec![0; 334];
@@ -304,6 +331,13 @@ pub fn run(subject: &dyn Calls) -> Result<usize, Difference> {
     test.card_refusals()?;
     test.card_settings()?;
     test.largest_card()?;
+    test.pair_form()?;
+    test.far_form()?;
+    test.form_refusals()?;
+    test.form_settings()?;
+    test.form_traces()?;
+    test.form_lists()?;
+    test.largest_form()?;
     test.shelves_told()?;
     test.shelf_results()?;
     test.shelf_entries()?;
@@ -3386,6 +3420,447 @@ impl Test<'_> {
         let bytes = self.subject.file_of_card(WIDEST, &card, &mut back);
         same(|| "largest: file_of_card".into(), 428_290, bytes)?;
         self.judge("largest, from its card", &back, 64)
+    }
+
+    // ------------------------------------------------------------ compact forms
+
+    /// The form of a file, in as many words as needed and in more, the rest of which
+    /// stay; 16 where there is one word less.
+    fn compact(&mut self, name: &str, file: &[u8], form: &[u64]) -> Done {
+        let made = counts(file[1].into(), form.len() as u64);
+        for (length, expected, written) in [
+            (form.len(), made, form),
+            (form.len() + 5, made, form),
+            (form.len() - 1, refused(16, 0, 0), &[]),
+        ] {
+            self.compact_in(name, file, length, expected, written)?;
+        }
+        Ok(())
+    }
+
+    fn compact_in(
+        &mut self,
+        name: &str,
+        file: &[u8],
+        length: usize,
+        expected: u64,
+        written: &[u64],
+    ) -> Done {
+        self.count += 1;
+        let mut room = Lent::new(length, || 0x7777);
+        let after = room.after(written);
+        let got = self.subject.compact(self.setting, file, room.part());
+        let what = || format!("{name}: compact, {length} words lent");
+        same(what, expected, got)?;
+        room.check(what, &after)
+    }
+
+    /// Tables over a form, as the table call gives them for this file.
+    fn compact_tables(&mut self, name: &str, form: &[u64], file: &[u8]) -> Done {
+        let needed = self.subject.needed(self.setting, file);
+        let count = (needed & 0xffff_ffff) as usize;
+        let (mut words, mut bits) = (vec![0; count], vec![0; count.div_ceil(8)]);
+        self.subject
+            .tables(self.setting, file, &mut words, &mut bits);
+        let bytes = bits.len();
+        for (length, bytes, expected) in [
+            (count, bytes, needed),
+            (count + 2, bytes + 2, needed),
+            (count.wrapping_sub(1), bytes, refused(16, 0, 0)),
+            (count.wrapping_sub(1), 0, refused(16, 0, 0)),
+            (count, bytes.wrapping_sub(1), refused(18, 0, 0)),
+        ] {
+            if length == usize::MAX || bytes == usize::MAX {
+                continue;
+            }
+            let whole = expected == needed;
+            let given = (
+                if whole { &words[..] } else { &[] },
+                if whole { &bits[..] } else { &[] },
+            );
+            self.form_tables(name, form, (length, bytes), expected, given)?;
+        }
+        Ok(())
+    }
+
+    fn form_tables(
+        &mut self,
+        name: &str,
+        form: &[u64],
+        (length, bytes): (usize, usize),
+        expected: u64,
+        (words, bits): (&[u64], &[u8]),
+    ) -> Done {
+        self.count += 1;
+        let mut room = Lent::new(length, || 0x7777);
+        let mut bit_room = Lent::new(bytes, || 0x77);
+        let after = (room.after(words), bit_room.after(bits));
+        let got = (self.subject).compact_tables(self.setting, form, room.part(), bit_room.part());
+        let what = || format!("{name}: compact_tables, {length} words, {bytes} bytes");
+        same(what, expected, got)?;
+        room.check(what, &after.0)?;
+        bit_room.check(what, &after.1)
+    }
+
+    /// A trace over a form and the pair rig's tables.
+    fn form_trace(
+        &mut self,
+        name: &str,
+        form: &[u64],
+        (start, arrival, address): (u8, u8, u64),
+        room: usize,
+        expected: u64,
+        passed: &[u8],
+    ) -> Done {
+        self.count += 1;
+        let mut lent = Lent::new(room, || 0x77);
+        let after = lent.after(passed);
+        let got = self.subject.compact_trace(
+            self.setting,
+            form,
+            &PAIR_WORDS,
+            &PAIR_BITS,
+            start,
+            arrival,
+            address,
+            lent.part(),
+        );
+        let what = || format!("{name}: compact_trace from {start}, {arrival} to {address:016x}h");
+        same(what, expected, got)?;
+        lent.check(what, &after)
+    }
+
+    /// A list of requests over a form and these words and bits.
+    fn form_list(
+        &mut self,
+        name: &str,
+        form: &[u64],
+        (words, bits): (&[u64], &[u8]),
+        requests: &[u64],
+        room: usize,
+        expected: Result<&[u64], u64>,
+    ) -> Done {
+        self.count += 1;
+        let mut lent = Lent::new(room, || 0x7777);
+        let after = lent.after(expected.unwrap_or(&[]));
+        let answer = expected.map_or_else(|refusal| refusal, |answers| answers.len() as u64);
+        let got =
+            self.subject
+                .compact_trace_many(self.setting, form, words, bits, requests, lent.part());
+        let what = || format!("{name}: compact_trace_many, {requests:x?}, room for {room}");
+        same(what, answer, got)?;
+        lent.check(what, &after)
+    }
+
+    /// The three calls over a form refuse, and write nothing.
+    fn form_refused(&mut self, name: &str, form: &[u64], expected: u64) -> Done {
+        for lengths in [(0, 0), (9, 2)] {
+            self.form_tables(name, form, lengths, expected, (&[], &[]))?;
+        }
+        for request in [(0, 255, B1), (255, 7, 0)] {
+            self.form_trace(name, form, request, 64, expected, &[])?;
+            self.form_trace(name, form, request, 0, expected, &[])?;
+        }
+        let tables = (&PAIR_WORDS[..], &PAIR_BITS[..]);
+        self.form_list(name, form, tables, &[255, B1], 1, Err(expected))?;
+        self.form_list(name, form, (&[], &[]), &[255, B1], 0, Err(expected))?;
+        self.form_list(name, form, (&[], &[]), &[], 0, Err(expected))
+    }
+
+    /// The pair rig with another word in its form.
+    fn pair_form_with(at: usize, word: u64) -> Vec<u64> {
+        let mut form = PAIR_FORM.to_vec();
+        form[at] = word;
+        form
+    }
+
+    fn pair_form(&mut self) -> Done {
+        self.compact("pair", &pair_rig(), &PAIR_FORM)?;
+        self.compact("mixed pair", &mixed_pair().bytes(), &PAIR_FORM)?;
+        self.compact_tables("pair", &PAIR_FORM, &pair_rig())?;
+        // What is ignored, and the configurable bit of expander 1.
+        let noisy = pair_bytes(|file| {
+            file[21] = 0xee;
+            file[82] = 0x82;
+            file[160] = 1;
+            file[306] = 0x50;
+            file[314] = 9;
+        });
+        self.compact("pair with ignored bytes", &noisy, &PAIR_FORM)?;
+        // A drive's attached phy is kept; type 3; an empty phy keeps its attribute.
+        let drive = pair_with(|rig| rig[0].phys[1].attached_phy = 0xff);
+        let form = Test::pair_form_with(5, 0x201f_e000_0000_0000);
+        self.compact("pair, phy 255 of drive A1", &drive, &form)?;
+        self.compact_tables("pair, phy 255 of drive A1", &form, &drive)?;
+        let fanout = pair_with(|rig| rig[1].phys[0].device_type = FANOUT_EXPANDER);
+        let form = Test::pair_form_with(9, 0x6800_0000_0000_0000);
+        self.compact("pair, type 3", &fanout, &form)?;
+        self.compact_tables("pair, type 3", &form, &fanout)?;
+        let empty = pair_with(|rig| rig[1].phys[2].attribute = SUBTRACTIVE);
+        let form = Test::pair_form_with(13, 0x0800_0000_0000_0000);
+        self.compact("pair, phy 2 subtractive", &empty, &form)?;
+        self.compact_tables("pair, phy 2 subtractive", &form, &empty)?;
+        // R of an expander without table phys, and a vacant phy, of any result.
+        let other = pair_with(|rig| {
+            rig[1].route_indexes = 0xfffe;
+            rig[1].phys[2].result = 0x16;
+        });
+        let mut form = Test::pair_form_with(7, 0xfffe_0300_0000_0000);
+        form[13] = 0x8000_0000_0000_0000;
+        self.compact("pair, R FFFEh and vacant", &other, &form)?;
+        self.compact_tables("pair, R FFFEh and vacant", &form, &other)
+    }
+
+    /// Numbers of attached expanders and phys: the third and the sixth expander are
+    /// joined by phys 1 and 2.
+    fn far_form(&mut self) -> Done {
+        let mut rig: Vec<Expander> = (0..6)
+            .map(|i| match i {
+                0 => Expander::new(e(0), 9, true),
+                _ => Expander::new(e(i), 0, true).link(SUBTRACTIVE, e(0), i as u8 - 1),
+            })
+            .collect();
+        for leaf in 1..=4 {
+            rig[0] = rig[0].clone().link(TABLE, e(leaf), 0);
+        }
+        rig[5].phys.clear();
+        rig[5] = rig[5]
+            .clone()
+            .vacant(1)
+            .empty(DIRECT)
+            .link(SUBTRACTIVE, e(2), 1);
+        rig[2] = rig[2].clone().link(TABLE, e(5), 2);
+        rig[2].route_indexes = 1;
+        let mut form = vec![e(0), 0x0009_0400_0000_0000];
+        for leaf in 1..=4 {
+            // type 2, table, expander, phy 0
+            form.extend([e(leaf), 0x5000_0000_0000_0000 + ((leaf as u64) << 53)]);
+        }
+        for leaf in 1..=4 {
+            let general = match leaf {
+                2 => 0x0001_0200_0000_0000,
+                _ => 0x0000_0100_0000_0000,
+            };
+            // type 2, subtractive, expander 0, phy of the hub
+            let up = 0x4800_0000_0000_0000 + ((leaf as u64 - 1) << 45);
+            form.extend([e(leaf), general, e(0), up]);
+            if leaf == 2 {
+                // type 2, table, expander 5, phy 2
+                form.extend([e(5), 0x50a0_4000_0000_0000]);
+            }
+        }
+        form.extend([e(5), 0x0000_0300_0000_0000]);
+        form.extend([0, 0x8000_0000_0000_0000, 0, 0]);
+        // type 2, subtractive, expander 2, phy 1
+        form.extend([e(2), 0x4840_2000_0000_0000]);
+        let bytes = file(rig);
+        self.compact("six expanders", &bytes, &form)?;
+        self.compact_tables("six expanders", &form, &bytes)
+    }
+
+    /// Words that are the form of no accepted domain.
+    fn form_refusals(&mut self) -> Done {
+        let no = refused(1, 0, 0);
+        for length in 0..14 {
+            self.form_refused(&format!("cut to {length}"), &PAIR_FORM[..length], no)?;
+        }
+        for more in [&[0][..], &[0, 0], &[e(1), 0]] {
+            let longer = [&PAIR_FORM[..], more].concat();
+            self.form_refused("words too many", &longer, no)?;
+        }
+        for (name, at, word) in [
+            ("expander address 0", 0, 0),
+            ("expander address used", 0, X20),
+            ("a bit below R and phys", 1, PAIR_FORM[1] + 1),
+            (
+                "the topmost bit below R and phys",
+                1,
+                PAIR_FORM[1] + (1 << 39),
+            ),
+            ("R in the low bits", 1, 0x0000_0200_0000_0004),
+            ("R too small", 1, 0x0001_0200_0000_0000),
+            ("no phys", 1, 0x0004_0000_0000_0000),
+            ("a phy too many", 1, 0x0004_0300_0000_0000),
+            ("far end missing", 2, FF),
+            ("attached expander left zero", 3, 0x5000_0000_0000_0000),
+            ("another attached expander", 3, 0x5040_0000_0000_0000),
+            ("another attached phy", 3, 0x5020_2000_0000_0000),
+            ("direct to an expander", 3, 0x4020_0000_0000_0000),
+            ("attribute 3", 3, 0x5820_0000_0000_0000),
+            ("vacant and more", 3, 0xd020_0000_0000_0000),
+            ("a bit below", 3, 0x5020_0000_0000_0001),
+            ("the topmost bit below", 3, 0x5020_1000_0000_0000),
+            ("a drive at address 0", 4, 0),
+            ("a drive with an expander's address", 4, X20),
+            ("a drive at two expanders", 4, B1),
+            ("a drive's attached expander", 5, 0x2020_0000_0000_0000),
+            ("vacant with an address", 5, 0x8000_0000_0000_0000),
+            ("empty with an address", 5, 0),
+            ("an empty phy's address kept", 12, A1),
+            (
+                "an empty phy's attached expander",
+                13,
+                0x0020_0000_0000_0000,
+            ),
+            ("an empty phy's attached phy", 13, 0x0000_2000_0000_0000),
+            ("an empty phy's attribute 3", 13, 0x1800_0000_0000_0000),
+            ("a vacant phy's attribute", 13, 0x8800_0000_0000_0000),
+            ("a vacant phy's type", 13, 0xa000_0000_0000_0000),
+        ] {
+            self.form_refused(name, &Test::pair_form_with(at, word), no)?;
+        }
+        // Loops, islands and lists too long are no forms either; cause 10 is not in it.
+        let island = [&PAIR_FORM[..], &[FF, 0x0000_0100_0000_0000, 0, 0]].concat();
+        self.form_refused("an island", &island, no)?;
+        let file = pair_with(|rig| rig[0].configurable = false);
+        self.compact_in("not configurable", &file, 14, refused(10, 0, 0), &[])?;
+        self.compact_in("cut", &pair_rig()[..333], 14, refused(1, 1, 2), &[])?;
+        self.compact_in(
+            "R 1",
+            &pair_with(|rig| rig[0].route_indexes = 1),
+            14,
+            refused(14, 0, 0),
+            &[],
+        )?;
+        let alone = [FF, 0x0000_0100_0000_0000, 0, 0x8000_0000_0000_0000];
+        self.form_tables("one vacant phy", &alone, (0, 0), 0, (&[], &[]))?;
+        let longest = vec![0x8000_0000_0000_0000; 20_000];
+        self.form_refused("20,000 words", &longest, no)?;
+        // 65 expanders.
+        let many: Vec<u64> = (1..=65)
+            .flat_map(|i| [i, 0x0000_0100_0000_0000, 0, 0])
+            .collect();
+        self.form_refused("65 expanders", &many, no)
+    }
+
+    fn form_settings(&mut self) -> Done {
+        for (setting, file, form) in [
+            (course(1, 3, 2), refused(3, 0, 0), refused(1, 0, 0)),
+            (course(2, 2, 2), refused(3, 1, 0), refused(1, 0, 0)),
+            (course(2, 3, 1), refused(23, 0, 0), refused(1, 0, 0)),
+            (course(0, 3, 2), refused(22, 0, 0), refused(22, 0, 0)),
+            (course(2, 3, 65), refused(22, 0, 0), refused(22, 0, 0)),
+            (WIDEST + (1 << 24), refused(22, 0, 0), refused(22, 0, 0)),
+        ] {
+            self.setting = setting;
+            self.compact_in("pair in a course", &pair_rig(), 14, file, &[])?;
+            self.form_refused("pair in a course", &PAIR_FORM, form)?;
+        }
+        // 22 before 1.
+        self.form_refused("no words", &[], refused(22, 0, 0))?;
+        self.setting = course(2, 3, 2);
+        self.compact("pair in a course", &pair_rig(), &PAIR_FORM)?;
+        self.compact_tables("pair in a course", &PAIR_FORM, &pair_rig())?;
+        self.setting = WIDEST;
+        Ok(())
+    }
+
+    fn form_traces(&mut self) -> Done {
+        for (request, room, expected, passed) in [
+            ((0, 255, B1), 2, arrived(1, 1, 2), &[0, 1][..]),
+            ((1, 1, A1), 5, arrived(0, 1, 2), &[1, 0]),
+            ((1, 255, X10), 2, arrived(0, 255, 2), &[1, 0]),
+            ((1, 255, FF), 2, no_destination(0, 2), &[1, 0]),
+            ((1, 1, B1), 2, bad_destination(1, 1), &[1]),
+            // 15, 16, 17
+            ((2, 255, 0), 0, refused(15, 0, 0), &[]),
+            ((1, 2, 0), 0, refused(15, 0, 0), &[]),
+            ((0, 0, B1), 2, refused(15, 0, 0), &[]),
+            ((0, 255, 0), 1, refused(16, 0, 0), &[]),
+            ((0, 255, 0), 2, refused(17, 0, 0), &[]),
+        ] {
+            self.form_trace("pair", &PAIR_FORM, request, room, expected, passed)?;
+        }
+        // 18 after 16, before 17.
+        self.count += 2;
+        for (words, expected) in [(3, refused(16, 0, 0)), (4, refused(18, 0, 0))] {
+            let words = &PAIR_WORDS[..words];
+            let got = (self.subject).compact_trace(
+                self.setting,
+                &PAIR_FORM,
+                words,
+                &[],
+                0,
+                255,
+                0,
+                &mut [0; 2],
+            );
+            same(
+                || "pair: compact_trace without disable bits".into(),
+                expected,
+                got,
+            )?;
+        }
+        Ok(())
+    }
+
+    /// Requests are two words; an odd last word is none. 15 and 17 are answers.
+    fn form_lists(&mut self) -> Done {
+        let tables = (&PAIR_WORDS[..], &PAIR_BITS[..]);
+        let list = [
+            (0x00ff, B1, arrived(1, 1, 2)),
+            (0x0101, A1, arrived(0, 1, 2)),
+            (0x01ff, X10, arrived(0, 255, 2)),
+            (0x01ff, FF, no_destination(0, 2)),
+            (0x0101, B1, bad_destination(1, 1)),
+            (0x02ff, B1, refused(15, 0, 0)),
+            (0x0102, 0, refused(15, 0, 0)),
+            (0x0000, B1, refused(15, 0, 0)),
+            (0x0001_00ff, B1, refused(15, 0, 0)),
+            (0x0001_0000_0000_00ff, 0, refused(15, 0, 0)),
+            (u64::MAX, B1, refused(15, 0, 0)),
+            (0x00ff, 0, refused(17, 0, 0)),
+            (0x00ff, B1, arrived(1, 1, 2)),
+        ];
+        let requests: Vec<u64> = list.iter().flat_map(|each| [each.0, each.1]).collect();
+        let answers: Vec<u64> = list.iter().map(|each| each.2).collect();
+        let odd = [&requests[..], &[0x00ff]].concat();
+        let (form, none) = (&PAIR_FORM, (&[][..], &[][..]));
+        for count in 0..=list.len() {
+            let requests = &requests[..2 * count];
+            self.form_list("pair", form, tables, requests, count, Ok(&answers[..count]))?;
+        }
+        self.form_list("pair", form, tables, &odd, 13, Ok(&answers))?;
+        self.form_list("pair", form, tables, &odd, 20, Ok(&answers))?;
+        self.form_list("pair", form, tables, &odd[..1], 0, Ok(&[]))?;
+        for (tables, requests, room, cause) in [
+            (tables, &requests[..], 12, 16),
+            (tables, &odd, 12, 16),
+            (none, &requests, 13, 16),
+            ((&PAIR_WORDS[..3], &PAIR_BITS), &requests, 13, 16),
+            ((&PAIR_WORDS[..3], &[]), &[], 0, 16),
+            ((&PAIR_WORDS, &[]), &requests, 12, 16),
+            ((&PAIR_WORDS, &[]), &requests, 13, 18),
+            ((&PAIR_WORDS, &[]), &[], 0, 18),
+        ] {
+            let refused = Err(refused(cause, 0, 0));
+            self.form_list("pair", form, tables, requests, room, refused)?;
+        }
+        // With entry 0 switched off.
+        let off = (&PAIR_WORDS[..], &[0xf0][..]);
+        let answers = [no_destination(0, 1)];
+        self.form_list(
+            "pair, switched off",
+            form,
+            off,
+            &requests[..2],
+            1,
+            Ok(&answers),
+        )
+    }
+
+    fn largest_form(&mut self) -> Done {
+        for (name, file) in [("star", full_star(DIRECT)), ("tables", full_star(TABLE))] {
+            self.count += 1;
+            let mut form = vec![0; 16_512];
+            let answer = self.subject.compact(WIDEST, &file, &mut form);
+            same(|| format!("{name}: compact"), counts(64, 16_512), answer)?;
+            self.compact_tables(name, &form, &file)?;
+            let longer = [&form[..], &[0]].concat();
+            self.form_refused(name, &form[..16_511], refused(1, 0, 0))?;
+            self.form_refused(name, &longer, refused(1, 0, 0))?;
+        }
+        Ok(())
     }
 
     /// A shelf of four phys: table, vacant, other, table; R is 2.
