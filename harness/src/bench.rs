@@ -8,6 +8,8 @@ use crate::calls::{Archive, Calls};
 use crate::fast::Fast;
 use crate::generate::WIDEST;
 use crate::layout::*;
+use crate::random::Random;
+use crate::reference::{self, Attached};
 use crate::stack;
 use crate::vectors::{self, d, e, full_star};
 
@@ -165,6 +167,148 @@ pub fn run() {
         stack::used(|| 0)
     );
     println!("The fast version takes working memory from the allocator in each call, besides.");
+    println!();
+    many(&cases[..3]);
+}
+
+/// Requests that are traced one by one over the file, and as one list over its form.
+const REQUESTS: usize = 1_000;
+
+/// Traces over the file beside traces over its compact form.
+fn many(cases: &[Case]) {
+    println!(
+        "{:<36} {:<14} {:>14} {:>14} {:>8} {:>15} {:>15}",
+        "input", "traced", "over the file", "over the form", "ratio", "file stack", "form stack"
+    );
+    for case in cases {
+        let list = Requests::of(case);
+        let (file, form) = (&case.file[..], &list.form[..]);
+        println!("{} ({} words of form)", case.name, form.len());
+        let row = |what: &str, file: Cost, form: Cost| {
+            println!(
+                "{:<36} {:<14} {:>14} {:>14} {:>8.3} {:>15} {:>15}",
+                "",
+                what,
+                show(file.time),
+                show(form.time),
+                form.time.as_secs_f64() / file.time.as_secs_f64(),
+                file.stack,
+                form.stack
+            );
+        };
+        let (start, arrival) = case.start;
+        let mut passed = [0; 64];
+        let one = measure(|| list.over_file(black_box(file), start, arrival, case.address));
+        let compact = measure(|| {
+            Archive.compact_trace(
+                WIDEST,
+                black_box(form),
+                &list.words,
+                &list.bits,
+                start,
+                arrival,
+                case.address,
+                &mut passed,
+            )
+        });
+        row("one request", one, compact);
+        let each = measure(|| list.answers_over_file(black_box(file)).len() as u64);
+        let mut answers = vec![0; REQUESTS];
+        let at_once = measure(|| list.over_form(black_box(form), &mut answers));
+        row("1,000 requests", each, at_once);
+        let mut room = vec![0; form.len()];
+        let judge = measure(|| Archive.judge(WIDEST, black_box(file)));
+        let made = measure(|| Archive.compact(WIDEST, black_box(file), &mut room));
+        row("judge, compact", judge, made);
+    }
+    println!(
+        "Of 1,000 requests, from any start to any address of the input, the time is that of all: \
+         1,000 calls over the file, one over the form."
+    );
+}
+
+/// A list of requests, from any expander or end device to any address of a file.
+struct Requests {
+    form: Vec<u64>,
+    words: Vec<u64>,
+    bits: Vec<u8>,
+    requests: Vec<u64>,
+}
+
+impl Requests {
+    fn of(case: &Case) -> Requests {
+        let file = &case.file[..];
+        let mut form = vec![0; metzurgo::LONGEST_FORM];
+        let made = Archive.compact(WIDEST, file, &mut form);
+        form.truncate((made & 0xffff_ffff) as usize);
+        let mut words = vec![0; words_needed(case)];
+        let mut bits = vec![0; words.len().div_ceil(8)];
+        Archive.tables(WIDEST, file, &mut words, &mut bits);
+        let (starts, addresses) = ends(file);
+        let mut random = Random::new(1);
+        let requests = (0..REQUESTS)
+            .flat_map(|_| [random.pick(&starts), random.pick(&addresses)])
+            .collect();
+        let list = Requests {
+            form,
+            words,
+            bits,
+            requests,
+        };
+        let mut answers = vec![0; REQUESTS];
+        let counted = list.over_form(&list.form, &mut answers);
+        if counted != REQUESTS as u64 || answers != list.answers_over_file(file) {
+            fail(case, "compact_trace_many");
+        }
+        list
+    }
+
+    fn over_file(&self, file: &[u8], start: u8, arrival: u8, address: u64) -> u64 {
+        let mut passed = [0; 64];
+        Archive.trace(
+            WIDEST,
+            file,
+            &self.words,
+            &self.bits,
+            start,
+            arrival,
+            address,
+            &mut passed,
+        )
+    }
+
+    fn answers_over_file(&self, file: &[u8]) -> Vec<u64> {
+        self.requests
+            .chunks_exact(2)
+            .map(|request| {
+                let [start, arrival] = (request[0] as u16).to_be_bytes();
+                self.over_file(file, start, arrival, request[1])
+            })
+            .collect()
+    }
+
+    fn over_form(&self, form: &[u64], answers: &mut [u64]) -> u64 {
+        let (words, bits) = (&self.words, &self.bits);
+        Archive.compact_trace_many(WIDEST, form, words, bits, &self.requests, answers)
+    }
+}
+
+/// Every start of a file, as the first word of a request, and every address.
+fn ends(file: &[u8]) -> (Vec<u64>, Vec<u64>) {
+    let judged = reference::judged(WIDEST, file).ok().expect("accepted");
+    let (mut starts, mut addresses) = (Vec::new(), Vec::new());
+    for (&number, expander) in &judged.domain.expanders {
+        let first = u64::from(number) * 256;
+        starts.push(first + 255);
+        addresses.push(expander.address);
+        for (&phy, fields) in &expander.phys {
+            if let Attached::EndDevice(address) = fields.attached {
+                starts.push(first + u64::from(phy));
+                addresses.push(address);
+            }
+        }
+    }
+    (starts, addresses)
 }
 
 fn words_needed(case: &Case) -> usize {

@@ -15,11 +15,13 @@ Needed(tables=1, words=4)
 """
 
 from .answers import Refusal, Setting, WIDEST
+from .form import Form
 from .library import Library, LibraryMissing, find_library
 from .rig import Rig
 from .shelf import Shelf
 
 __all__ = [
+    "Form",
     "Library",
     "LibraryMissing",
     "Refusal",

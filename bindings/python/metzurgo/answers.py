@@ -11,7 +11,7 @@ Traceback (most recent call last):
 metzurgo.answers.Refusal: refused 14 3 5
 """
 
-from typing import List, NamedTuple, Optional
+from typing import Any, List, NamedTuple, Optional
 
 REFUSED = 1 << 63
 VACANT = 1 << 62
@@ -132,6 +132,15 @@ class Traced(NamedTuple):
     @property
     def arrived(self) -> bool:
         return self.outcome == 0
+
+    @classmethod
+    def of(cls, answer: int, passed: Any) -> "Traced":
+        """
+        >>> Traced.of(2 << 24 | 1 << 16 | 255 << 8 | 1, [1, 0, 0])
+        Traced(outcome=2, expander=1, phy=255, passed=[1])
+        """
+        end = (answer >> 24, answer >> 16 & 0xFF, answer >> 8 & 0xFF)
+        return cls(*end, list(passed[: answer & 0xFF]))
 
 
 class Step(NamedTuple):

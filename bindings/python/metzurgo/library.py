@@ -8,9 +8,10 @@ the system keeps libraries.
 import ctypes
 import ctypes.util
 import os
+from array import array
 from ctypes import POINTER, c_char_p, c_size_t, c_uint8, c_uint16, c_uint32, c_uint64, c_void_p
 from pathlib import Path
-from typing import Any, List, Optional, Tuple
+from typing import Any, List, Optional, Sequence, Tuple
 
 from .answers import Discovered, General, Needed, Place, Route, Setting, Step, Traced, checked
 
@@ -18,11 +19,13 @@ FILE_NAME = "libmetzurgo.so"
 FRAME = 40  # the bytes of a CONFIGURE ROUTE INFORMATION request
 LONGEST_CARD = 80578  # the bytes of the longest card
 LONGEST_CARD_FILE = 428290  # and of the longest file that is made of a card
+LONGEST_FORM = 16512  # the words of the longest form
 
 _SETTING = [c_uint32]
 _BYTES = [c_char_p, c_size_t]  # read only
 _LENT = [POINTER(c_uint8), c_size_t]
 _WORDS = [POINTER(c_uint64), c_size_t]
+_REQUEST = [c_uint8, c_uint8, c_uint64]  # start, arrival phy, address
 
 # Each call and its parameters. Every answer is a 64-bit number.
 CALLS = {
@@ -32,10 +35,14 @@ CALLS = {
     "metzurgo_needed": _SETTING + _BYTES,
     "metzurgo_word_place": _SETTING + _BYTES + [c_uint64],
     "metzurgo_tables": _SETTING + _BYTES + _WORDS + _LENT,
-    "metzurgo_trace": _SETTING + _BYTES + _WORDS + _LENT + [c_uint8, c_uint8, c_uint64] + _LENT,
-    "metzurgo_step": _SETTING + _BYTES + _WORDS + _LENT + [c_uint8, c_uint8, c_uint64],
+    "metzurgo_trace": _SETTING + _BYTES + _WORDS + _LENT + _REQUEST + _LENT,
+    "metzurgo_step": _SETTING + _BYTES + _WORDS + _LENT + _REQUEST,
     "metzurgo_card_of_file": _SETTING + _BYTES + _LENT,
     "metzurgo_file_of_card": _SETTING + _BYTES + _LENT,
+    "metzurgo_compact": _SETTING + _BYTES + _WORDS,
+    "metzurgo_compact_tables": _SETTING + _WORDS + _WORDS + _LENT,
+    "metzurgo_compact_trace": _SETTING + _WORDS + _WORDS + _LENT + _REQUEST + _LENT,
+    "metzurgo_compact_trace_many": _SETTING + _WORDS + _WORDS + _LENT + _WORDS + _WORDS,
     "metzurgo_write_route": _LENT + [c_uint8, c_uint8, c_uint16, c_uint64, c_uint8],
     "metzurgo_read_route": _BYTES,
     "metzurgo_read_route_address": _BYTES,
@@ -73,6 +80,16 @@ def candidates() -> List[str]:
 def find_library() -> str:
     """The file that is loaded."""
     return candidates()[0]
+
+
+def words_of(words: Sequence[int]) -> Any:
+    """Words as they are lent: those of an array are lent where they are.
+
+    >>> list(words_of([1, 2])), list(words_of(array("Q", [3])))
+    ([1, 2], [3])
+    """
+    lent = c_uint64 * len(words)
+    return lent.from_buffer(words) if isinstance(words, array) and words else lent(*words)
 
 
 def counted(file: bytes) -> int:
@@ -162,8 +179,7 @@ class Library:
                 len(passed),
             )
         )
-        count = answer & 0xFF
-        return Traced(answer >> 24, answer >> 16 & 0xFF, answer >> 8 & 0xFF, list(passed[:count]))
+        return Traced.of(answer, passed)
 
     def step(
         self,
@@ -200,6 +216,51 @@ class Library:
         call = self._calls.metzurgo_file_of_card
         count = checked(call(setting.packed(), card, len(card), room, len(room)))
         return bytes(room[:count])
+
+    # Compact forms. Forms and requests are words, as words_of takes them.
+
+    def compact(self, setting: Setting, file: bytes) -> List[int]:
+        """The form of a domain file."""
+        room = (c_uint64 * LONGEST_FORM)()
+        call = self._calls.metzurgo_compact
+        answer = checked(call(setting.packed(), file, len(file), room, len(room)))
+        return room[: answer & 0xFFFFFFFF]
+
+    def compact_tables(self, setting: Setting, form: Sequence[int], count: int) -> Tuple[Any, Any]:
+        """The words of all tables over a form, so many of them, and their disable bits."""
+        words = (c_uint64 * count)()
+        bits = (c_uint8 * ((count + 7) // 8))()
+        lent = (words_of(form), len(form), words, len(words), bits, len(bits))
+        checked(self._calls.metzurgo_compact_tables(setting.packed(), *lent))
+        return words, bits
+
+    def compact_trace(
+        self,
+        setting: Setting,
+        form: Sequence[int],
+        words: Any,
+        bits: Any,
+        start: int,
+        arrival: int,
+        address: int,
+        expanders: int,
+    ) -> Traced:
+        """Follows a request over a form of so many expanders, and over words and bits."""
+        passed = (c_uint8 * expanders)()
+        lent = (words_of(form), len(form), words, len(words), bits, len(bits))
+        request = (start, arrival, address, passed, len(passed))
+        answer = self._calls.metzurgo_compact_trace(setting.packed(), *lent, *request)
+        return Traced.of(checked(answer), passed)
+
+    def compact_trace_many(
+        self, setting: Setting, form: Sequence[int], words: Any, bits: Any, requests: Sequence[int]
+    ) -> Any:
+        """The answers to a list of requests, two words each."""
+        answers = (c_uint64 * (len(requests) // 2))()
+        lent = (words_of(form), len(form), words, len(words), bits, len(bits))
+        given = (words_of(requests), len(requests), answers, len(answers))
+        checked(self._calls.metzurgo_compact_trace_many(setting.packed(), *lent, *given))
+        return answers
 
     # Calls on one frame.
 

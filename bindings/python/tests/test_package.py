@@ -12,12 +12,14 @@ import shutil
 import subprocess
 import sys
 import unittest
+from array import array
 from unittest import mock
 
 import metzurgo
 from metzurgo import library, manual
 from metzurgo.__main__ import make_parser
 from metzurgo.answers import OUTCOMES, Refusal, Setting
+from metzurgo.form import Form, first_word
 from metzurgo.rig import Rig
 
 from .support import ROOT, FolderTest, samples
@@ -140,7 +142,8 @@ def stated(text):
         if match:
             setting, call = Setting(*map(int, match.groups()[:3])), match[4]
         answer = re.search(r"^# answer: (.*)$", rest, re.M)[1]
-        written = " ".join(re.findall(r"^# (?:words|passed|card): (.*)$", rest, re.M))
+        kinds = "words|passed|card|form|answers"
+        written = " ".join(re.findall(rf"^# (?:{kinds}): (.*)$", rest, re.M))
         yield setting, call, answer, written.split()
 
 
@@ -157,6 +160,23 @@ def answers(rig, call):
     match = re.fullmatch(r"file_of_card ([0-9a-f]+)", call)
     if match:
         return f"bytes {len(Rig.of_card(bytes.fromhex(match[1])).file)}", []
+    if call == "compact":
+        form = Form.of(rig)
+        words = [f"{word:016x}" for word in form.words]
+        return f"expanders {form.expanders} words {len(form)}", words
+    match = re.fullmatch(r"compact_tables ([0-9a-f]+) ([0-9]+)", call)
+    if match:
+        words = [int(word, 16) for word in re.findall("." * 16, match[1])]
+        form = Form(words, rig.setting)
+        return f"tables {form.needed.tables} entries {form.needed.words}", []
+    match = re.fullmatch(r"compact_trace_many((?: [0-9]+\.[0-9]+\.[0-9a-f]{16})*)", call)
+    if match:
+        parts = [request.split(".") for request in match[1].split()]
+        words = array("Q")
+        for start, arrival, address in parts:
+            words.extend((first_word(int(start), int(arrival)), int(address, 16)))
+        found = Form.of(rig).answers(rig.tables(), words)
+        return f"requests {len(parts)}", [f"{answer:016x}" for answer in found]
     match = re.fullmatch(r"trace ([0-9]+) ([0-9]+) ([0-9a-f]{16})", call)
     if match:
         request = int(match[1]), int(match[2]), int(match[3], 16)

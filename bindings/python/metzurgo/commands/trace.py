@@ -4,7 +4,7 @@ import argparse
 import re
 from typing import Any, Dict, List, Tuple
 
-from .. import shared
+from .. import matrix, shared
 from ..answers import NO_PHY, OUTCOMES, RULES, Traced
 from ..requests import address_of, start_of
 from ..rig import Passed, Rig, Table, Tables, address_text
@@ -15,7 +15,24 @@ EXAMPLE = """\
   arrived at B1 by phy 1 of bottom, 2 expanders passed
   top     (iii) entry 0 of phy 0 has the address: on by phy 0 to phy 0 of bottom
   bottom  (ii) phy 1 has the address attached: arrived
+  $ metzurgo trace --all samples/pair.rig
+          top  bottom  A1  B1
+  top       1       2   1   2
+  bottom    2       1   2   1
+  A1        1       2   x   2
+  B1        2       1   2   x
+  16 requests: 14 arrived, 0 NO DESTINATION, 2 BAD DESTINATION
 """
+
+
+class All(argparse.Action):
+    """--all, with which FROM and TO are left out."""
+
+    def __call__(self, parser: Any, namespace: Any, values: Any, option: Any = None) -> None:
+        setattr(namespace, self.dest, True)
+        for action in parser._actions:
+            if action.dest in ("FROM", "TO"):
+                action.required = False
 
 
 class Alter(argparse.Action):
@@ -34,7 +51,10 @@ def add_parser(subparsers: Any) -> None:
         " each expander passed it says which rule of the standard was used: (i) it has the"
         " address itself, (ii) a phy has it attached, (iii) a table has it among its entries,"
         " (iv) its subtractive phy, (v) none of these. --set, --disable and --enable alter"
-        " entries before, in the order of the command line.",
+        " entries before, in the order of the command line. With --all it follows every request"
+        " of the rig and prints a line for each start: a number where the request arrived, the"
+        " expanders passed; - for NO DESTINATION; x for BAD DESTINATION, as where a drive asks"
+        " for itself. The status is then 0 where all other requests arrived.",
         EXAMPLE,
     )
     shared.add_rig(parser)
@@ -44,6 +64,14 @@ def add_parser(subparsers: Any) -> None:
         " or EXPANDER.PHY; by name or address",
     )
     parser.add_argument("TO", help="the address asked for, or the name of who has it")
+    parser.add_argument(
+        "--all",
+        action=All,
+        nargs=0,
+        default=False,
+        help="follow all requests, from every expander and every phy attached to a drive to every"
+        " expander and drive; FROM and TO are left out",
+    )
     parser.add_argument(
         "--set",
         action=Alter,
@@ -59,10 +87,14 @@ def add_parser(subparsers: Any) -> None:
 
 
 def run(args: argparse.Namespace) -> int:
+    if args.all and args.FROM is not None:
+        raise shared.CommandError("with --all there is no FROM and no TO")
     rig = shared.load(args)
     tables = shared.tables_of(rig)
     for option, value in args.alter:
         alter(rig, tables, option, value)
+    if args.all:
+        return matrix.show(rig, tables, args.json)
     start, arrival = start_of(rig, args.FROM)
     address = address_of(rig, args.TO)
     request = (tables, start, arrival, address)
