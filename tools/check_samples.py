@@ -25,7 +25,7 @@ sys.path.insert(0, str(ROOT / "bindings/python"))
 from metzurgo import rigtext  # noqa: E402
 
 NUMBERS = [*range(1, 13), *range(14, 20), 22, 23]  # 13 is withdrawn
-WRITTEN = ("words", "bits", "passed", "card")
+WRITTEN = ("words", "bits", "passed", "card", "form", "answers")
 KEYS = ("shows", "call", "answer", *WRITTEN, "repair", "repaired call", "repaired answer")
 
 

@@ -1,14 +1,13 @@
 """Tests of compact forms, and of all requests of a rig (trace --all)."""
 
 import io
+import itertools
 import json
-import os
-import pty
 import sys
 import unittest
 from unittest import mock
 
-from metzurgo import PAIR, Form, Rig, Setting
+from metzurgo import PAIR, Form, Rig, Setting, matrix
 from metzurgo.answers import NO_PHY, OUTCOMES, Refusal
 from metzurgo.form import End, first_word
 from metzurgo.library import library
@@ -236,20 +235,21 @@ class All(FolderTest):
 
     def test_progress(self):
         """A line on a terminal counts the starts where it takes longer than a second."""
-        master, slave = pty.openpty()
-        clock = iter(range(1000))
-        with os.fdopen(slave, "w") as err, mock.patch.object(sys, "stderr", err):
-            with mock.patch("metzurgo.shared.time.monotonic", side_effect=lambda: next(clock)):
+        clock = itertools.count()
+        with mock.patch("metzurgo.shared.time.monotonic", side_effect=lambda: next(clock)):
+            with mock.patch.object(sys, "stderr", Terminal()) as err:
                 with mock.patch.object(sys, "stdout", io.StringIO()) as out:
-                    from metzurgo import matrix
-
                     rig = Rig.load(PAIR_RIG)
                     self.assertEqual(0, matrix.show(rig, rig.tables(), False))
-            err.write("end\n")
-        shown = os.read(master, 1000).decode()
-        os.close(master)
-        self.assertIn("starts 3 of 4", shown)
+        self.assertIn("\rstarts 3 of 4\r", err.getvalue())
         self.assertEqual(run("trace", "--all", PAIR_RIG).out, out.getvalue())
+
+
+class Terminal(io.StringIO):
+    """What is written to a terminal."""
+
+    def isatty(self):
+        return True
 
 
 class Calls(unittest.TestCase):
