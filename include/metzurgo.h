@@ -417,7 +417,7 @@ uint64_t metzurgo_compact_trace_many(uint32_t setting, const uint64_t *form,
  * arrival exceeds 255.
  */
 #define METZURGO_REQUEST(start, arrival)                                      \
-    ((uint64_t)(start) > 255 || (uint64_t)(arrival) > 255                     \
+    (((uint64_t)(start) | (uint64_t)(arrival)) >> 8 != 0                      \
          ? (uint64_t)65536                                                    \
          : (uint64_t)(start) << 8 | (uint64_t)(arrival))
 

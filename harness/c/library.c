@@ -1,6 +1,7 @@
 /*
- * The library as programs of a lab use it: judges a domain file, fills its tables
- * and follows requests step by step.
+ * The library as programs of a lab use it: judges a domain file, fills its tables,
+ * follows requests step by step, and traces them again in one list over the file's
+ * compact form.
  *
  *     cc library.c $(pkg-config --cflags --libs metzurgo) -o library
  *     library FILE        prints the tables and the way of each request
@@ -15,6 +16,7 @@
 #include <string.h>
 
 #define COURSE METZURGO_WIDEST
+#define MOST 1000 /* requests in the list */
 
 struct rig {
     uint8_t file[600000];
@@ -27,6 +29,12 @@ struct rig {
 };
 
 static struct rig rig;
+
+/* The requests that were followed, two words each, and the end of each. */
+static struct {
+    uint64_t requests[2 * MOST], ends[MOST];
+    size_t count;
+} list;
 
 static void fail(const char *what)
 {
@@ -98,6 +106,11 @@ static void follow(uint8_t start, uint64_t address)
         metzurgo_trace(COURSE, rig.file, rig.size, rig.words, rig.word_count,
                        rig.bits, rig.bit_bytes, start, 255, address, passed,
                        sizeof passed));
+    if (list.count == MOST)
+        fail("there are more requests than the list has room for");
+    list.requests[2 * list.count] = METZURGO_REQUEST(start, 255);
+    list.requests[2 * list.count + 1] = address;
+    list.ends[list.count++] = end;
     uint8_t expander = start, arrival = 255;
     printf("%u to %016" PRIx64 ":", start, address);
     for (unsigned count = 0; count < (end & 0xff); count++) {
@@ -131,6 +144,38 @@ static void print_refusals(void)
         fail("metzurgo_refusal_text has words for a number without a cause");
 }
 
+/* The file decoded once: its tables and the ends of all requests are the same. */
+static void trace_list(void)
+{
+    static uint64_t form[METZURGO_LONGEST_FORM], ends[MOST];
+    uint64_t made = accepted(
+        metzurgo_compact(COURSE, rig.file, rig.size, form,
+                         METZURGO_LONGEST_FORM));
+    size_t length = (uint32_t)made;
+    if (made >> 32 != rig.expanders)
+        fail("metzurgo_compact counts other expanders than metzurgo_judge");
+    uint64_t *words = calloc(rig.word_count + 1, sizeof *words);
+    uint8_t *bits = calloc(rig.bit_bytes + 1, 1);
+    if (!words || !bits)
+        fail("no memory");
+    accepted(metzurgo_compact_tables(COURSE, form, length, words,
+                                     rig.word_count, bits, rig.bit_bytes));
+    if (memcmp(words, rig.words, rig.word_count * sizeof *words)
+        || memcmp(bits, rig.bits, rig.bit_bytes))
+        fail("the form has other tables than the file");
+    uint64_t count = accepted(
+        metzurgo_compact_trace_many(COURSE, form, length, words,
+                                    rig.word_count, bits, rig.bit_bytes,
+                                    list.requests, 2 * list.count, ends,
+                                    MOST));
+    if (count != list.count || memcmp(ends, list.ends, count * sizeof *ends))
+        fail("the requests end otherwise over the form");
+    printf("%u words of form, %u requests in one list\n", (unsigned)length,
+           (unsigned)count);
+    free(words);
+    free(bits);
+}
+
 int main(int count, char **arguments)
 {
     if (metzurgo_version() != METZURGO_VERSION)
@@ -151,6 +196,7 @@ int main(int count, char **arguments)
                 follow((uint8_t)start, rig.words[k]);
         follow((uint8_t)start, UINT64_C(0x7fffffffffffffff));
     }
+    trace_list();
     free(rig.words);
     free(rig.bits);
     return 0;

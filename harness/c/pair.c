@@ -1,7 +1,8 @@
 /*
  * Runs the pair rig of document 01 through the C interface: prints its route
- * table and some traces, with a route switched off and on among them, and loads the
- * table into a shelf. Exits with 1 where an answer is not the expected one.
+ * table and some traces, with a route switched off and on among them, loads the
+ * table into a shelf, and traces over its compact form. Exits with 1 where an answer
+ * is not the expected one.
  *
  *     cc -o pair pair.c -L<archive directory> -lexports
  */
@@ -88,6 +89,62 @@ static void load_shelf(const uint64_t *words, const uint8_t *bits)
     expect("shelf after these", 0, memcmp(before, shelf, sizeof shelf) != 0);
 }
 
+/* The pair rig as 14 words, and requests over them one by one and in a list. */
+static void compact_form(const uint64_t *words, const uint8_t *bits)
+{
+    const uint64_t no_start = METZURGO_REFUSED + 15 * 65536;
+    const uint64_t expected[14] = {
+        UINT64_C(0x5000000000000010), UINT64_C(0x0004020000000000),
+        UINT64_C(0x5000000000000020), UINT64_C(0x5020000000000000),
+        A1, UINT64_C(0x2000000000000000),
+        UINT64_C(0x5000000000000020), UINT64_C(0x0000030000000000),
+        UINT64_C(0x5000000000000010), UINT64_C(0x4800000000000000),
+        B1, UINT64_C(0x2000000000000000),
+        0, 0,
+    };
+    const uint64_t requests[9] = {
+        METZURGO_REQUEST(0, 255), B1, METZURGO_REQUEST(1, 1), A1,
+        METZURGO_REQUEST(256, 0), B1, METZURGO_REQUEST(1, 255), 0, 7,
+    };
+    uint64_t form[15] = { 0 }, tables[4], answers[5] = { 7, 7, 7, 7, 7 };
+    uint8_t table_bits[1], passed[2];
+
+    form[14] = 7;
+    expect("compact, 13 words", METZURGO_REFUSED + 16 * 65536,
+           metzurgo_compact(WIDEST, pair_rig, sizeof pair_rig, form, 13));
+    expect("compact", (UINT64_C(2) << 32) + 14,
+           metzurgo_compact(WIDEST, pair_rig, sizeof pair_rig, form, 15));
+    for (unsigned k = 0; k < 14; k++)
+        expect("a word of the form", expected[k], form[k]);
+    expect("word after the form", 7, form[14]);
+    expect("compact_tables", (UINT64_C(1) << 32) + 4,
+           metzurgo_compact_tables(WIDEST, form, 14, tables, 4, table_bits, 1));
+    expect("tables over the form", 0, memcmp(tables, words, sizeof tables) != 0);
+    expect("disable bits over the form", 0x70, table_bits[0]);
+    expect("compact_trace", 0 * 65536 + 1 * 256 + 2,
+           metzurgo_compact_trace(WIDEST, form, 14, words, 4, bits, 1, 1, 1, A1,
+                                  passed, 2));
+    expect("second expander passed", 0, passed[1]);
+    expect("compact_trace_many", 4,
+           metzurgo_compact_trace_many(WIDEST, form, 14, words, 4, bits, 1,
+                                       requests, 9, answers, 5));
+    expect("0 to B1h", 1 * 65536 + 1 * 256 + 2, answers[0]);
+    expect("B1h to A1h", 0 * 65536 + 1 * 256 + 2, answers[1]);
+    expect("256 to B1h", no_start, answers[2]);
+    expect("1 to 0", METZURGO_REFUSED + 17 * 65536, answers[3]);
+    expect("answer after those", 7, answers[4]);
+    expect("compact_trace_many, 3 answers", METZURGO_REFUSED + 16 * 65536,
+           metzurgo_compact_trace_many(WIDEST, form, 14, words, 4, bits, 1,
+                                       requests, 8, answers, 3));
+    expect("compact_tables, a word more", METZURGO_REFUSED + 1 * 65536,
+           metzurgo_compact_tables(WIDEST, form, 15, tables, 4, table_bits, 1));
+    form[3] -= UINT64_C(1) << 53;
+    expect("compact_trace, another attached expander",
+           METZURGO_REFUSED + 1 * 65536,
+           metzurgo_compact_trace(WIDEST, form, 14, words, 4, bits, 1, 2, 0, 0,
+                                  NULL, 0));
+}
+
 /* A slice of length 0 may be NULL in every call. */
 static void empty_slices(void)
 {
@@ -128,6 +185,24 @@ static void empty_slices(void)
     expect("trace, no disable bits and address 0", no_bits,
            metzurgo_trace(WIDEST, pair_rig, size, words, 4, NULL, 0, 0, 255, 0,
                           passed, 2));
+    expect("compact, no file", cut, metzurgo_compact(WIDEST, NULL, 0, NULL, 0));
+    expect("compact, no words", room,
+           metzurgo_compact(WIDEST, pair_rig, size, NULL, 0));
+    expect("compact_tables, no form", cut,
+           metzurgo_compact_tables(WIDEST, NULL, 0, NULL, 0, NULL, 0));
+    expect("compact_trace, no form", cut,
+           metzurgo_compact_trace(WIDEST, NULL, 0, NULL, 0, NULL, 0, 0, 255, A1,
+                                  NULL, 0));
+    expect("compact_trace_many, no form", cut,
+           metzurgo_compact_trace_many(WIDEST, NULL, 0, NULL, 0, NULL, 0, NULL,
+                                       0, NULL, 0));
+    /* One expander with a vacant phy: no tables, and no requests. */
+    const uint64_t alone[4] = { A1, UINT64_C(1) << 40, 0, UINT64_C(1) << 63 };
+    expect("compact_tables of no words", 0,
+           metzurgo_compact_tables(WIDEST, alone, 4, NULL, 0, NULL, 0));
+    expect("compact_trace_many, no requests", 0,
+           metzurgo_compact_trace_many(WIDEST, alone, 4, NULL, 0, NULL, 0, NULL,
+                                       0, NULL, 0));
     expect("write_route, no bytes", room,
            metzurgo_write_route(NULL, 0, 0, 0, 0, A1, 0));
     expect("read_route, no frame", cut, metzurgo_read_route(NULL, 0));
@@ -278,6 +353,7 @@ int main(void)
     }
 
     load_shelf(words, bits);
+    compact_form(words, bits);
 
     /* Frames inside the file. */
     expect("read_general", 4 * 65536 + 2 * 256 + 1,
