@@ -127,7 +127,7 @@ class Check:
     def __init__(self, unpacked, archive, folder):
         self.unpacked, self.archive = unpacked, archive
         self.file, self.folder = folder / "rig.bin", folder
-        self.traces = self.pictures = self.shelves = 0
+        self.traces = self.requests = self.pictures = self.shelves = 0
 
     def sample(self, path):
         """Every subcommand on one sample, as a text and as a domain file."""
@@ -144,6 +144,7 @@ class Check:
         self.judge(answer)
         self.tables()
         self.all_traces()
+        self.matrix()
         self.picture()
         self.collect()
 
@@ -194,13 +195,14 @@ class Check:
         for arguments in (
             ("tables",),
             ("trace", NOBODY, NOBODY),
+            ("trace", "--all"),
             ("frames",),
             ("shelf", "0"),
             ("draw",),
         ):
             name, *others = arguments
             done = self.unpacked.run("metzurgo", name, self.rig, *others)
-            if name == "trace" and done.returncode == 2:
+            if others[:1] == [NOBODY] and done.returncode == 2:
                 continue  # the names of a request are looked up before the library is asked
             same(f"the status and output of {name}", (1, b""), (done.returncode, done.stdout))
             if answer not in done.stderr.decode():
@@ -273,6 +275,29 @@ class Check:
             passed = [str(each["expander"]) for each in told["passed"]]
             same("the expanders passed", written["passed"], passed)
 
+    def matrix(self):
+        """All requests at once: the archive's answers to the list of them."""
+        starts, _ = self.devices()
+        rows = self.unpacked.run("metzurgo", "trace", "--all", self.rig, "--json")
+        told = json.loads(rows.stdout)
+        addresses = [each["address"] for each in told["addresses"]]
+        got = [(each["expander"], 255 if each["arrival"] is None else each["arrival"])
+               for each in told["starts"]]
+        same("the starts of all requests", sorted(starts), sorted(got))
+        same("their addresses", self.devices()[1], sorted(addresses))
+        requests = [f"{start}.{arrival}.{to}" for start, arrival in got for to in addresses]
+        answer, written = self.archive.call(self.file, "compact_trace_many", *requests)
+        same("all requests", answer, f"requests {len(requests)}")
+        ends = [end for each in told["starts"] for end in each["ends"]]
+        same("their ends", written["answers"], [end_word(end) for end in ends])
+        self.requests += len(requests)
+        lines = self.unpacked.run("metzurgo", "trace", "--all", self.rig)
+        same("the status of all requests", rows.returncode, lines.returncode)
+        cells = [line.split()[-len(addresses):] for line in lines.stdout.decode().splitlines()[1:-1]]
+        signs = {"arrived": "{count}", "NO DESTINATION": "-", "BAD DESTINATION": "x"}
+        same("the lines of all requests", [signs[end["outcome"]].format(**end) for end in ends],
+             [cell for line in cells for cell in line])
+
     def devices(self):
         """The starts of requests and the addresses of the file, as the harness numbers them."""
         starts, addresses = [], []
@@ -322,6 +347,13 @@ class Check:
                 for phy, frame in enumerate(phys):
                     (folder / f"phy{phy}").write_bytes(frame + crc)
             same("collect", self.bytes, self.unpacked.answer("collect", "collect", *folders))
+
+
+def end_word(end):
+    """The end of a request as the calls pack it."""
+    outcome = ["arrived", "NO DESTINATION", "BAD DESTINATION"].index(end["outcome"])
+    phy = 255 if end["phy"] is None else end["phy"]
+    return f"{outcome << 24 | end['expander'] << 16 | phy << 8 | end['count']:016x}"
 
 
 def frame_fields(frame, length):
@@ -484,13 +516,15 @@ def main():
     traces = sum(check.traces for check, _ in done)
     pictures = sum(check.pictures for check, _ in done)
     shelves = sum(check.shelves for check, _ in done)
+    requests = sum(check.requests for check, _ in done)
     for line in wrong:
         print(line)
-    if wrong or not traces or not pictures or not shelves:
+    if wrong or not traces or not requests or not pictures or not shelves:
         print(f"tarball: {len(wrong)} samples differ")
         return 1
     print(
-        f"tarball: {len(samples)} samples, {traces} traces, {shelves} shelves, {pictures} pictures;"
+        f"tarball: {len(samples)} samples, {traces} traces, {requests} requests in lists,"
+        f" {shelves} shelves, {pictures} pictures;"
         f" the command answers as the archive does in {archive.calls} calls"
     )
     return 0
