@@ -333,32 +333,6 @@ uint64_t metzurgo_step(uint32_t setting, const uint8_t *file, size_t file_len,
                        uint8_t arrival, uint64_t address);
 
 /*
- * Rig cards: a domain as a row of bits, as docs/FILE-FORMAT.md has it. No card is
- * longer than METZURGO_LONGEST_CARD bytes, and no file that is made of a card
- * longer than METZURGO_LONGEST_CARD_FILE.
- */
-#define METZURGO_LONGEST_CARD 80578
-#define METZURGO_LONGEST_CARD_FILE 428290
-
-/*
- * Makes a card of a file. Tests causes 22 and 1 to 6, then 16 (fewer bytes than
- * the card has). Later bytes stay. Answer: the bytes of the card.
- */
-uint64_t metzurgo_card_of_file(uint32_t setting, const uint8_t *file,
-                               size_t file_len, uint8_t *card,
-                               size_t card_len);
-
-/*
- * Makes a file of a card: short frames, in which all that is ignored is zero.
- * Tests 22, then 19 over the whole card, then 3 (more expanders or phys than the
- * setting allows), 4 and 6 as in a file, unit by unit, then 16 (fewer bytes than
- * the file has). Later bytes stay. Answer: the bytes of the file.
- */
-uint64_t metzurgo_file_of_card(uint32_t setting, const uint8_t *card,
-                               size_t card_len, uint8_t *file,
-                               size_t file_len);
-
-/*
  * The compact form: an accepted domain decoded once into 64-bit words, for many
  * traces, as docs/FILE-FORMAT.md has it. No form is longer than
  * METZURGO_LONGEST_FORM words. The calls over a form take exactly the words that
@@ -420,6 +394,32 @@ uint64_t metzurgo_compact_trace_many(uint32_t setting, const uint64_t *form,
     (((uint64_t)(start) | (uint64_t)(arrival)) >> 8 != 0                      \
          ? (uint64_t)65536                                                    \
          : (uint64_t)(start) << 8 | (uint64_t)(arrival))
+
+/*
+ * Rig cards: a domain as a row of bits, as docs/FILE-FORMAT.md has it. No card is
+ * longer than METZURGO_LONGEST_CARD bytes, and no file that is made of a card
+ * longer than METZURGO_LONGEST_CARD_FILE.
+ */
+#define METZURGO_LONGEST_CARD 80578
+#define METZURGO_LONGEST_CARD_FILE 428290
+
+/*
+ * Makes a card of a file. Tests causes 22 and 1 to 6, then 16 (fewer bytes than
+ * the card has). Later bytes stay. Answer: the bytes of the card.
+ */
+uint64_t metzurgo_card_of_file(uint32_t setting, const uint8_t *file,
+                               size_t file_len, uint8_t *card,
+                               size_t card_len);
+
+/*
+ * Makes a file of a card: short frames, in which all that is ignored is zero.
+ * Tests 22, then 19 over the whole card, then 3 (more expanders or phys than the
+ * setting allows), 4 and 6 as in a file, unit by unit, then 16 (fewer bytes than
+ * the file has). Later bytes stay. Answer: the bytes of the file.
+ */
+uint64_t metzurgo_file_of_card(uint32_t setting, const uint8_t *card,
+                               size_t card_len, uint8_t *file,
+                               size_t file_len);
 
 /*
  * A shelf: a software expander that its owner holds and the calls alter where it

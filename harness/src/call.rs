@@ -7,11 +7,11 @@
 //!           [disable ENTRY] [enable ENTRY]        arrived 1 1 count 2
 //!                                                 NO DESTINATION 0 count 2
 //!                                                 BAD DESTINATION 1 count 1
-//!     card_of_file [bytes BYTES]                  bytes 64
-//!     file_of_card CARD [bytes BYTES]             bytes 334
 //!     compact [words WORDS]                       expanders 2 words 14
 //!     compact_tables FORM WORDS [bits BYTES]      tables 1 entries 4
 //!     compact_trace_many [REQUEST ...]            requests 1
+//!     card_of_file [bytes BYTES]                  bytes 64
+//!     file_of_card CARD [bytes BYTES]             bytes 334
 //!
 //! Before the call may stand `setting EXPANDERS PHYS CHAIN`; without it the
 //! setting is 64 128 64. WORDS and BYTES are the lengths of the lent buffers:
@@ -20,19 +20,22 @@
 //! EXPANDER.PHY.INDEX; `disable` sets its bit before the trace, `enable` clears it,
 //! as often as they stand there and in that order. Without lengths the buffers are
 //! as long as needed, the bits of the table call as long as WORDS need. A CARD is in
-//! hexadecimal; `file_of_card` reads it in place of the file. A FORM is its words in
-//! hexadecimal, 16 digits each, one after the other; `compact_tables` reads it in
-//! place of the file. A REQUEST is START.ARRIVAL.ADDRESS; `compact_trace_many` goes
-//! over the form of the file and over the words and bits that its table call gives.
-//! Further lines have the words and the bits written, the expanders passed, the card,
-//! file or form made, or the answers of a list. A refusal is the line `refused` with
-//! number, expander and phy.
+//! hexadecimal; `file_of_card` reads it in place of the file. Further lines have the
+//! words and the bits written, the expanders passed, or the card or file made. A
+//! refusal is the line `refused` with number, expander and phy.
+//!
+//! A FORM is its words in hexadecimal, 16 digits each, one after the other;
+//! `compact_tables` reads it in place of the file. A REQUEST is
+//! START.ARRIVAL.ADDRESS; `compact_trace_many` goes over the form of the file and over
+//! the words and bits that its table call gives. Their further lines have the form
+//! made, or the answers of the list.
 
 use crate::calls::Calls;
 use crate::compare::{hex, Difference, Lent};
 use crate::generate::WIDEST;
 use crate::reference;
-use metzurgo::{LONGEST_CARD, LONGEST_CARD_FILE, LONGEST_FORM};
+use metzurgo::LONGEST_FORM;
+use metzurgo::{LONGEST_CARD, LONGEST_CARD_FILE};
 
 /// The most words that the table call is lent for a trace.
 const MOST_WORDS: usize = 1 << 24;
@@ -40,10 +43,11 @@ const MOST_WORDS: usize = 1 << 24;
 const USAGE: &str = "[setting EXPANDERS PHYS CHAIN] judge | wire WORDS | \
                      tables WORDS [bits BYTES] | trace START ARRIVAL ADDRESS [words WORDS] \
                      [bits BYTES] [bytes BYTES] [disable EXPANDER.PHY.INDEX] \
-                     [enable EXPANDER.PHY.INDEX] | card_of_file [bytes BYTES] | \
-                     file_of_card CARD [bytes BYTES] | compact [words WORDS] | \
-                     compact_tables FORM WORDS [bits BYTES] | \
-                     compact_trace_many [START.ARRIVAL.ADDRESS ...]";
+                     [enable EXPANDER.PHY.INDEX] | \
+                     compact [words WORDS] | compact_tables FORM WORDS [bits BYTES] | \
+                     compact_trace_many [START.ARRIVAL.ADDRESS ...] | \
+                     card_of_file [bytes BYTES] | \
+                     file_of_card CARD [bytes BYTES]";
 
 pub enum Failed {
     /// The words do not state a call.
@@ -100,15 +104,6 @@ fn under(subject: &dyn Calls, setting: u32, file: &[u8], call: &[&str]) -> Resul
             };
             trace(subject, setting, file, request, rest)
         }
-        ["card_of_file", ref rest @ ..] => {
-            let call = |room: &mut [u8]| subject.card_of_file(setting, file, room);
-            made("card", room(rest, LONGEST_CARD)?, call)
-        }
-        ["file_of_card", card, ref rest @ ..] => {
-            let card = bytes(card)?;
-            let call = |room: &mut [u8]| subject.file_of_card(setting, &card, room);
-            made("file", room(rest, LONGEST_CARD_FILE)?, call)
-        }
         ["compact"] => compact(subject, setting, file, LONGEST_FORM),
         ["compact", "words", length] => compact(subject, setting, file, number(length)?),
         ["compact_tables", form, length, ref rest @ ..] => {
@@ -124,6 +119,15 @@ fn under(subject: &dyn Calls, setting: u32, file: &[u8], call: &[&str]) -> Resul
                 list.extend(request_words(request)?);
             }
             trace_many(subject, setting, file, &list)
+        }
+        ["card_of_file", ref rest @ ..] => {
+            let call = |room: &mut [u8]| subject.card_of_file(setting, file, room);
+            made("card", room(rest, LONGEST_CARD)?, call)
+        }
+        ["file_of_card", card, ref rest @ ..] => {
+            let card = bytes(card)?;
+            let call = |room: &mut [u8]| subject.file_of_card(setting, &card, room);
+            made("file", room(rest, LONGEST_CARD_FILE)?, call)
         }
         _ => Err(usage()),
     }

@@ -33,8 +33,6 @@ pub trait Calls: Sync {
         arrival: u8,
         address: u64,
     ) -> u64;
-    fn card_of_file(&self, setting: u32, file: &[u8], card: &mut [u8]) -> u64;
-    fn file_of_card(&self, setting: u32, card: &[u8], file: &mut [u8]) -> u64;
     fn compact(&self, setting: u32, file: &[u8], form: &mut [u64]) -> u64;
     fn compact_tables(&self, setting: u32, form: &[u64], words: &mut [u64], bits: &mut [u8])
         -> u64;
@@ -59,6 +57,8 @@ pub trait Calls: Sync {
         requests: &[u64],
         answers: &mut [u64],
     ) -> u64;
+    fn card_of_file(&self, setting: u32, file: &[u8], card: &mut [u8]) -> u64;
+    fn file_of_card(&self, setting: u32, card: &[u8], file: &mut [u8]) -> u64;
     fn write_route(
         &self,
         buf: &mut [u8],
@@ -136,14 +136,6 @@ impl Calls for Archive {
         metzurgo::raw::step(setting, file, words, bits, expander, arrival, address)
     }
 
-    fn card_of_file(&self, setting: u32, file: &[u8], card: &mut [u8]) -> u64 {
-        metzurgo::raw::card_of_file(setting, file, card)
-    }
-
-    fn file_of_card(&self, setting: u32, card: &[u8], file: &mut [u8]) -> u64 {
-        metzurgo::raw::file_of_card(setting, card, file)
-    }
-
     fn compact(&self, setting: u32, file: &[u8], form: &mut [u64]) -> u64 {
         metzurgo::raw::compact(setting, file, form)
     }
@@ -182,6 +174,14 @@ impl Calls for Archive {
         answers: &mut [u64],
     ) -> u64 {
         metzurgo::raw::compact_trace_many(setting, form, words, bits, requests, answers)
+    }
+
+    fn card_of_file(&self, setting: u32, file: &[u8], card: &mut [u8]) -> u64 {
+        metzurgo::raw::card_of_file(setting, file, card)
+    }
+
+    fn file_of_card(&self, setting: u32, card: &[u8], file: &mut [u8]) -> u64 {
+        metzurgo::raw::file_of_card(setting, card, file)
     }
 
     fn write_route(

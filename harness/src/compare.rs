@@ -52,6 +52,13 @@ pub struct Counts {
     pub outcomes: [u64; 3],
     /// Traces that end otherwise than over the tables given, by a disable bit.
     pub switched: u64,
+    /// Files that have a form; other words as a form, and those that are one.
+    pub forms: u64,
+    pub other_forms: u64,
+    pub other_forms_accepted: u64,
+    /// Requests in lists, and those refused with 15 and with 17.
+    pub listed: u64,
+    pub list_refusals: [u64; 2],
     pub longest_trace: u64,
     pub largest_file: u64,
     pub shelves: u64,
@@ -63,13 +70,6 @@ pub struct Counts {
     /// Files that have a card, and cards that were spoiled.
     pub cards: u64,
     pub spoiled_cards: u64,
-    /// Files that have a form; other words as a form, and those that are one.
-    pub forms: u64,
-    pub other_forms: u64,
-    pub other_forms_accepted: u64,
-    /// Requests in lists, and those refused with 15 and with 17.
-    pub listed: u64,
-    pub list_refusals: [u64; 2],
     /// Steps by their rule, (i) to (v), and those that are BAD DESTINATION.
     pub rules: [u64; 5],
     pub bad_steps: u64,
@@ -86,10 +86,6 @@ impl Counts {
         self.untraced_files += other.untraced_files;
         self.wired_files += other.wired_files;
         self.frames += other.frames;
-        self.switched += other.switched;
-        self.shelves += other.shelves;
-        self.cards += other.cards;
-        self.spoiled_cards += other.spoiled_cards;
         self.forms += other.forms;
         self.other_forms += other.other_forms;
         self.other_forms_accepted += other.other_forms_accepted;
@@ -97,6 +93,10 @@ impl Counts {
         for (sum, more) in self.list_refusals.iter_mut().zip(other.list_refusals) {
             *sum += more;
         }
+        self.switched += other.switched;
+        self.shelves += other.shelves;
+        self.cards += other.cards;
+        self.spoiled_cards += other.spoiled_cards;
         self.shelf_frames += other.shelf_frames;
         self.shelf_refusals += other.shelf_refusals;
         for (sum, more) in self.shelf_results.iter_mut().zip(other.shelf_results) {

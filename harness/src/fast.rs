@@ -790,14 +790,6 @@ impl Calls for Fast {
         u64::from(bad) << 48 | rule << 40 | (number as u64) << 32 | (index as u64) << 16 | next
     }
 
-    fn card_of_file(&self, setting: u32, file: &[u8], card: &mut [u8]) -> u64 {
-        cards::put(cards::card_of_file(setting, file), card)
-    }
-
-    fn file_of_card(&self, setting: u32, card: &[u8], file: &mut [u8]) -> u64 {
-        cards::put(cards::file_of_card(setting, card), file)
-    }
-
     fn compact(&self, setting: u32, file: &[u8], form: &mut [u64]) -> u64 {
         Reference.compact(setting, file, form)
     }
@@ -836,6 +828,14 @@ impl Calls for Fast {
         answers: &mut [u64],
     ) -> u64 {
         Reference.compact_trace_many(setting, form, words, bits, requests, answers)
+    }
+
+    fn card_of_file(&self, setting: u32, file: &[u8], card: &mut [u8]) -> u64 {
+        cards::put(cards::card_of_file(setting, file), card)
+    }
+
+    fn file_of_card(&self, setting: u32, card: &[u8], file: &mut [u8]) -> u64 {
+        cards::put(cards::file_of_card(setting, card), file)
     }
 
     fn write_route(

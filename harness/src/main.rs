@@ -160,9 +160,10 @@ fn check(subject: &dyn Calls, seed: u64, counts: &mut Counts) -> Result<&'static
             if random.chance(1, FILES_PER_SHELF) {
                 shelves::check(subject, &mut random, counts)?;
             }
+            forms::check(subject, setting, &made.file, &mut random.aside(), counts)?;
             cards::check(subject, setting, &made.file, &mut random, counts)
                 .map_err(|difference| difference.under(setting))?;
-            forms::check(subject, setting, &made.file, &mut random, counts)
+            Ok(())
         })
         .map_err(|difference| Failure {
             seed,
@@ -295,6 +296,10 @@ fn run(subject: &dyn Calls, files: u64, seed: u64) {
         counts.switched
     );
     println!(
+        "  forms: {} of files, {} other words, {} of these a form; requests in lists: {}, {} of these refused with 15, {} with 17",
+        counts.forms, counts.other_forms, counts.other_forms_accepted, counts.listed, counts.list_refusals[0], counts.list_refusals[1]
+    );
+    println!(
         "  shelves: {}, frames {}, not to be told (3): {}",
         counts.shelves, counts.shelf_frames, counts.shelf_refusals
     );
@@ -304,10 +309,6 @@ fn run(subject: &dyn Calls, files: u64, seed: u64) {
     println!(
         "  cards: {} of files, {} spoiled",
         counts.cards, counts.spoiled_cards
-    );
-    println!(
-        "  forms: {} of files, {} other words, {} of these a form; requests in lists: {}, {} of these refused with 15, {} with 17",
-        counts.forms, counts.other_forms, counts.other_forms_accepted, counts.listed, counts.list_refusals[0], counts.list_refusals[1]
     );
     println!(
         "  steps: {} in all, {} by (i), {} (ii), {} (iii), {} (iv), {} (v), {} BAD DESTINATION; {} traces followed by steps",
@@ -334,20 +335,20 @@ fn run(subject: &dyn Calls, files: u64, seed: u64) {
         println!("a refusal number was never reached");
         exit(1);
     }
-    if counts.shelf_refusals == 0 || counts.shelf_results.contains(&0) {
-        println!("a function result of a shelf, or its refusal 3, was never reached");
-        exit(1);
-    }
-    if counts.rules.contains(&0) || counts.bad_steps == 0 || counts.walks == 0 {
-        println!("a rule of a step was never reached");
-        exit(1);
-    }
     if counts.other_forms_accepted == 0 || counts.other_forms_accepted == counts.other_forms {
         println!("no other words, or all of them, were a form");
         exit(1);
     }
     if counts.list_refusals.contains(&0) {
         println!("no request of a list was refused with 15, or none with 17");
+        exit(1);
+    }
+    if counts.shelf_refusals == 0 || counts.shelf_results.contains(&0) {
+        println!("a function result of a shelf, or its refusal 3, was never reached");
+        exit(1);
+    }
+    if counts.rules.contains(&0) || counts.bad_steps == 0 || counts.walks == 0 {
+        println!("a rule of a step was never reached");
         exit(1);
     }
     if counts.switched == 0 {

@@ -1255,14 +1255,6 @@ impl Calls for Reference {
         }))
     }
 
-    fn card_of_file(&self, setting: u32, file: &[u8], card: &mut [u8]) -> u64 {
-        cards::put(cards::card_of_file(setting, file), card)
-    }
-
-    fn file_of_card(&self, setting: u32, card: &[u8], file: &mut [u8]) -> u64 {
-        cards::put(cards::file_of_card(setting, card), file)
-    }
-
     fn compact(&self, setting: u32, file: &[u8], form: &mut [u64]) -> u64 {
         forms::put(forms::compact(setting, file), file, form)
     }
@@ -1319,6 +1311,14 @@ impl Calls for Reference {
             answers[..found.len()].copy_from_slice(&found);
             Ok(found.len() as u64)
         }))
+    }
+
+    fn card_of_file(&self, setting: u32, file: &[u8], card: &mut [u8]) -> u64 {
+        cards::put(cards::card_of_file(setting, file), card)
+    }
+
+    fn file_of_card(&self, setting: u32, card: &[u8], file: &mut [u8]) -> u64 {
+        cards::put(cards::file_of_card(setting, card), file)
     }
 
     fn write_route(

@@ -17,9 +17,9 @@ from .answers import Discovered, General, Needed, Place, Route, Setting, Step, T
 
 FILE_NAME = "libmetzurgo.so"
 FRAME = 40  # the bytes of a CONFIGURE ROUTE INFORMATION request
+LONGEST_FORM = 16512  # the words of the longest form
 LONGEST_CARD = 80578  # the bytes of the longest card
 LONGEST_CARD_FILE = 428290  # and of the longest file that is made of a card
-LONGEST_FORM = 16512  # the words of the longest form
 
 _SETTING = [c_uint32]
 _BYTES = [c_char_p, c_size_t]  # read only
@@ -37,12 +37,12 @@ CALLS = {
     "metzurgo_tables": _SETTING + _BYTES + _WORDS + _LENT,
     "metzurgo_trace": _SETTING + _BYTES + _WORDS + _LENT + _REQUEST + _LENT,
     "metzurgo_step": _SETTING + _BYTES + _WORDS + _LENT + _REQUEST,
-    "metzurgo_card_of_file": _SETTING + _BYTES + _LENT,
-    "metzurgo_file_of_card": _SETTING + _BYTES + _LENT,
     "metzurgo_compact": _SETTING + _BYTES + _WORDS,
     "metzurgo_compact_tables": _SETTING + _WORDS + _WORDS + _LENT,
     "metzurgo_compact_trace": _SETTING + _WORDS + _WORDS + _LENT + _REQUEST + _LENT,
     "metzurgo_compact_trace_many": _SETTING + _WORDS + _WORDS + _LENT + _WORDS + _WORDS,
+    "metzurgo_card_of_file": _SETTING + _BYTES + _LENT,
+    "metzurgo_file_of_card": _SETTING + _BYTES + _LENT,
     "metzurgo_write_route": _LENT + [c_uint8, c_uint8, c_uint16, c_uint64, c_uint8],
     "metzurgo_read_route": _BYTES,
     "metzurgo_read_route_address": _BYTES,
@@ -201,22 +201,6 @@ class Library:
             )
         )
 
-    # Rig cards.
-
-    def card_of_file(self, setting: Setting, file: bytes) -> bytes:
-        """The card of a domain file."""
-        room = (c_uint8 * LONGEST_CARD)()
-        call = self._calls.metzurgo_card_of_file
-        count = checked(call(setting.packed(), file, len(file), room, len(room)))
-        return bytes(room[:count])
-
-    def file_of_card(self, setting: Setting, card: bytes) -> bytes:
-        """The domain file of a card: short frames, and zero what a card does not say."""
-        room = (c_uint8 * LONGEST_CARD_FILE)()
-        call = self._calls.metzurgo_file_of_card
-        count = checked(call(setting.packed(), card, len(card), room, len(room)))
-        return bytes(room[:count])
-
     # Compact forms. Forms and requests are words, as words_of takes them.
 
     def compact(self, setting: Setting, file: bytes) -> List[int]:
@@ -261,6 +245,22 @@ class Library:
         given = (words_of(requests), len(requests), answers, len(answers))
         checked(self._calls.metzurgo_compact_trace_many(setting.packed(), *lent, *given))
         return answers
+
+    # Rig cards.
+
+    def card_of_file(self, setting: Setting, file: bytes) -> bytes:
+        """The card of a domain file."""
+        room = (c_uint8 * LONGEST_CARD)()
+        call = self._calls.metzurgo_card_of_file
+        count = checked(call(setting.packed(), file, len(file), room, len(room)))
+        return bytes(room[:count])
+
+    def file_of_card(self, setting: Setting, card: bytes) -> bytes:
+        """The domain file of a card: short frames, and zero what a card does not say."""
+        room = (c_uint8 * LONGEST_CARD_FILE)()
+        call = self._calls.metzurgo_file_of_card
+        count = checked(call(setting.packed(), card, len(card), room, len(room)))
+        return bytes(room[:count])
 
     # Calls on one frame.
 

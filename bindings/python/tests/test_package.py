@@ -155,11 +155,6 @@ def answers(rig, call):
     if match and int(match[1]) >= rig.needed().words:
         words = [f"{word:016x}" for word in rig.tables().words]
         return f"tables {rig.needed().tables} entries {rig.needed().words}", words
-    if call == "card_of_file":
-        return f"bytes {len(rig.to_card())}", [rig.to_card().hex()]
-    match = re.fullmatch(r"file_of_card ([0-9a-f]+)", call)
-    if match:
-        return f"bytes {len(Rig.of_card(bytes.fromhex(match[1])).file)}", []
     if call == "compact":
         form = Form.of(rig)
         words = [f"{word:016x}" for word in form.words]
@@ -177,6 +172,11 @@ def answers(rig, call):
             words.extend((first_word(int(start), int(arrival)), int(address, 16)))
         found = Form.of(rig).answers(rig.tables(), words)
         return f"requests {len(parts)}", [f"{answer:016x}" for answer in found]
+    if call == "card_of_file":
+        return f"bytes {len(rig.to_card())}", [rig.to_card().hex()]
+    match = re.fullmatch(r"file_of_card ([0-9a-f]+)", call)
+    if match:
+        return f"bytes {len(Rig.of_card(bytes.fromhex(match[1])).file)}", []
     match = re.fullmatch(r"trace ([0-9]+) ([0-9]+) ([0-9a-f]{16})", call)
     if match:
         request = int(match[1]), int(match[2]), int(match[3], 16)

@@ -1,10 +1,10 @@
 //! Calls of the Metzurgo SAS configurator: domain files, wiring, route tables,
-//! request tracing, rig cards, compact forms, loading frames, and a software expander that
-//! obeys them.
+//! request tracing, rig cards, loading frames, and a software expander that obeys them.
 //!
 //! The functions at the top level take slices and give an answer with a type, or
 //! a [`Refusal`]. The module [`raw`] has the same calls with the answer as the
 //! archive gives it, one 64-bit number. include/metzurgo.h describes each call.
+//! A domain that is traced over many times is decoded once, into a [`Form`].
 //!
 //! The archive libexports.a is looked for in the directory that METZURGO_LIB_DIR
 //! names, else in target/staticlib of the repository. The examples use the pair

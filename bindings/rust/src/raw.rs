@@ -48,20 +48,6 @@ mod linked {
             arrival: u8,
             address: u64,
         ) -> u64;
-        pub fn metzurgo_card_of_file(
-            setting: u32,
-            file: *const u8,
-            file_len: usize,
-            card: *mut u8,
-            card_len: usize,
-        ) -> u64;
-        pub fn metzurgo_file_of_card(
-            setting: u32,
-            card: *const u8,
-            card_len: usize,
-            file: *mut u8,
-            file_len: usize,
-        ) -> u64;
         pub fn metzurgo_compact(
             setting: u32,
             file: *const u8,
@@ -104,6 +90,20 @@ mod linked {
             requests_len: usize,
             answers: *mut u64,
             answers_len: usize,
+        ) -> u64;
+        pub fn metzurgo_card_of_file(
+            setting: u32,
+            file: *const u8,
+            file_len: usize,
+            card: *mut u8,
+            card_len: usize,
+        ) -> u64;
+        pub fn metzurgo_file_of_card(
+            setting: u32,
+            card: *const u8,
+            card_len: usize,
+            file: *mut u8,
+            file_len: usize,
         ) -> u64;
         pub fn metzurgo_write_route(
             buf: *mut u8,
@@ -231,16 +231,6 @@ pub fn step(
     }
 }
 
-pub fn card_of_file(setting: u32, file: &[u8], card: &mut [u8]) -> u64 {
-    let (start, len) = (card.as_mut_ptr(), card.len());
-    unsafe { linked::metzurgo_card_of_file(setting, file.as_ptr(), file.len(), start, len) }
-}
-
-pub fn file_of_card(setting: u32, card: &[u8], file: &mut [u8]) -> u64 {
-    let (start, len) = (file.as_mut_ptr(), file.len());
-    unsafe { linked::metzurgo_file_of_card(setting, card.as_ptr(), card.len(), start, len) }
-}
-
 pub fn compact(setting: u32, file: &[u8], form: &mut [u64]) -> u64 {
     let (start, len) = (form.as_mut_ptr(), form.len());
     unsafe { linked::metzurgo_compact(setting, file.as_ptr(), file.len(), start, len) }
@@ -312,6 +302,16 @@ pub fn compact_trace_many(
             answers.len(),
         )
     }
+}
+
+pub fn card_of_file(setting: u32, file: &[u8], card: &mut [u8]) -> u64 {
+    let (start, len) = (card.as_mut_ptr(), card.len());
+    unsafe { linked::metzurgo_card_of_file(setting, file.as_ptr(), file.len(), start, len) }
+}
+
+pub fn file_of_card(setting: u32, card: &[u8], file: &mut [u8]) -> u64 {
+    let (start, len) = (file.as_mut_ptr(), file.len());
+    unsafe { linked::metzurgo_file_of_card(setting, card.as_ptr(), card.len(), start, len) }
 }
 
 pub fn write_route(
