@@ -325,12 +325,6 @@ pub fn run(subject: &dyn Calls) -> Result<usize, Difference> {
     test.word_places()?;
     test.steps()?;
     test.step_refusals()?;
-    test.route_frames()?;
-    test.single_frames()?;
-    test.pair_card()?;
-    test.card_refusals()?;
-    test.card_settings()?;
-    test.largest_card()?;
     test.pair_form()?;
     test.far_form()?;
     test.form_refusals()?;
@@ -338,6 +332,12 @@ pub fn run(subject: &dyn Calls) -> Result<usize, Difference> {
     test.form_traces()?;
     test.form_lists()?;
     test.largest_form()?;
+    test.route_frames()?;
+    test.single_frames()?;
+    test.pair_card()?;
+    test.card_refusals()?;
+    test.card_settings()?;
+    test.largest_card()?;
     test.shelves_told()?;
     test.shelf_results()?;
     test.shelf_entries()?;
