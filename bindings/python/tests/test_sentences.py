@@ -91,11 +91,12 @@ class Samples(unittest.TestCase):
     def test_each_sample(self):
         for path in samples():
             number = re.match(r"refused-([0-9]+)", path.stem)
-            if not number or int(number[1]) in LATER:
+            text = path.read_text(encoding="utf-8")
+            over_a_form = text.split("\n")[1].startswith("# call: compact")
+            if not number or int(number[1]) in LATER or over_a_form:
                 self.assertNotIn(path.stem, TOLD)
                 continue
             with self.subTest(sample=path.stem):
-                text = path.read_text(encoding="utf-8")
                 answer = re.search(r"^# answer: (refused .*)$", text, re.M)[1]
                 ran = run("judge", *course_of(text), path)
                 told, refused = ran.out.splitlines()
