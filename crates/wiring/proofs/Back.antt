@@ -20,7 +20,7 @@ use Rattle.wiring.proofs.Filling.{length-rowOf}
 low : (b k y : ℕ) → k < b → (k + b * y) % b ≡ k
 low b k y h = add-mul-mod-self-left k b y ∙ mod-eq-of-lt h
 
-phy-back : (φ : Phy) → ReadPhy φ → FitsPhy φ → phyIn (addressOf φ) (phyWord φ) ≡ φ
+pub phy-back : (φ : Phy) → ReadPhy φ → FitsPhy φ → phyIn (addressOf φ) (phyWord φ) ≡ φ
 phy-back (Vacant r) g h =
     let e : 2 * r / 2 % 256 ≡ r = omega arith in
     simp (eq-eqb (2 * r % 2) 0 (omega arith), e)

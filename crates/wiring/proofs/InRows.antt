@@ -17,7 +17,7 @@ unfolding rowsIn
 length-rowsIn zero ws = refl
 length-rowsIn (suc k) ws = ap suc (length-rowsIn k (drop 258 ws))
 
-length-physIn : (k : ℕ) (ws : List ℕ) → length (physIn k ws) ≡ k
+pub length-physIn : (k : ℕ) (ws : List ℕ) → length (physIn k ws) ≡ k
 unfolding physIn
 length-physIn zero ws = refl
 length-physIn (suc k) ws = ap suc (length-physIn k (drop 2 ws))
@@ -30,7 +30,7 @@ expander-in (suc k) ws (suc i) h =
     let e : 258 + 258 * i ≡ 258 * suc i = omega arith in
     expander-in k (drop 258 ws) i (omega arith) ∙ ap rowIn (drop-drop (258 * i) 258 ws ∙ ap (λ (x : ℕ). drop x ws) e)
 
-phy-in : (k : ℕ) (ws : List ℕ) (p : ℕ) → p < k → getD (physIn k ws) p (Vacant 0) ≡ phyIn (getD ws (2 * p) 0) (getD ws (2 * p + 1) 0)
+pub phy-in : (k : ℕ) (ws : List ℕ) (p : ℕ) → p < k → getD (physIn k ws) p (Vacant 0) ≡ phyIn (getD ws (2 * p) 0) (getD ws (2 * p + 1) 0)
 unfolding physIn
 phy-in zero ws p h = absurd (omega arith)
 phy-in (suc k) ws zero h = refl
@@ -47,7 +47,7 @@ module _ (ws : List ℕ) (i : ℕ) where
   pub no-expander : length (domainIn ws) ≤ i → expanderAt (domainIn ws) i ≡ noExpander
   no-expander h = List·getD-eq-default (domainIn ws) noExpander h
 
-  row-at : i < length (domainIn ws) → expanderAt (domainIn ws) i ≡ rowIn (drop (258 * i) ws)
+  pub row-at : i < length (domainIn ws) → expanderAt (domainIn ws) i ≡ rowIn (drop (258 * i) ws)
   unfolding domainIn
   row-at h = expander-in (min 64 (length ws / 258)) ws i (subst (λ (n : ℕ). i < n) (count-of ws) h)
 

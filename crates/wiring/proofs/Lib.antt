@@ -9,6 +9,7 @@ pub mod Filling
 pub mod Back
 pub mod RowsRead
 pub mod InRows
+pub mod PhySets
 pub mod SearchTrees
 pub mod Finding
 pub mod Searches

@@ -1,7 +1,7 @@
 -- What the layers above use of frames.
 pub use Rattle.frames.specs.Bytes.{byte}
 unfoldable pub use Rattle.frames.specs.Bits.{numberBits, field, bitsOf, packedIn, marked}
-pub use Rattle.frames.specs.Bits.{bytesFor, zeroBit}
+pub use Rattle.frames.specs.Bits.{bytesFor, zeroBit, zeroBits}
 pub use Rattle.frames.specs.declared.Refusal.{Refusal}
 pub use Rattle.frames.specs.Refusals.{Result, refused, good, unless, then, refusal}
 pub use Rattle.frames.specs.Exactly.{Exactly}

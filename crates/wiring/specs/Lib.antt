@@ -20,4 +20,5 @@ pub mod Cables
 pub mod Links
 pub mod Devices
 pub mod Chains
+pub mod PhySet
 pub mod Tested

@@ -21,6 +21,7 @@ pub use rows::clear;
 pub use rows::head_word;
 pub use rows::phy_word;
 pub use rows::read_domain;
+pub use rows::set_phy;
 pub use rows::stated_count;
 pub use settings::is_in_range;
 pub use settings::widest;

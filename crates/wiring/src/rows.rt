@@ -17,6 +17,7 @@ ghost use Rattle.frames.specs.Bytes.{byte};
 ghost use lib.ListN.{length, replicate};
 ghost use Rattle.wiring.specs.Units.{phyAnswer};
 ghost use Rattle.wiring.specs.Rows.{phyWord, headWord, RowsRead};
+ghost use Rattle.wiring.specs.PhySet.{PhySet};
 ghost use Rattle.wiring.specs.Fill.{phyGot, nextGot, physGot, domainGot, pasted, PhysPut, RowPut};
 
 // The phy of a unit: vacant where the unit is refused.
@@ -142,6 +143,17 @@ pub fn read_domain(setting: Setting, file: &[u8], rows: &mut [u64]) -> DomainRea
             fill_rows(rows, setting, file, n);
             DomainRead::Expanders(n)
         }
+    }
+}
+
+// Replaces phy p of expander i; where there is no such phy, nothing changes.
+pub fn set_phy(rows: &mut [u64], i: ExpanderNumber, p: PhyId, phy: Phy)
+    ensures { λ _. ⌜ PhySet (now (rows .entry)) (now (rows .exit)) (i .0) (p .0) phy ⌝ }
+{
+    if p.0 < view::phy_count(rows, i) {
+        let k = 258 * (i.0 as usize) + 2 + 2 * (p.0 as usize);
+        rows[k] = view::phy_address(phy);
+        rows[k + 1] = phy_word(phy);
     }
 }
 
