@@ -7,4 +7,5 @@ pub mod Prepared
 pub mod Judge
 pub mod Tested
 pub mod Filling
+pub mod Refilling
 pub mod Words

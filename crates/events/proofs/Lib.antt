@@ -1,0 +1,6 @@
+pub mod Edited
+pub mod EditedFile
+pub mod Refilled
+pub mod Happening
+pub mod Touching
+mod Pair

@@ -1,0 +1,4 @@
+pub mod Events
+pub mod EventFile
+pub mod Calls
+pub mod Paper9
