@@ -4,3 +4,6 @@ pub mod Refilled
 pub mod Happening
 pub mod Touching
 mod Pair
+pub mod OneWord
+pub mod Moving
+mod MovingRigs
