@@ -1,6 +1,8 @@
 -- What the layers above use of wiring's lemmas.
 pub use Rattle.wiring.proofs.Members.{tests, or-cases, or-left, or-right, is-true, was-true, eq→eqb, neqb, in-cast, all-cons, in-upTo, last-in, at-most}
 pub use Rattle.wiring.proofs.Frames.{length-bitsOf, marked-room}
+pub use Rattle.wiring.proofs.Frames.{Bits, length-packedIn, bit-packed, bits-bitsOf}
+pub use Rattle.wiring.proofs.Members.{take-in}
 pub use Rattle.wiring.proofs.Walks.{Skip, NoBack, repeats-nothing, same-rest, same-chain, rest-of}
 pub use Rattle.wiring.proofs.Reach.{Joined}
 pub use Rattle.wiring.proofs.LongChains.{all-joined}

@@ -9,6 +9,8 @@ pub mod TableToTable
 pub mod Passing
 pub mod Arrives
 pub mod Demand
+pub mod Striking
+pub mod StruckRigs
 pub mod Exactly
 pub mod Pair
 pub mod LongFrames

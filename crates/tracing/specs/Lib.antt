@@ -8,3 +8,4 @@ pub mod Demand
 pub mod Courses
 pub mod Packing
 pub mod Many
+pub mod Striking
