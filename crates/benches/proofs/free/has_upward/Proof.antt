@@ -1,0 +1,59 @@
+-- has_upward looks at phy after phy; its loop's invariant: there is one among the phys to come where there is one at all.
+use native.Mathlib.Omega.{arith}
+use native.Mathlib.Nat.{sub-zero}
+use borrow.Author.Needs.{needs}
+use borrow.Author.Tests.{not-true, not-false}
+use Prim.Native.Nat.{ℕ, suc, _+_, _-_, _*_, _≤_, _<_}
+use mathlib.Core.Path.{_≡_, refl, sym, _∙_, ap, ap₂, subst}
+use mathlib.Core.Bool.{Bool, true, false, not, _&&_}
+use mathlib.Core.List.{List, [], _∷_, _++_}
+use lib.ListN.{length, getD, take, drop, set, replicate, length-set, length-drop, length-replicate, List·getD-eq-default}
+use lib.Seq.{paste, paste-zero, paste-suc, length-take-le}
+use borrow.Author.Tests.{eq-eqb, ne-eqb}
+use Rattle.frames.specs.Refusals.{Result, refused, good, refusal, then}
+use Rattle.wiring.specs.declared.Phy.{Phy}
+use Rattle.wiring.specs.declared.Phy.the-variants.{Vacant}
+use Rattle.wiring.specs.Lists.{any}
+use Rattle.wiring.specs.Domain.{Domain, expanderAt, phyAt, typeOf, attributeOf}
+use Rattle.wiring.specs.Rows.{domainIn}
+use Rattle.benches.specs.JoinCall.{upward, free, freeIn}
+use Rattle.benches.proofs.Joins.{any-go, any-end, free-by, rows-room}
+use Rattle.benches.proofs.free.has_upward.Statement.{statement}
+use Rattle.benches.proofs.free.has_upward.Tie as tie
+
+abbrev Inv-loop : tie.InvT-loop
+Inv-loop rows i n p₀ p =
+    (p ≤ n) × ((n ≡ length (expanderAt (domainIn rows) (i .0) .phys)) × ((n ≤ 128) × (any upward (drop p (expanderAt (domainIn rows) (i .0) .phys)) ≡ any upward (expanderAt (domainIn rows) (i .0) .phys))))
+
+abbrev μ-loop : tie.MeasureT-loop
+μ-loop rows i n p₀ p = n - p
+
+phy-count-requires : tie.Need-phy-count-requires Inv-loop μ-loop
+phy-count-requires c κs = search needs
+
+loop-holds : tie.Need-loop-holds Inv-loop μ-loop
+loop-holds c = (omega arith, ((c .phy-count) .ensures .0, ((c .phy-count) .ensures .1, refl)))
+
+phy-at-requires : tie.Need-phy-at-requires Inv-loop μ-loop
+phy-at-requires c κs = search needs
+
+is-upward-requires : tie.Need-is-upward-requires Inv-loop μ-loop
+is-upward-requires c κs = search needs
+
+returns : tie.Need-returns Inv-loop μ-loop
+returns c = any-go upward (expanderAt (domainIn ((c .before .before .before .before .before .before .before .args) .rows .now)) ((c .before .before .before .before .before .before .before .args) .i .0) .phys) ((c .before .before .before .before .loop) .p) _ ((c .before .before .before .before .loop) .inv .1 .1 .1) (omega arith) true (sym ((c .if1) .taken) ∙ (c .before .is-upward) .ensures ∙ ap upward ((c .before .before .phy-at) .ensures))
+
+add-p : tie.Need-add-p Inv-loop μ-loop
+add-p c = omega arith
+
+loop-less : tie.Need-loop-less Inv-loop μ-loop
+loop-less c = omega arith
+
+loop-again : tie.Need-loop-again Inv-loop μ-loop
+loop-again c = (omega arith, ((c .before .before .before .before .loop) .inv .1 .0, ((c .before .before .before .before .loop) .inv .1 .1 .0, any-go upward (expanderAt (domainIn ((c .before .before .before .before .before .before .before .args) .rows .now)) ((c .before .before .before .before .before .before .before .args) .i .0) .phys) ((c .before .before .before .before .loop) .p) _ ((c .before .before .before .before .loop) .inv .1 .1 .1) (omega arith) false (sym ((c .if1) .left) ∙ (c .before .is-upward) .ensures ∙ ap upward ((c .before .before .phy-at) .ensures)))))
+
+returns-2 : tie.Need-returns-2 Inv-loop μ-loop
+returns-2 c = any-end upward (expanderAt (domainIn ((c .before .before .before .before .args) .rows .now)) ((c .before .before .before .before .args) .i .0) .phys) ((c .before .loop) .p) _ ((c .before .loop) .inv .1 .1 .1) (omega arith)
+
+pub has-upward-spec : {M : Type 1} → statement M
+has-upward-spec = tie.close (tie.spec Inv-loop μ-loop phy-count-requires loop-holds phy-at-requires is-upward-requires returns add-p loop-less loop-again returns-2)

@@ -1,0 +1,59 @@
+-- is_free reads the file into rows, and tests the domain in the rows.
+use native.Mathlib.Omega.{arith}
+use native.Mathlib.Nat.{sub-zero}
+use borrow.Author.Needs.{needs}
+use borrow.Author.Tests.{not-true, not-false}
+use Prim.Native.Nat.{ℕ, suc, _+_, _-_, _*_, _≤_, _<_}
+use mathlib.Core.Path.{_≡_, refl, sym, _∙_, ap, ap₂, subst}
+use mathlib.Core.Bool.{Bool, true, false, not, _&&_}
+use mathlib.Core.List.{List, [], _∷_, _++_}
+use lib.ListN.{length, getD, take, drop, set, replicate, length-set, length-drop, length-replicate, List·getD-eq-default}
+use lib.Seq.{paste, paste-zero, paste-suc, length-take-le}
+use borrow.Author.Tests.{eq-eqb, ne-eqb}
+use Rattle.frames.specs.Refusals.{Result, refused, good, refusal, then}
+use Rattle.wiring.specs.declared.Phy.{Phy}
+use Rattle.wiring.specs.declared.Phy.the-variants.{Vacant}
+use Rattle.wiring.specs.Lists.{any}
+use Rattle.wiring.specs.Domain.{Domain, expanderAt, phyAt, typeOf, attributeOf}
+use Rattle.wiring.specs.Rows.{domainIn}
+use Rattle.benches.specs.JoinCall.{upward, free, freeIn}
+use Rattle.benches.proofs.Joins.{any-go, any-end, free-by, rows-room}
+use Rattle.wiring.proofs.Opening.{opened-as, opened-fits}
+use Rattle.benches.proofs.free.is_free.Statement.{statement}
+use Rattle.benches.proofs.free.is_free.Tie as tie
+
+slice-aggregate-read-domain : tie.Need-slice-aggregate-read-domain
+slice-aggregate-read-domain c = search needs
+
+read-domain-requires : tie.Need-read-domain-requires
+read-domain-requires c κs = search needs
+
+enum-told : tie.Need-enum-told
+enum-told c = search needs
+
+enum-known-read : tie.Need-enum-known-read
+enum-known-read c = search needs
+
+cast-e : tie.Need-cast-e
+cast-e c = search needs
+
+mul-e : tie.Need-mul-e
+mul-e c = search needs
+
+array-share-prefix-rows : tie.Need-array-share-prefix-rows
+array-share-prefix-rows c = opened-fits _ _ _ _ _ _ (rows-room ((c .before .before .before .before .before .before .before .args) .setting) ((c .before .before .before .before .before .before .before .args) .file .now) (replicate 16512 0) (length-replicate {A = ℕ} 16512 0)) ((c .before .before .before .before .read-domain) .ensures) ((c .before .read) .given .1) ((c .before .before .before .before .read-domain) .kept .1 .1 .0)
+
+slice-aggregate-is-free-in : tie.Need-slice-aggregate-is-free-in
+slice-aggregate-is-free-in c = sym (length-take-le _ ((c .before .before .before .before .before .read-domain) .last .1 .1 .0) (opened-fits _ _ _ _ _ _ (rows-room ((c .before .before .before .before .before .before .before .before .args) .setting) ((c .before .before .before .before .before .before .before .before .args) .file .now) (replicate 16512 0) (length-replicate {A = ℕ} 16512 0)) ((c .before .before .before .before .before .read-domain) .ensures) ((c .before .before .read) .given .1) ((c .before .before .before .before .before .read-domain) .kept .1 .1 .0)))
+
+is-free-in-requires : tie.Need-is-free-in-requires
+is-free-in-requires c κs = search needs
+
+returns : tie.Need-returns
+returns c = sym (ap (λ (x : Result Domain). freeIn x ((c .before .before .before .before .before .before .args) .i .0) ((c .before .before .before .before .before .before .args) .p .0)) (opened-as _ _ _ _ _ _ (rows-room ((c .before .before .before .before .before .before .args) .setting) ((c .before .before .before .before .before .before .args) .file .now) (replicate 16512 0) (length-replicate {A = ℕ} 16512 0)) ((c .before .before .before .read-domain) .ensures) ((c .enum-told) .given .1)))
+
+returns-2 : tie.Need-returns-2
+returns-2 c = (c .is-free-in) .ensures ∙ sym (ap (λ (x : Result Domain). freeIn x ((c .before .before .before .before .before .before .before .before .before .args) .i .0) ((c .before .before .before .before .before .before .before .before .before .args) .p .0)) (opened-as _ _ _ _ _ _ (rows-room ((c .before .before .before .before .before .before .before .before .before .args) .setting) ((c .before .before .before .before .before .before .before .before .before .args) .file .now) (replicate 16512 0) (length-replicate {A = ℕ} 16512 0)) ((c .before .before .before .before .before .before .read-domain) .ensures) ((c .before .before .before .read) .given .1) .0))
+
+pub is-free-spec : {M : Type 1} → statement M
+is-free-spec = tie.close (tie.spec slice-aggregate-read-domain read-domain-requires enum-told enum-known-read cast-e mul-e array-share-prefix-rows slice-aggregate-is-free-in is-free-in-requires returns returns-2)

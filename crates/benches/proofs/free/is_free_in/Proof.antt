@@ -1,0 +1,46 @@
+-- is_free_in goes by the tests of the definition.
+use native.Mathlib.Omega.{arith}
+use native.Mathlib.Nat.{sub-zero}
+use borrow.Author.Needs.{needs}
+use borrow.Author.Tests.{not-true, not-false}
+use Prim.Native.Nat.{ℕ, suc, _+_, _-_, _*_, _≤_, _<_}
+use mathlib.Core.Path.{_≡_, refl, sym, _∙_, ap, ap₂, subst}
+use mathlib.Core.Bool.{Bool, true, false, not, _&&_}
+use mathlib.Core.List.{List, [], _∷_, _++_}
+use lib.ListN.{length, getD, take, drop, set, replicate, length-set, length-drop, length-replicate, List·getD-eq-default}
+use lib.Seq.{paste, paste-zero, paste-suc, length-take-le}
+use borrow.Author.Tests.{eq-eqb, ne-eqb}
+use Rattle.frames.specs.Refusals.{Result, refused, good, refusal, then}
+use Rattle.wiring.specs.declared.Phy.{Phy}
+use Rattle.wiring.specs.declared.Phy.the-variants.{Vacant}
+use Rattle.wiring.specs.Lists.{any}
+use Rattle.wiring.specs.Domain.{Domain, expanderAt, phyAt, typeOf, attributeOf}
+use Rattle.wiring.specs.Rows.{domainIn}
+use Rattle.benches.specs.JoinCall.{upward, free, freeIn}
+use Rattle.benches.proofs.Joins.{any-go, any-end, free-by, rows-room}
+use Rattle.benches.proofs.free.is_free_in.Statement.{statement}
+use Rattle.benches.proofs.free.is_free_in.Tie as tie
+
+phy-at-requires : tie.Need-phy-at-requires
+phy-at-requires c κs = search needs
+
+phy-attribute-requires : tie.Need-phy-attribute-requires
+phy-attribute-requires c κs = search needs
+
+returns : tie.Need-returns
+returns c = sym (free-by (domainIn ((c .before .before .before .before .args) .rows .now)) ((c .before .before .before .before .args) .i .0) ((c .before .before .before .before .args) .p .0) (ne-eqb _ 1 (λ z. (c .if1) .taken (((c .before .phy-attribute) .ensures ∙ ap attributeOf ((c .before .before .phy-at) .ensures)) ∙ z))) refl refl)
+
+phy-type-requires : tie.Need-phy-type-requires
+phy-type-requires c κs = search needs
+
+returns-2 : tie.Need-returns-2
+returns-2 c = sym (free-by (domainIn ((c .before .before .before .before .before .before .args) .rows .now)) ((c .before .before .before .before .before .before .args) .i .0) ((c .before .before .before .before .before .before .args) .p .0) (eq-eqb _ 1 (sym ((c .before .before .before .phy-attribute) .ensures ∙ ap attributeOf ((c .before .before .before .before .phy-at) .ensures)) ∙ (c .before .before .if1) .left)) (ap not (ne-eqb _ 0 (λ z. (c .if2) .taken (((c .before .phy-type) .ensures ∙ ap typeOf ((c .before .before .before .before .phy-at) .ensures)) ∙ z)))) refl)
+
+has-upward-requires : tie.Need-has-upward-requires
+has-upward-requires c κs = search needs
+
+returns-3 : tie.Need-returns-3
+returns-3 c = sym (free-by (domainIn ((c .before .before .before .before .before .before .before .args) .rows .now)) ((c .before .before .before .before .before .before .before .args) .i .0) ((c .before .before .before .before .before .before .before .args) .p .0) (eq-eqb _ 1 (sym ((c .before .before .before .before .phy-attribute) .ensures ∙ ap attributeOf ((c .before .before .before .before .before .phy-at) .ensures)) ∙ (c .before .before .before .if1) .left)) (ap not (eq-eqb _ 0 (sym ((c .before .before .phy-type) .ensures ∙ ap typeOf ((c .before .before .before .before .before .phy-at) .ensures)) ∙ (c .before .if2) .left))) (sym ((c .has-upward) .ensures)))
+
+pub is-free-in-spec : {M : Type 1} → statement M
+is-free-in-spec = tie.close (tie.spec phy-at-requires phy-attribute-requires returns phy-type-requires returns-2 has-upward-requires returns-3)

@@ -1,0 +1,32 @@
+-- discover_size goes by byte 3, as the definition does.
+use native.Mathlib.Omega.{arith}
+use native.Mathlib.Nat.{sub-zero}
+use borrow.Author.Needs.{needs}
+use borrow.Author.Tests.{not-true, not-false}
+use Prim.Native.Nat.{ℕ, suc, _+_, _-_, _*_, _≤_, _<_}
+use mathlib.Core.Path.{_≡_, refl, sym, _∙_, ap, ap₂, subst}
+use mathlib.Core.Bool.{Bool, true, false, not, _&&_}
+use mathlib.Core.List.{List, [], _∷_, _++_}
+use lib.ListN.{length, getD, take, drop, set, replicate, length-set, length-drop, length-replicate, List·getD-eq-default}
+use lib.Seq.{paste, paste-zero, paste-suc, length-take-le}
+use Rattle.frames.specs.declared.Response.the-variants.{ReportGeneral, Discover}
+use Rattle.frames.specs.Bytes.{byte, numberAt}
+use Rattle.benches.specs.Bytes.{sizeFrom, physAfter, physFrom, expandersAfter, expanderPlace, phyPlace, typedTwo, cabledAt, joinedFile}
+use Rattle.benches.proofs.Offsets.{size-short, size-long, phys-go, phys-end, places-go, places-end}
+use Rattle.benches.proofs.places.discover_size.Statement.{statement}
+use Rattle.benches.proofs.places.discover_size.Tie as tie
+
+add-byte-at : tie.Need-add-byte-at
+add-byte-at c = search needs
+
+byte-at-requires : tie.Need-byte-at-requires
+byte-at-requires c κs = search needs
+
+returns : tie.Need-returns
+returns c = (size-short Discover ((c .before .before .before .args) .file .now) ((c .before .before .before .args) .at) _ ((c .before .byte-at) .ensures .0) ((c .if1) .taken), omega arith)
+
+returns-2 : tie.Need-returns-2
+returns-2 c = (size-long Discover ((c .before .before .before .args) .file .now) ((c .before .before .before .args) .at) _ ((c .before .byte-at) .ensures .0) ((c .if1) .left), omega arith)
+
+pub discover-size-spec : {M : Type 1} → statement M
+discover-size-spec = tie.close (tie.spec add-byte-at byte-at-requires returns returns-2)

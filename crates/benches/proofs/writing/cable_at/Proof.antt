@@ -1,0 +1,64 @@
+-- cable_at stores byte 12, byte 32 and the eight bytes of the address.
+use native.Mathlib.Omega.{arith}
+use native.Mathlib.Nat.{sub-zero}
+use borrow.Author.Needs.{needs}
+use borrow.Author.Tests.{not-true, not-false}
+use Prim.Native.Nat.{ℕ, suc, _+_, _-_, _*_, _≤_, _<_}
+use mathlib.Core.Path.{_≡_, refl, sym, _∙_, ap, ap₂, subst}
+use mathlib.Core.Bool.{Bool, true, false, not, _&&_}
+use mathlib.Core.List.{List, [], _∷_, _++_}
+use lib.ListN.{length, getD, take, drop, set, replicate, length-set, length-drop, length-replicate, List·getD-eq-default}
+use lib.Seq.{paste, paste-zero, paste-suc, length-take-le}
+use borrow.Rule.Slice.PartMut.{putMid, same-len-mid}
+use Rattle.benches.proofs.Written.{cable-put, both-put, both-cabled}
+use Rattle.frames.specs.declared.Response.the-variants.{ReportGeneral, Discover}
+use Rattle.frames.specs.Bytes.{byte, numberAt}
+use Rattle.benches.specs.Bytes.{sizeFrom, physAfter, physFrom, expandersAfter, expanderPlace, phyPlace, typedTwo, cabledAt, joinedFile}
+use Rattle.benches.proofs.Offsets.{size-short, size-long, phys-go, phys-end, places-go, places-end}
+use Rattle.benches.proofs.writing.cable_at.Statement.{statement}
+use Rattle.benches.proofs.writing.cable_at.Tie as tie
+
+add-type-two : tie.Need-add-type-two
+add-type-two c = search needs
+
+slice-read-type-two : tie.Need-slice-read-type-two
+slice-read-type-two c = search needs
+
+type-two-requires : tie.Need-type-two-requires
+type-two-requires c κs = search needs
+
+add-out : tie.Need-add-out
+add-out c = search needs
+
+slice-write-out : tie.Need-slice-write-out
+slice-write-out c = search needs
+
+add-out-2 : tie.Need-add-out-2
+add-out-2 c = search needs
+
+slice-write-out-2 : tie.Need-slice-write-out-2
+slice-write-out-2 c = simp length-set (omega arith)
+
+add-put-address : tie.Need-add-put-address
+add-put-address c = search needs
+
+sub-put-address : tie.Need-sub-put-address
+sub-put-address c = simp length-set (omega arith)
+
+part-put-address-start : tie.Need-part-put-address-start
+part-put-address-start c = simp length-set (omega arith)
+
+part-put-address-end : tie.Need-part-put-address-end
+part-put-address-end c = simp length-set (omega arith)
+
+put-address-requires : tie.Need-put-address-requires
+put-address-requires c κs = search needs
+
+same-length : tie.Need-same-length
+same-length c = same-len-mid ((c .before .before .before .before .before .before .before .args) .at + 24) (length (set (set ((c .before .before .before .before .before .before .before .args) .out .now) ((c .before .before .before .before .before .before .before .args) .at + 12) ((c .before .before .before .before .type-two) .result)) ((c .before .before .before .before .before .before .before .args) .at + 32) ((c .before .before .before .before .before .before .before .args) .q .0)) - ((c .before .before .before .before .before .before .before .args) .at + 24)) (set (set ((c .before .before .before .before .before .before .before .args) .out .now) ((c .before .before .before .before .before .before .before .args) .at + 12) ((c .before .before .before .before .type-two) .result)) ((c .before .before .before .before .before .before .before .args) .at + 32) ((c .before .before .before .before .before .before .before .args) .q .0)) ((c .before .before .put-address) .last .0) ((c .before .before .put-address) .kept .0) ∙ simp length-set
+
+returns : tie.Need-returns
+returns c = let t = (c .before .before .before .before .type-two) .ensures in let l : length (set (set ((c .before .before .before .before .before .before .before .args) .out .now) ((c .before .before .before .before .before .before .before .args) .at + 12) ((c .before .before .before .before .type-two) .result)) ((c .before .before .before .before .before .before .before .args) .at + 32) ((c .before .before .before .before .before .before .before .args) .q .0)) ≡ length ((c .before .before .before .before .before .before .before .args) .out .now) = simp length-set in subst (λ (b : ℕ). putMid ((c .before .before .before .before .before .before .before .args) .at + 24) (length (set (set ((c .before .before .before .before .before .before .before .args) .out .now) ((c .before .before .before .before .before .before .before .args) .at + 12) b) ((c .before .before .before .before .before .before .before .args) .at + 32) ((c .before .before .before .before .before .before .before .args) .q .0)) - ((c .before .before .before .before .before .before .before .args) .at + 24)) (set (set ((c .before .before .before .before .before .before .before .args) .out .now) ((c .before .before .before .before .before .before .before .args) .at + 12) b) ((c .before .before .before .before .before .before .before .args) .at + 32) ((c .before .before .before .before .before .before .before .args) .q .0)) ((c .before .before .put-address) .last .0) ≡ cabledAt ((c .before .before .before .before .before .before .before .args) .out .now) ((c .before .before .before .before .before .before .before .args) .at) ((c .before .before .before .before .before .before .before .args) .s) ((c .before .before .before .before .before .before .before .args) .q .0)) (sym t) (cable-put ((c .before .before .before .before .before .before .before .args) .out .now) ((c .before .before .before .before .before .before .before .args) .at) ((c .before .before .before .before .before .before .before .args) .s) ((c .before .before .before .before .before .before .before .args) .q .0) (length (set (set ((c .before .before .before .before .before .before .before .args) .out .now) ((c .before .before .before .before .before .before .before .args) .at + 12) (typedTwo (byte ((c .before .before .before .before .before .before .before .args) .out .now) ((c .before .before .before .before .before .before .before .args) .at + 12)))) ((c .before .before .before .before .before .before .before .args) .at + 32) ((c .before .before .before .before .before .before .before .args) .q .0)) - ((c .before .before .before .before .before .before .before .args) .at + 24)) ((c .before .before .put-address) .last .0) ((c .before .before .before .before .before .before .before .pre)) (ap (λ (n : ℕ). n - ((c .before .before .before .before .before .before .before .args) .at + 24)) (length-set (set ((c .before .before .before .before .before .before .before .args) .out .now) ((c .before .before .before .before .before .before .before .args) .at + 12) (typedTwo (byte ((c .before .before .before .before .before .before .before .args) .out .now) ((c .before .before .before .before .before .before .before .args) .at + 12)))) ((c .before .before .before .before .before .before .before .args) .at + 32) ((c .before .before .before .before .before .before .before .args) .q .0) ∙ length-set ((c .before .before .before .before .before .before .before .args) .out .now) ((c .before .before .before .before .before .before .before .args) .at + 12) (typedTwo (byte ((c .before .before .before .before .before .before .before .args) .out .now) ((c .before .before .before .before .before .before .before .args) .at + 12))))) (rw t at ((c .before .before .put-address) .ensures)))
+
+pub cable-at-spec : {M : Type 1} → statement M
+cable-at-spec = tie.close (tie.spec add-type-two slice-read-type-two type-two-requires add-out slice-write-out add-out-2 slice-write-out-2 add-put-address sub-put-address part-put-address-start part-put-address-end put-address-requires same-length returns)

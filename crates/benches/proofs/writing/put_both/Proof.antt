@@ -1,0 +1,59 @@
+-- put_both copies both files, and writes the header.
+use native.Mathlib.Omega.{arith}
+use native.Mathlib.Nat.{sub-zero}
+use borrow.Author.Needs.{needs}
+use borrow.Author.Tests.{not-true, not-false}
+use Prim.Native.Nat.{ℕ, suc, _+_, _-_, _*_, _≤_, _<_}
+use mathlib.Core.Path.{_≡_, refl, sym, _∙_, ap, ap₂, subst}
+use mathlib.Core.Bool.{Bool, true, false, not, _&&_}
+use mathlib.Core.List.{List, [], _∷_, _++_}
+use lib.ListN.{length, getD, take, drop, set, replicate, length-set, length-drop, length-replicate, List·getD-eq-default}
+use lib.Seq.{paste, paste-zero, paste-suc, length-take-le}
+use borrow.Rule.Slice.PartMut.{putMid, same-len-mid}
+use Rattle.benches.proofs.Written.{cable-put, both-put, both-cabled}
+use Rattle.frames.specs.declared.Response.the-variants.{ReportGeneral, Discover}
+use Rattle.frames.specs.Bytes.{byte, numberAt}
+use Rattle.benches.specs.Bytes.{sizeFrom, physAfter, physFrom, expandersAfter, expanderPlace, phyPlace, typedTwo, cabledAt, joinedFile}
+use Rattle.benches.proofs.Offsets.{size-short, size-long, phys-go, phys-end, places-go, places-end}
+use Rattle.wiring.proofs.Reading.{rest-whole}
+use Rattle.benches.proofs.writing.put_both.Statement.{statement}
+use Rattle.benches.proofs.writing.put_both.Tie as tie
+
+shared-slice-read-n : tie.Need-shared-slice-read-n
+shared-slice-read-n c = omega (arith, (c .before .before .before .before .pre) .0 .0)
+
+shared-slice-read-n-2 : tie.Need-shared-slice-read-n-2
+shared-slice-read-n-2 c = omega (arith, (c .before .before .before .before .before .pre) .0 .1)
+
+add-n : tie.Need-add-n
+add-n c = omega (arith, (c .before .before .before .before .before .pre) .1 .1)
+
+copy-requires : tie.Need-copy-requires
+copy-requires c κs = omega (arith, (c .before .before .before .before .before .before .pre) .1 .0)
+
+sub-copy : tie.Need-sub-copy
+sub-copy c = omega (arith, (c .before .before .before .before .before .before .before .before .before .before .pre) .0 .1)
+
+part-copy-start : tie.Need-part-copy-start
+part-copy-start c = omega (arith, (c .before .before .before .before .before .before .before .before .before .before .pre) .0 .1)
+
+part-copy-end : tie.Need-part-copy-end
+part-copy-end c = omega (arith, (c .before .before .before .before .before .before .before .before .before .before .pre) .0 .1)
+
+copy-requires-2 : tie.Need-copy-requires-2
+copy-requires-2 c κs = rw (rest-whole ((c .before .before .before .before .before .before .before .before .before .before .before .args) .second .now) 2) (omega (arith, length-drop 2 ((c .before .before .before .before .before .before .before .before .before .before .before .args) .second .now), (c .before .before .before .before .copy) .kept .0, (c .before .before .before .before .before .before .before .before .before .before .before .pre) .1 .0))
+
+slice-write-out : tie.Need-slice-write-out
+slice-write-out c = omega (arith, (c .before .before .copy2) .kept .0, (c .before .before .before .before .before .before .before .copy) .kept .0, (c .before .before .before .before .before .before .before .before .before .before .before .before .before .before .pre) .0 .0, (c .before .before .before .before .before .before .before .before .before .before .before .before .before .before .pre) .1 .0)
+
+slice-write-out-2 : tie.Need-slice-write-out-2
+slice-write-out-2 c = simp length-set (omega (arith, (c .before .before .copy2) .kept .0, (c .before .before .before .before .before .before .before .copy) .kept .0, (c .before .before .before .before .before .before .before .before .before .before .before .before .before .before .pre) .0 .0, (c .before .before .before .before .before .before .before .before .before .before .before .before .before .before .pre) .1 .0))
+
+same-length : tie.Need-same-length
+same-length c = simp length-set ((c .before .before .copy2) .kept .0 ∙ (c .before .before .before .before .before .before .before .copy) .kept .0)
+
+returns : tie.Need-returns
+returns c = let f = (c .before .before .before .before .before .before .before .before .before .before .before .before .before .before .args) .first .now in let s = (c .before .before .before .before .before .before .before .before .before .before .before .before .before .before .args) .second .now in let n = getD f 1 0 + getD s 1 0 in let b = rw (rest-whole s 2) at ((c .before .before .copy2) .ensures) in ap (λ (v : List ℕ). set (set v 0 0x10) 1 n) (b ∙ ap (λ (v : List ℕ). paste v (length f) (drop 2 s) (length (drop 2 s))) ((c .before .before .before .before .before .before .before .copy) .ensures)) ∙ both-put ((c .before .before .before .before .before .before .before .before .before .before .before .before .before .before .args) .out .now) f s n ((c .before .before .before .before .before .before .before .before .before .before .before .before .before .before .pre) .0 .0) ((c .before .before .before .before .before .before .before .before .before .before .before .before .before .before .pre) .0 .1) ((c .before .before .before .before .before .before .before .before .before .before .before .before .before .before .pre) .1 .0)
+
+pub put-both-spec : {M : Type 1} → statement M
+put-both-spec = tie.close (tie.spec shared-slice-read-n shared-slice-read-n-2 add-n copy-requires sub-copy part-copy-start part-copy-end copy-requires-2 slice-write-out slice-write-out-2 same-length returns)
