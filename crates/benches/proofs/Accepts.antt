@@ -13,6 +13,7 @@ use Rattle.wiring.specs.declared.Setting.{Setting}
 use Rattle.wiring.specs.declared.Phy.{Phy}
 use Rattle.wiring.specs.Lists.{In, Distinct}
 use Rattle.wiring.specs.Domain.{Expander, Domain, noExpander, expanderAt, phyAt}
+use Rattle.wiring.specs.PhySet.{withPhy, setPhy}
 use Rattle.wiring.specs.Read.{ReadPhy, ReadExpander, addresses, Read}
 use Rattle.wiring.specs.Devices.{Borne}
 use Rattle.wiring.specs.Chains.{ShortChains}
@@ -24,7 +25,7 @@ use Rattle.tables.specs.Tables.{tables}
 use Rattle.tables.specs.Judge.{judgedDomain}
 use Rattle.tables.proofs.Given.{accepted-iff}
 use Rattle.benches.specs.Bench.{Free, Joinable}
-use Rattle.benches.specs.Joined.{withPhy, setPhy, cabledTo, joined}
+use Rattle.benches.specs.Joined.{cabledTo, joined}
 use Rattle.benches.proofs.Holds.{routes-inside, joined-length}
 use Rattle.benches.proofs.JoinTables.{joined-tables}
 use Rattle.benches.proofs.Benches.{joined-wired, joined-linked, joined-fits, wired-apart}

@@ -13,10 +13,11 @@ use lib.Dec.{T, eqb, eqb→eq, not-T}
 use Rattle.wiring.specs.declared.Phy.{Phy}
 use Rattle.wiring.specs.declared.Phy.the-variants.{Vacant}
 use Rattle.wiring.specs.Domain.{Expander, Domain, noExpander, expanderAt, phyAt, routes, attached, numberOf}
+use Rattle.wiring.specs.PhySet.{withPhy, setPhy}
 use Rattle.wiring.specs.Devices.{Home, Borne}
 use Rattle.wiring.proofs.Wires.{numberOf-is, routes-range, expander-range}
 use Rattle.benches.specs.Bench.{Free, Joinable}
-use Rattle.benches.specs.Joined.{withPhy, setPhy, cabledTo, joined}
+use Rattle.benches.specs.Joined.{cabledTo, joined}
 
 -- what is so of a cabled part whatever the addresses
 pub record Stands (d e : Domain) (k i p : ℕ) : Type 0 where

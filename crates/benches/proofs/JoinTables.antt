@@ -11,11 +11,12 @@ use lib.Dec.{T}
 use Rattle.wiring.specs.declared.Phy.{Phy}
 use Rattle.wiring.specs.Lists.{keep}
 use Rattle.wiring.specs.Domain.{Expander, Domain, expanderAt, phyAt, routes}
+use Rattle.wiring.specs.PhySet.{withPhy, setPhy}
 use Rattle.wiring.specs.Causes.{Place, place, phyPlaces, placesFrom, places}
 use Rattle.wiring.specs.Tested.{Linked}
 use Rattle.wiring.proofs.Wires.{Wired}
 use Rattle.tables.specs.Tables.{table, tablePlaces, tables}
-use Rattle.benches.specs.Joined.{withPhy, setPhy, cabledTo, joined}
+use Rattle.benches.specs.Joined.{cabledTo, joined}
 use Rattle.benches.specs.Bench.{Joinable}
 use Rattle.benches.proofs.Holds.{Part, length-with, first-part, second-part}
 use Rattle.benches.proofs.PartTables.{table-same, routes-same}

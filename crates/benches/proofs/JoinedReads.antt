@@ -14,6 +14,7 @@ use Rattle.frames.specs.Refusals.{Result, refused, good, unless, then, refusal}
 use Rattle.wiring.specs.declared.Setting.{Setting}
 use Rattle.wiring.specs.Settings.{within, inRange}
 use Rattle.wiring.specs.Domain.{Expander, Domain, expanderAt, phyAt, attributeOf, routes}
+use Rattle.wiring.specs.PhySet.{setPhy}
 use Rattle.wiring.specs.Read.{Bytes, Read}
 use Rattle.wiring.specs.File.{headerUnit, domainRead, expanders}
 use Rattle.wiring.specs.Devices.{Borne}
@@ -28,7 +29,7 @@ use Rattle.tables.specs.Judge.{judgedDomain, judged}
 use Rattle.tables.proofs.Given.{judged-file}
 use Rattle.benches.specs.Bench.{Free, Joinable}
 use Rattle.benches.specs.Bytes.{expanderPlace, phyPlace, addressIn, cabledAt, joinedFile}
-use Rattle.benches.specs.Joined.{setPhy, cabledTo, joined}
+use Rattle.benches.specs.Joined.{cabledTo, joined}
 use Rattle.benches.proofs.Offsets.{units-of, expander-there, head-found, phy-placed}
 use Rattle.benches.proofs.Written.{cabled-rest}
 use Rattle.benches.proofs.Units.{UnitBytes, UnitsOf, unitsBytes, expandersAll, placeIn, units-read, units-cut, CutUnits, testedAll, cableUnits, units-cabled, domain-cabled, bytes-units, has-phy, has-less, bytes-append, domain-append, units-append, length-units, tested-is, tested-pass}

@@ -27,12 +27,13 @@ use Rattle.wiring.specs.Read.{ReadExpander, addresses}
 use Rattle.wiring.proofs.Members.{is-false, of-isIn, in-cast, in-append}
 use Rattle.wiring.specs.Settings.{within}
 use Rattle.wiring.specs.Domain.{Expander, Domain, expanderAt, phyAt, attributeOf}
+use Rattle.wiring.specs.PhySet.{withPhy, setPhy}
 use Rattle.wiring.specs.File.{Parsed, parsed, sizeAt, phyOf, phyUnit, phyUnits, unitOf, unitTested, expanderUnit, expanderOf, expanders}
 use Rattle.wiring.specs.Units.{endsAt}
 use Rattle.wiring.proofs.Results.{never, good-one, unless-good, then-good}
 use Rattle.wiring.proofs.Reading.{size-whole, size-within, expander-unit-by}
 use Rattle.benches.specs.Bytes.{sizeFrom, physAfter, physFrom, expandersAfter, cabledFrame, cabledAt}
-use Rattle.benches.specs.Joined.{withPhy, setPhy, cabledTo}
+use Rattle.benches.specs.Joined.{cabledTo}
 use Rattle.benches.proofs.Offsets.{Found, unit-found, phy-found, phys-count, phys-after, head-found, unit-after, tested-same}
 use Rattle.benches.proofs.Written.{frame-left, cabled-left, cabled-right, length-frame}
 use Rattle.benches.proofs.Frames.{FrameOf, size-there, frame-reads, frame-of, cabled-frame}

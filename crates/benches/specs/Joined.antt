@@ -1,18 +1,10 @@
 -- Two domains on one bench (document 02, paper 12): the first's expanders, then the second's, and one cable between two subtractive phys.
 use Prim.Native.Nat.{ℕ}
 use mathlib.Core.List.{List, _++_}
-use lib.ListN.{set}
 use Rattle.wiring.specs.declared.Phy.{Phy}
 use Rattle.wiring.specs.declared.Phy.the-variants.{Present}
-use Rattle.wiring.specs.Domain.{Expander, Domain, expanderAt}
-
--- an expander with its phy p replaced
-unfoldable pub withPhy : Expander → ℕ → Phy → Expander
-withPhy e p φ = record { address = e .address; indexes = e .indexes; configurable = e .configurable; phys = set (e .phys) p φ }
-
--- a domain with phy p of expander i replaced
-unfoldable pub setPhy : Domain → ℕ → ℕ → Phy → Domain
-setPhy d i p φ = set d i (withPhy (expanderAt d i) p φ)
+use Rattle.wiring.specs.Domain.{Domain, expanderAt}
+use Rattle.wiring.specs.PhySet.{setPhy}
 
 -- a subtractive phy cabled to phy q of the expander with address s: type 2, far address, far phy
 abbrev pub cabledTo : ℕ → ℕ → Phy
