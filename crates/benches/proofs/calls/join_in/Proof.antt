@@ -1,19 +1,15 @@
 -- join_in writes the joined file, judges it, and copies it where it is accepted and fits.
 use native.Mathlib.Omega.{arith}
-use native.Mathlib.Nat.{sub-zero}
 use borrow.Author.Needs.{needs}
-use borrow.Author.Tests.{not-true, not-false}
-use Prim.Native.Nat.{ℕ, suc, _+_, _-_, _*_, _≤_, _<_}
-use mathlib.Core.Path.{_≡_, refl, sym, _∙_, ap, ap₂, subst}
-use mathlib.Core.Bool.{Bool, true, false, not, _&&_}
-use mathlib.Core.List.{List, [], _∷_, _++_}
-use lib.ListN.{length, getD, take, drop, set, replicate, length-set, length-drop, length-replicate, List·getD-eq-default}
-use lib.Seq.{paste, paste-zero, paste-suc, length-take-le}
-use Rattle.frames.specs.Refusals.{Result, refused, good, refusal, then}
+use Prim.Native.Nat.{ℕ, _+_, _-_}
+use mathlib.Core.Path.{refl, sym, _∙_, ap}
+use mathlib.Core.List.{List}
+use lib.ListN.{length}
+use lib.Seq.{paste, length-take-le}
+use Rattle.frames.specs.Refusals.{refusal, then}
 use Rattle.tables.specs.Judge.{judged, judgeAnswer, expandersIn}
 use Rattle.benches.specs.Bytes.{joinedFile}
-use Rattle.benches.specs.JoinCall.{joinCall}
-use Rattle.benches.proofs.Joins.{join-refused, join-good, not-judged, was-judged, accepted-as, first-refused, second-refused, one-bound, other-bound, many-refused, ready, placed-first, placed-second, header-fits, joined-size, scratch-fits, joined-refused, joined-short, joined-good, shift-fits, scratch-is, copied, accepted-few, accepted-two, accepted-bound}
+use Rattle.benches.proofs.Joins.{join-refused, join-good, not-judged, was-judged, placed-first, placed-second, header-fits, joined-size, joined-refused, joined-short, joined-good, scratch-is, copied}
 use Rattle.benches.proofs.calls.join_in.Statement.{statement}
 use Rattle.benches.proofs.calls.join_in.Tie as tie
 

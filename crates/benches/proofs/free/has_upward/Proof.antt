@@ -1,23 +1,15 @@
 -- has_upward looks at phy after phy; its loop's invariant: there is one among the phys to come where there is one at all.
 use native.Mathlib.Omega.{arith}
-use native.Mathlib.Nat.{sub-zero}
 use borrow.Author.Needs.{needs}
-use borrow.Author.Tests.{not-true, not-false}
-use Prim.Native.Nat.{ℕ, suc, _+_, _-_, _*_, _≤_, _<_}
-use mathlib.Core.Path.{_≡_, refl, sym, _∙_, ap, ap₂, subst}
-use mathlib.Core.Bool.{Bool, true, false, not, _&&_}
-use mathlib.Core.List.{List, [], _∷_, _++_}
-use lib.ListN.{length, getD, take, drop, set, replicate, length-set, length-drop, length-replicate, List·getD-eq-default}
-use lib.Seq.{paste, paste-zero, paste-suc, length-take-le}
-use borrow.Author.Tests.{eq-eqb, ne-eqb}
-use Rattle.frames.specs.Refusals.{Result, refused, good, refusal, then}
-use Rattle.wiring.specs.declared.Phy.{Phy}
-use Rattle.wiring.specs.declared.Phy.the-variants.{Vacant}
+use Prim.Native.Nat.{_-_, _≤_}
+use mathlib.Core.Path.{_≡_, refl, sym, _∙_, ap}
+use mathlib.Core.Bool.{true, false}
+use lib.ListN.{length, drop}
 use Rattle.wiring.specs.Lists.{any}
-use Rattle.wiring.specs.Domain.{Domain, expanderAt, phyAt, typeOf, attributeOf}
+use Rattle.wiring.specs.Domain.{expanderAt}
 use Rattle.wiring.specs.Rows.{domainIn}
-use Rattle.benches.specs.JoinCall.{upward, free, freeIn}
-use Rattle.benches.proofs.Joins.{any-go, any-end, free-by, rows-room}
+use Rattle.benches.specs.JoinCall.{upward}
+use Rattle.benches.proofs.Joins.{any-go, any-end}
 use Rattle.benches.proofs.free.has_upward.Statement.{statement}
 use Rattle.benches.proofs.free.has_upward.Tie as tie
 

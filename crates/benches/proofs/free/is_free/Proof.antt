@@ -1,23 +1,13 @@
 -- is_free reads the file into rows, and tests the domain in the rows.
-use native.Mathlib.Omega.{arith}
-use native.Mathlib.Nat.{sub-zero}
 use borrow.Author.Needs.{needs}
-use borrow.Author.Tests.{not-true, not-false}
-use Prim.Native.Nat.{ℕ, suc, _+_, _-_, _*_, _≤_, _<_}
-use mathlib.Core.Path.{_≡_, refl, sym, _∙_, ap, ap₂, subst}
-use mathlib.Core.Bool.{Bool, true, false, not, _&&_}
-use mathlib.Core.List.{List, [], _∷_, _++_}
-use lib.ListN.{length, getD, take, drop, set, replicate, length-set, length-drop, length-replicate, List·getD-eq-default}
-use lib.Seq.{paste, paste-zero, paste-suc, length-take-le}
-use borrow.Author.Tests.{eq-eqb, ne-eqb}
-use Rattle.frames.specs.Refusals.{Result, refused, good, refusal, then}
-use Rattle.wiring.specs.declared.Phy.{Phy}
-use Rattle.wiring.specs.declared.Phy.the-variants.{Vacant}
-use Rattle.wiring.specs.Lists.{any}
-use Rattle.wiring.specs.Domain.{Domain, expanderAt, phyAt, typeOf, attributeOf}
-use Rattle.wiring.specs.Rows.{domainIn}
-use Rattle.benches.specs.JoinCall.{upward, free, freeIn}
-use Rattle.benches.proofs.Joins.{any-go, any-end, free-by, rows-room}
+use Prim.Native.Nat.{ℕ}
+use mathlib.Core.Path.{sym, _∙_, ap}
+use lib.ListN.{replicate, length-replicate}
+use lib.Seq.{length-take-le}
+use Rattle.frames.specs.Refusals.{Result}
+use Rattle.wiring.specs.Domain.{Domain}
+use Rattle.benches.specs.JoinCall.{freeIn}
+use Rattle.benches.proofs.Joins.{rows-room}
 use Rattle.wiring.proofs.Opening.{opened-as, opened-fits}
 use Rattle.benches.proofs.free.is_free.Statement.{statement}
 use Rattle.benches.proofs.free.is_free.Tie as tie

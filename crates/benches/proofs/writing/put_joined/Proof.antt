@@ -1,20 +1,13 @@
 -- put_joined writes both files, and then each end of the cable.
 use native.Mathlib.Omega.{arith}
-use native.Mathlib.Nat.{sub-zero}
 use borrow.Author.Needs.{needs}
-use borrow.Author.Tests.{not-true, not-false}
-use Prim.Native.Nat.{ℕ, suc, _+_, _-_, _*_, _≤_, _<_}
-use mathlib.Core.Path.{_≡_, refl, sym, _∙_, ap, ap₂, subst}
-use mathlib.Core.Bool.{Bool, true, false, not, _&&_}
-use mathlib.Core.List.{List, [], _∷_, _++_}
-use lib.ListN.{length, getD, take, drop, set, replicate, length-set, length-drop, length-replicate, List·getD-eq-default}
-use lib.Seq.{paste, paste-zero, paste-suc, length-take-le}
-use borrow.Rule.Slice.PartMut.{putMid, same-len-mid}
-use Rattle.benches.proofs.Written.{cable-put, both-put, joined-put}
-use Rattle.frames.specs.declared.Response.the-variants.{ReportGeneral, Discover}
-use Rattle.frames.specs.Bytes.{byte, numberAt}
-use Rattle.benches.specs.Bytes.{sizeFrom, physAfter, physFrom, expandersAfter, expanderPlace, phyPlace, typedTwo, cabledAt, joinedFile}
-use Rattle.benches.proofs.Offsets.{size-short, size-long, phys-go, phys-end, places-go, places-end}
+use Prim.Native.Nat.{ℕ, _+_, _-_}
+use mathlib.Core.Path.{_∙_, ap}
+use mathlib.Core.List.{List}
+use lib.ListN.{length}
+use Rattle.benches.proofs.Written.{joined-put}
+use Rattle.frames.specs.Bytes.{numberAt}
+use Rattle.benches.specs.Bytes.{cabledAt}
 use Rattle.benches.proofs.writing.put_joined.Statement.{statement}
 use Rattle.benches.proofs.writing.put_joined.Tie as tie
 
