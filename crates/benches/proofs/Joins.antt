@@ -80,14 +80,11 @@ module _ (setting : Setting) (first : List ℕ) (i p : ℕ) (second : List ℕ) 
     pub other-bound : freeIn (domainRead setting second) j q ≡ false → call ≡ refused (refusal 21 0 0)
     other-bound h =
         let k : free (b .domain) j q ≡ false = ap (λ (x : Result Domain). freeIn x j q) (sym (judged-file setting second (b .domain) .0 (b .accepted) .0)) ∙ h in
-        both-accepted (a .domain) (b .domain) (a .accepted) (b .accepted) ∙ go (free (a .domain) i p) (free (b .domain) j q) k
+        both-accepted (a .domain) (b .domain) (a .accepted) (b .accepted) ∙ go (free (a .domain) i p) (free (b .domain) j q) _ k
       where
-        rest : Result (List ℕ)
-        rest = then (judged setting (joinedFile first i p second j q)) (λ _. fitting room (joinedFile first i p second j q))
-
-        go : (x y : Bool) → y ≡ false → unless (x && y) (refusal 21 0 0) rest ≡ refused (refusal 21 0 0)
-        go true y e = rw e
-        go false y e = refl
+        go : (x y : Bool) (rest : Result (List ℕ)) → y ≡ false → unless (x && y) (refusal 21 0 0) rest ≡ refused (refusal 21 0 0)
+        go true y rest e = rw e
+        go false y rest e = refl
 
     -- the header of the joined file states the sum
     sum-stated : byte first 1 + byte second 1 ≡ n + m
