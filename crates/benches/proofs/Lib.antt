@@ -14,4 +14,5 @@ pub mod Accepts
 pub mod Across
 pub mod JoinedReads
 pub mod Exactly
+pub mod JoinedEntries
 mod Worked
