@@ -13,6 +13,7 @@ use Rattle.wiring.specs.declared.Setting.{Setting}
 use Rattle.wiring.specs.declared.Phy.{Phy}
 use Rattle.wiring.specs.declared.Phy.the-variants.{Vacant}
 use Rattle.wiring.specs.Lists.{In, any}
+use Rattle.wiring.specs.Settings.{widest}
 use Rattle.wiring.specs.Domain.{Domain, expanderAt, phyAt, routes, attached}
 use Rattle.wiring.specs.Read.{Bytes}
 use Rattle.wiring.specs.Devices.{Borne}
@@ -20,14 +21,16 @@ use Rattle.wiring.specs.Chains.{ShortChains}
 use Rattle.wiring.proofs.Members.{and-left, and-right, and-both, any-of, of-any, getD-in, in-getD}
 use Rattle.wiring.proofs.Results.{never, unless-good, good-unless, then-good, good-then}
 use Rattle.wiring.proofs.Wires.{in-range}
+use Rattle.wiring.proofs.LongChains.{never-long}
 use Rattle.tables.specs.Judge.{judged}
 use Rattle.tables.proofs.Given.{judged-file}
 use Rattle.benches.specs.declared.Joining.{Joining}
 use Rattle.benches.specs.declared.Joining.the-variants.{Refused, Bytes as Length}
-use Rattle.benches.specs.Bench.{Free}
+use Rattle.benches.specs.Bench.{Free, Joinable}
 use Rattle.benches.specs.Bytes.{joinedFile}
 use Rattle.benches.specs.Joined.{joined}
 use Rattle.benches.specs.JoinCall.{upward, free, fitting, joinFor, joinCall, joiningAnswer, lengthOf, JoinDone}
+use Rattle.benches.proofs.Holds.{joined-length}
 use Rattle.benches.proofs.JoinedReads.{judging-joined, joined-exactly}
 use Rattle.benches.proofs.Joins.{both-accepted}
 
@@ -135,3 +138,16 @@ module _ (setting : Setting) (first : List ℕ) (i p : ℕ) (second : List ℕ) 
 
       back : Conditions setting d₁ i p d₂ j q → (n : ℕ) × (answer ≡ Length n)
       back c = let y = yields-exactly (length before) enough .1 c in answered answer (length (y .0)) (done .answers ∙ ap (λ (x : Result (List ℕ)). then x lengthOf) (y .1))
+
+-- for the setting 64, 128, 64 no chain is too long, and the last condition falls away: the paper's own sentence
+pub join-widest : (first : List ℕ) (i p : ℕ) (second : List ℕ) (j q : ℕ) (d₁ d₂ : Domain) → judged widest first ≡ good d₁ → judged widest second ≡ good d₂
+    → Bytes first → Bytes second → (answer : Joining) (before after : List ℕ) → length (joinedFile first i p second j q) ≤ length before
+    → JoinDone (joinCall widest first i p second j q (length before)) answer before after
+    → ((n : ℕ) × (answer ≡ Length n)) ↔ ((length d₁ + length d₂ ≤ 64) × Joinable d₁ i p d₂ j q)
+join-widest first i p second j q d₁ d₂ e₁ e₂ b₁ b₂ answer before after enough done = (
+  λ h. let c = exactly .0 h in (c .few, record { first = c .first; second = c .second; apart = c .apart }),
+  λ h. exactly .1 (record { few = h .0; first = h .1 .first; second = h .1 .second; apart = h .1 .apart; short = never-long 64 (joined d₁ i p d₂ j q) (omega (arith, h .0, joined-length d₁ i p d₂ j q)) }),
+)
+  where
+    exactly : ((n : ℕ) × (answer ≡ Length n)) ↔ Conditions widest d₁ i p d₂ j q
+    exactly = join-exactly widest first i p second j q d₁ d₂ e₁ e₂ b₁ b₂ answer before after enough done
