@@ -2,17 +2,16 @@
 -- in both.
 use mathlib.Core.Path.{_≡_, refl, sym, ap, ap₂, subst, _∙_}
 use mathlib.Core.Logic.{_⊎_, inl, inr, _≢_, _↔_, ⊎-elim}
-use mathlib.Core.List.{List, [], _∷_, _++_, map, map-append}
+use mathlib.Core.List.{List, [], _∷_, _++_, map-append}
 use Prim.Native.Nat.{ℕ, zero, suc, _+_, _≤_, _<_}
 use native.Mathlib.Omega.{arith}
-use lib.ListN.{length, getD, set, length-set}
+use lib.ListN.{length, set, length-set}
 use lib.Seq.{map-set-same}
-use lib.Dec.{T}
 use Rattle.frames.specs.Refusals.{good}
 use Rattle.wiring.specs.declared.Setting.{Setting}
 use Rattle.wiring.specs.declared.Phy.{Phy}
 use Rattle.wiring.specs.Lists.{In, Distinct}
-use Rattle.wiring.specs.Domain.{Expander, Domain, noExpander, expanderAt, phyAt}
+use Rattle.wiring.specs.Domain.{Expander, Domain, noExpander, expanderAt}
 use Rattle.wiring.specs.PhySet.{withPhy, setPhy}
 use Rattle.wiring.specs.Read.{ReadPhy, ReadExpander, addresses, Read}
 use Rattle.wiring.specs.Devices.{Borne}

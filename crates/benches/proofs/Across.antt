@@ -1,16 +1,16 @@
 -- Arrival across the bench: where neither domain has a table-to-table link, a request from any device of either reaches every device of both, over the
 -- two domains' tables one after the other.
-use mathlib.Core.Path.{_≡_, refl, sym, ap, subst, _∙_}
-use mathlib.Core.Logic.{_⊎_, inl, inr, _≢_, ⊎-elim}
-use mathlib.Core.List.{List, [], _∷_, _++_, append-assoc}
-use Prim.Native.Nat.{ℕ, _+_, _≤_, _<_}
+use mathlib.Core.Path.{_≡_, refl, ap, subst, _∙_}
+use mathlib.Core.Logic.{_⊎_, inl, inr, _≢_}
+use mathlib.Core.List.{List, _∷_, _++_, append-assoc}
+use Prim.Native.Nat.{ℕ, _+_, _<_}
 use native.Mathlib.Omega.{arith}
 use lib.ListN.{length}
 use Rattle.frames.specs.Refusals.{good}
 use Rattle.wiring.specs.declared.Setting.{Setting}
 use Rattle.wiring.specs.Domain.{Domain}
 use Rattle.wiring.specs.Read.{Read}
-use Rattle.wiring.specs.Devices.{Home, Borne, NoTableToTable}
+use Rattle.wiring.specs.Devices.{Borne, NoTableToTable}
 use Rattle.tables.specs.Tables.{tables}
 use Rattle.tables.specs.Judge.{judgedDomain}
 use Rattle.tables.proofs.Beyond.{all-clear}

@@ -1,27 +1,21 @@
 -- Paper 12 on domains: when a joined domain is accepted, its tables, and arrival across the bench.
-use mathlib.Core.Path.{_≡_, refl, sym, ap, ap₂, subst, _∙_}
-use mathlib.Core.Logic.{_⊎_, inl, inr, _≢_, _↔_, ⊎-elim, by-cases}
-use mathlib.Core.List.{List, [], _∷_, _++_}
+use mathlib.Core.Path.{_≡_, refl, sym, ap, subst, _∙_}
+use mathlib.Core.Logic.{inl, inr, by-cases}
 use mathlib.Core.Bool.{Bool, true, false, not}
-use Prim.Native.Nat.{ℕ, zero, suc, _+_, _-_, _≤_, _<_}
-use native.Mathlib.Decide.{ℕ-discrete, decLt}
+use Prim.Native.Nat.{ℕ, _+_, _-_, _≤_, _<_}
+use native.Mathlib.Decide.{decLt}
 use native.Mathlib.Omega.{arith}
-use lib.ListN.{length, getD}
+use lib.ListN.{length}
 use lib.Dec.{T, ltb, lt→ltb, ltb→lt}
 use Rattle.wiring.specs.Domain.{Domain, expanderAt, phyAt, addressOf, attached, toEnd}
 use Rattle.wiring.specs.Devices.{Home, Borne, NoTableToTable}
 use Rattle.wiring.specs.Tested.{Linked}
-use Rattle.wiring.specs.Chains.{ShortChains}
 use Rattle.wiring.proofs.Members.{is-true, is-false}
 use Rattle.wiring.proofs.Wires.{Wired, end-attached}
-use Rattle.wiring.proofs.LongChains.{never-long}
-use Rattle.tables.specs.Tables.{tables}
-use Rattle.tables.specs.Tested.{Routable}
 use Rattle.tracing.proofs.Arrives.{home-once}
 use Rattle.benches.specs.Bench.{Free, Joinable}
 use Rattle.benches.specs.Joined.{joined}
 use Rattle.benches.proofs.Holds.{Part, Stands, joined-length, first-part, second-part, first-stands, second-stands}
-use Rattle.benches.proofs.JoinTables.{joined-tables}
 use Rattle.benches.proofs.Whole.{Fits, wiredE, linkedE, fitsE, untiedE}
 
 module _ (d₁ : Domain) (i p : ℕ) (d₂ : Domain) (j q : ℕ) where

@@ -1,6 +1,6 @@
 -- The expander of a refusal is at most the number of expanders: with the first's count added it is still a byte.
-use Prim.Native.Nat.{ℕ, zero, suc, _+_, _≤_, _<_}
-use mathlib.Core.Path.{_≡_, refl, sym, _∙_, ap, subst}
+use Prim.Native.Nat.{ℕ, zero, suc, _+_, _≤_}
+use mathlib.Core.Path.{_≡_, refl, subst}
 use mathlib.Core.Bool.{Bool, true, false, cond, not, _&&_}
 use mathlib.Core.List.{List, [], _∷_, _++_}
 use native.Mathlib.Omega.{arith}
@@ -13,11 +13,10 @@ use Rattle.frames.specs.Discovery.{Discovered, vacant, fields, discoverRead}
 use Rattle.frames.specs.declared.Refusal.{Refusal}
 use Rattle.frames.specs.declared.Response.the-variants.{ReportGeneral, Discover}
 use Rattle.wiring.specs.declared.Setting.{Setting}
-use Rattle.wiring.specs.declared.Phy.{Phy}
 use Rattle.wiring.specs.Lists.{numbers, upTo, isIn}
 use Rattle.wiring.specs.Settings.{within, inRange}
 use Rattle.wiring.specs.Domain.{Domain}
-use Rattle.wiring.specs.File.{Parsed, placed, frameAt, fieldsOf, ranged, phyOf, phyUnit, phyUnits, unitOf, unitTested, expanderUnit, expanders, headerUnit, domainRead}
+use Rattle.wiring.specs.File.{placed, frameAt, fieldsOf, ranged, phyOf, phyUnit, phyUnits, unitOf, unitTested, expanderUnit, expanders, headerUnit, domainRead}
 use Rattle.wiring.specs.Causes.{Place, phyPlaces, placesFrom, places, firstIn, firstOf, unanswered, claimed, clashing, fixed, wiredDomain}
 use Rattle.wiring.specs.Chains.{unlong, chainsWithin}
 use Rattle.wiring.specs.Neighbours.{neighbours}

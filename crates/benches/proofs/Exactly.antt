@@ -1,14 +1,13 @@
 -- The join call answers with a length exactly when the conditions of paper 12 hold: over what it promises.
-use Prim.Native.Nat.{ℕ, _+_, _≤_, _<_}
+use Prim.Native.Nat.{ℕ, _+_, _≤_}
 use mathlib.Core.Path.{_≡_, refl, sym, _∙_, ap, subst}
 use mathlib.Core.Logic.{_↔_}
-use mathlib.Core.Bool.{Bool, not, _&&_}
+use mathlib.Core.Bool.{not, _&&_}
 use mathlib.Core.List.{List}
 use native.Mathlib.Omega.{arith}
 use lib.ListN.{length}
 use lib.Dec.{T, leb, not-T, T-not, le→leb}
-use Rattle.frames.specs.Refusals.{Result, refused, good, unless, then, refusal}
-use Rattle.frames.specs.declared.Refusal.{Refusal}
+use Rattle.frames.specs.Refusals.{Result, refused, good, then, refusal}
 use Rattle.wiring.specs.declared.Setting.{Setting}
 use Rattle.wiring.specs.declared.Phy.{Phy}
 use Rattle.wiring.specs.declared.Phy.the-variants.{Vacant}

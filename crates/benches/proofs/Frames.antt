@@ -1,16 +1,16 @@
 -- One DISCOVER response as bytes: it reads alike wherever it stands, and with the cable it reads as the cabled phy.
-use Prim.Native.Nat.{ℕ, zero, suc, _+_, _*_, _/_, _%_, _≤_, _<_, _^_}
+use Prim.Native.Nat.{ℕ, _+_, _≤_, _<_, _^_}
 use mathlib.Core.Path.{_≡_, refl, sym, _∙_, ap, subst}
 use mathlib.Core.Logic.{_≢_}
-use mathlib.Core.Bool.{Bool, true, false, not, _||_, _&&_}
-use mathlib.Core.List.{List, [], _∷_, _++_}
+use mathlib.Core.Bool.{Bool, true, false, _&&_}
+use mathlib.Core.List.{List, _++_}
 use native.Mathlib.Omega.{arith}
-use lib.ListN.{length, getD, take, drop, length-append, length-drop, List·getD-append}
+use lib.ListN.{length, take, drop, length-append, length-drop, List·getD-append}
 use lib.Seq.{take-at, length-take-le, getD-take}
-use lib.Dec.{T, eqb, leb, eqb→eq}
-use borrow.Author.Tests.{le-leb, eq-eqb, ne-eqb, leb-true}
+use lib.Dec.{T, eqb, leb}
+use borrow.Author.Tests.{le-leb, eq-eqb, ne-eqb}
 use Rattle.frames.specs.Bytes.{byte, bits, numberAt, bytesOf}
-use Rattle.frames.specs.Refusals.{Result, refused, good, unless, then, refusal}
+use Rattle.frames.specs.Refusals.{good, refusal}
 use Rattle.frames.specs.Sizes.{sizeStated, frameSize}
 use Rattle.frames.specs.Discovery.{Discovered, vacant, fields, discoverFixed, discoverFields, byResult, discovered, discoverRead}
 use Rattle.frames.specs.declared.Discover.{Discover}
@@ -20,11 +20,10 @@ use Rattle.frames.proofs.LongFrames.{size-least}
 use Rattle.frames.proofs.Numbers.{number-back}
 use Rattle.wiring.specs.declared.Phy.{Phy}
 use Rattle.wiring.specs.declared.Phy.the-variants.{Vacant, Present}
-use Rattle.wiring.specs.declared.PhyFields.{PhyFields}
 use Rattle.wiring.specs.Domain.{attributeOf}
 use Rattle.wiring.specs.File.{Parsed, parsed, sizeAt, fieldsOf, ranged, phyOf, phyUnit}
 use Rattle.wiring.proofs.Members.{is-true}
-use Rattle.wiring.proofs.Results.{never, good-one, unless-good, good-unless, then-good}
+use Rattle.wiring.proofs.Results.{good-one, unless-good, good-unless, then-good}
 use Rattle.wiring.proofs.Reading.{size-whole, size-by, phy-unit-by}
 use Rattle.benches.specs.Bytes.{typedTwo, cabledFrame}
 use Rattle.benches.specs.Joined.{cabledTo}

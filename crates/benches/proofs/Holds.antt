@@ -1,20 +1,20 @@
 -- A joined domain holds each of the two, from a number on, with one phy cabled.
-use mathlib.Core.Path.{_≡_, refl, sym, ap, subst, _∙_}
-use mathlib.Core.Logic.{_⊎_, inl, inr, _≢_, _↔_, ⊎-elim, by-cases}
-use mathlib.Core.List.{List, [], _∷_, _++_}
-use mathlib.Core.Bool.{Bool, true, false, cond, not, _||_, _&&_}
+use mathlib.Core.Path.{_≡_, refl, sym, ap, _∙_}
+use mathlib.Core.Logic.{inl, _≢_, by-cases}
+use mathlib.Core.List.{[], _∷_, _++_}
+use mathlib.Core.Bool.{Bool, true, false, cond}
 use Prim.Native.Nat.{ℕ, zero, suc, _+_, _≤_, _<_}
 use native.Mathlib.Decide.{ℕ-discrete, decLt}
 use native.Mathlib.Nat.{zero-add}
 use native.Mathlib.Omega.{arith}
 use lib.ListN.{length, getD, set, length-append, length-set, List·getD-append}
 use lib.Seq.{getD-append-add, getD-set-same, getD-set-other}
-use lib.Dec.{T, eqb, eqb→eq, not-T}
+use lib.Dec.{T, eqb}
 use Rattle.wiring.specs.declared.Phy.{Phy}
 use Rattle.wiring.specs.declared.Phy.the-variants.{Vacant}
-use Rattle.wiring.specs.Domain.{Expander, Domain, noExpander, expanderAt, phyAt, routes, attached, numberOf}
+use Rattle.wiring.specs.Domain.{Expander, Domain, noExpander, expanderAt, phyAt, routes, numberOf}
 use Rattle.wiring.specs.PhySet.{withPhy, setPhy}
-use Rattle.wiring.specs.Devices.{Home, Borne}
+use Rattle.wiring.specs.Devices.{Borne}
 use Rattle.wiring.proofs.Wires.{numberOf-is, routes-range, expander-range}
 use Rattle.benches.specs.Bench.{Free, Joinable}
 use Rattle.benches.specs.Joined.{cabledTo, joined}

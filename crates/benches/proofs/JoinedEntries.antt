@@ -1,6 +1,6 @@
 -- Existing tables don't change, over what the table call promises: the words and disable bits that it gives for the joined file are those that it
 -- gives for the first, then those that it gives for the second.
-use Prim.Native.Nat.{ℕ, _+_, _≤_, _<_}
+use Prim.Native.Nat.{ℕ, _+_, _<_}
 use mathlib.Core.Path.{_≡_, refl, sym, _∙_, ap, ap₂, subst}
 use mathlib.Core.List.{List, _++_}
 use native.Mathlib.Omega.{arith}

@@ -1,18 +1,18 @@
 -- The joined file reads as the joined domain, or is refused with 3 or 4: judging the joined file is judging the joined domain.
-use Prim.Native.Nat.{ℕ, zero, suc, _+_, _-_, _*_, _≤_, _<_, _^_}
+use Prim.Native.Nat.{ℕ, zero, suc, _+_, _-_, _≤_, _<_, _^_}
 use mathlib.Core.Path.{_≡_, refl, sym, _∙_, ap, ap₂, subst}
-use mathlib.Core.Logic.{_⊎_, _≢_, _↔_}
-use mathlib.Core.Bool.{Bool, true, false, not, _&&_}
-use mathlib.Core.List.{List, [], _∷_, _++_}
+use mathlib.Core.Logic.{_≢_, _↔_}
+use mathlib.Core.Bool.{Bool, true, false}
+use mathlib.Core.List.{List, [], _++_}
 use native.Mathlib.Omega.{arith}
 use native.Mathlib.Nat.{pow-suc}
-use lib.ListN.{length, drop, length-append}
-use lib.Dec.{T, eqb, leb, eqb→eq, leb→le}
+use lib.ListN.{length, drop}
+use lib.Dec.{T, leb, eqb→eq}
 use borrow.Author.Tests.{le-leb}
 use Rattle.frames.specs.Bytes.{byte, numberAt}
-use Rattle.frames.specs.Refusals.{Result, refused, good, unless, then, refusal}
+use Rattle.frames.specs.Refusals.{Result, good, unless, then, refusal}
 use Rattle.wiring.specs.declared.Setting.{Setting}
-use Rattle.wiring.specs.Settings.{within, inRange}
+use Rattle.wiring.specs.Settings.{inRange}
 use Rattle.wiring.specs.Domain.{Expander, Domain, expanderAt, phyAt, attributeOf, routes}
 use Rattle.wiring.specs.PhySet.{setPhy}
 use Rattle.wiring.specs.Read.{Bytes, Read}
@@ -21,20 +21,20 @@ use Rattle.wiring.specs.Devices.{Borne}
 use Rattle.wiring.specs.Chains.{ShortChains}
 use Rattle.wiring.proofs.Members.{is-true}
 use Rattle.wiring.proofs.Ranges.{range-iff}
-use Rattle.wiring.proofs.Results.{unless-good, then-good, good-one}
-use Rattle.wiring.proofs.Read.{read-good, read-fits, stated-expanders}
+use Rattle.wiring.proofs.Results.{unless-good}
+use Rattle.wiring.proofs.Read.{read-good, stated-expanders}
 use Rattle.wiring.proofs.Accepted.{read-expander}
 use Rattle.wiring.proofs.Wires.{routes-range}
 use Rattle.tables.specs.Judge.{judgedDomain, judged}
 use Rattle.tables.proofs.Given.{judged-file}
-use Rattle.benches.specs.Bench.{Free, Joinable}
+use Rattle.benches.specs.Bench.{Free}
 use Rattle.benches.specs.Bytes.{expanderPlace, phyPlace, addressIn, cabledAt, joinedFile}
 use Rattle.benches.specs.Joined.{cabledTo, joined}
 use Rattle.benches.proofs.Offsets.{units-of, expander-there, head-found, phy-placed}
 use Rattle.benches.proofs.Written.{cabled-rest}
-use Rattle.benches.proofs.Units.{UnitBytes, UnitsOf, unitsBytes, expandersAll, placeIn, units-read, units-cut, CutUnits, testedAll, cableUnits, units-cabled, domain-cabled, bytes-units, has-phy, has-less, bytes-append, domain-append, units-append, length-units, tested-is, tested-pass}
+use Rattle.benches.proofs.Units.{UnitBytes, UnitsOf, unitsBytes, expandersAll, placeIn, units-read, units-cut, testedAll, cableUnits, units-cabled, domain-cabled, bytes-units, has-phy, has-less, bytes-append, domain-append, units-append, length-units, tested-is, tested-pass}
 use Rattle.benches.proofs.Holds.{routes-inside, joined-length}
-use Rattle.benches.proofs.Accepts.{read-joined, joined-accepted}
+use Rattle.benches.proofs.Accepts.{joined-accepted}
 
 number-fits : (s : List ℕ) (i width : ℕ) → Bytes s → numberAt s i width < 256 ^ width
 unfolding numberAt

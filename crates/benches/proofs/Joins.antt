@@ -1,12 +1,12 @@
 -- The outcomes of the join call.
 use Prim.Native.Nat.{ℕ, suc, _+_, _-_, _*_, _≤_, _<_}
-use mathlib.Core.Path.{_≡_, refl, sym, _∙_, ap, subst}
+use mathlib.Core.Path.{_≡_, refl, sym, _∙_, ap}
 use mathlib.Core.Bool.{Bool, true, false, not, _&&_, _||_}
-use mathlib.Core.List.{List, [], _∷_, _++_}
+use mathlib.Core.List.{List, _++_}
 use native.Mathlib.Omega.{arith}
 use lib.ListN.{length, getD, take, drop, drop-of-length-le}
 use lib.Seq.{paste, take-all, take-at, drop-cons}
-use lib.Dec.{T, eqb, leb}
+use lib.Dec.{T, leb}
 use borrow.Author.Tests.{le-leb, lt-leb}
 use Rattle.frames.specs.Bytes.{byte}
 use Rattle.frames.specs.Refusals.{Result, refused, good, unless, then, refusal}
@@ -18,17 +18,17 @@ use Rattle.wiring.specs.Lists.{any}
 use Rattle.wiring.specs.Settings.{within, inRange}
 use Rattle.wiring.specs.Domain.{Domain, expanderAt, phyAt, routes, attached}
 use Rattle.wiring.specs.File.{headerUnit, domainRead, expanders}
-use Rattle.wiring.proofs.Members.{tests, is-true, is-false, was-true}
+use Rattle.wiring.proofs.Members.{tests, is-true, was-true}
 use Rattle.wiring.proofs.Ranges.{range-iff}
 use Rattle.wiring.proofs.Read.{read-good, stated-expanders}
 use Rattle.wiring.proofs.Results.{never, good-one}
 use Rattle.wiring.proofs.Wires.{routes-range}
-use Rattle.tables.specs.Judge.{judgedDomain, judged, expandersIn}
+use Rattle.tables.specs.Judge.{judged, expandersIn}
 use Rattle.tables.proofs.Given.{judged-file}
 use Rattle.benches.specs.declared.Joining.{Joining}
-use Rattle.benches.specs.declared.Joining.the-variants.{Refused, Bytes}
-use Rattle.benches.specs.Bytes.{phyPlace, joinedFile}
-use Rattle.benches.specs.JoinCall.{upward, free, freeIn, shifted, fitting, joinFor, joinCall, joiningAnswer, JoinDone}
+use Rattle.benches.specs.declared.Joining.the-variants.{Bytes}
+use Rattle.benches.specs.Bytes.{joinedFile}
+use Rattle.benches.specs.JoinCall.{upward, free, freeIn, fitting, joinFor, joinCall, joiningAnswer, JoinDone}
 use Rattle.benches.specs.Parts.{Placed, Accepted, Ready}
 use Rattle.benches.proofs.Bounds.{up-refused, judged-up}
 use Rattle.benches.proofs.Offsets.{units-of, length-bound, phy-placed}

@@ -1,18 +1,17 @@
 -- Where the frames of a file that was read stand: the places found by byte 3 of each frame are the reader's own.
 use Prim.Native.Nat.{ℕ, zero, suc, _+_, _-_, _*_, _≤_, _<_}
 use mathlib.Core.Path.{_≡_, refl, sym, _∙_, ap, subst}
-use mathlib.Core.Logic.{by-cases}
 use mathlib.Core.Bool.{Bool, true, false, cond, not, _&&_}
 use mathlib.Core.List.{List, [], _∷_, _++_}
 use native.Mathlib.Omega.{arith}
-use lib.ListN.{length, getD, take, drop, length-drop}
+use lib.ListN.{length, getD, take, drop}
 use lib.Seq.{getD-drop, getD-take}
 use lib.Dec.{eqb, leb, eqb→eq, leb→le}
 use Rattle.frames.specs.Bytes.{byte, numberAt}
-use Rattle.frames.specs.Refusals.{Result, refused, good, unless, then, refusal}
+use Rattle.frames.specs.Refusals.{Result, refused, good, refusal}
 use Rattle.frames.specs.Sizes.{shortSize, longSize, longLength, sizeStated, frameSize}
 use Rattle.frames.specs.ReportGeneral.{generalFixed, generalFields, generalRead}
-use Rattle.frames.specs.Discovery.{Discovered, discoverRead}
+use Rattle.frames.specs.Discovery.{discoverRead}
 use Rattle.frames.specs.declared.General.{General}
 use Rattle.frames.specs.declared.Response.{Response}
 use Rattle.frames.specs.declared.Response.the-variants.{ReportGeneral, Discover}
@@ -22,8 +21,8 @@ use Rattle.wiring.specs.declared.Phy.{Phy}
 use Rattle.wiring.specs.declared.Phy.the-variants.{Vacant}
 use Rattle.wiring.specs.Lists.{isIn}
 use Rattle.wiring.specs.Settings.{within, inRange}
-use Rattle.wiring.specs.Domain.{Expander, Domain, noExpander, expanderAt, phyAt}
-use Rattle.wiring.specs.File.{Parsed, parsed, placed, sizeAt, phyOf, phyUnit, phyUnits, unitOf, unitTested, expanderUnit, expanderOf, expanders, headerUnit, domainRead}
+use Rattle.wiring.specs.Domain.{Expander, Domain, expanderAt}
+use Rattle.wiring.specs.File.{Parsed, parsed, sizeAt, phyOf, phyUnit, phyUnits, unitOf, unitTested, expanderUnit, expanderOf, expanders, headerUnit, domainRead}
 use Rattle.wiring.specs.Units.{endsAt}
 use Rattle.frames.proofs.LongFrames.{size-least}
 use Rattle.wiring.proofs.Read.{read-good, few-phys}

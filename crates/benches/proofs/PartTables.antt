@@ -1,29 +1,27 @@
 -- The tables of a part are those of its domain.
 use mathlib.Core.Path.{_≡_, refl, sym, ap, ap₂, subst, _∙_}
-use mathlib.Core.Logic.{_⊎_, inl, inr, _≢_, _↔_, ⊎-elim, by-cases}
-use mathlib.Core.List.{List, [], _∷_, _++_, map, flatMap, map-append, append-assoc}
+use mathlib.Core.Logic.{inl, inr, _≢_, ⊎-elim, by-cases}
+use mathlib.Core.List.{List, [], _∷_, _++_, map, flatMap, map-append}
 use mathlib.Core.Bool.{Bool, true, false, cond, not, _||_, _&&_}
-use Prim.Native.Nat.{ℕ, zero, suc, _+_, _-_, _≤_, _<_}
-use native.Mathlib.Decide.{ℕ-discrete, decLt}
-use native.Mathlib.Nat.{zero-add}
+use Prim.Native.Nat.{ℕ, zero, suc, _+_, _<_}
+use native.Mathlib.Decide.{ℕ-discrete}
 use native.Mathlib.Omega.{arith}
-use lib.ListN.{length, getD, take, replicate}
-use lib.Dec.{T, eqb, eqb→eq, not-T, T-not}
+use lib.ListN.{length, take, replicate}
+use lib.Dec.{T, eqb, eqb→eq}
 use Rattle.wiring.specs.declared.Phy.{Phy}
 use Rattle.wiring.specs.declared.Phy.the-variants.{Vacant}
 use Rattle.wiring.specs.Lists.{In, any, keep, isIn}
-use Rattle.wiring.specs.Domain.{Expander, Domain, expanderAt, phyAt, addressOf, farOf, routes, attached, toExpander, numberOf}
+use Rattle.wiring.specs.Domain.{Domain, expanderAt, phyAt, addressOf, farOf, routes, attached, toExpander, numberOf}
 use Rattle.wiring.specs.Causes.{farPhy}
-use Rattle.wiring.specs.Devices.{To, Home, Borne}
+use Rattle.wiring.specs.Devices.{Borne}
 use Rattle.wiring.specs.Tested.{Linked}
-use Rattle.wiring.proofs.Members.{tests, is-true, is-false, eq→eqb, in-append, getD-in, in-flatMap, same-test}
+use Rattle.wiring.proofs.Members.{tests, is-false, eq→eqb, in-append, getD-in, in-flatMap, same-test}
 use Rattle.wiring.proofs.Wires.{Wired, expander-attached, attached-cases, in-range, far-below, far-is, routes-one}
 use Rattle.tables.specs.Levels.{once, down, belowPhys, below, nextLevel, levelsFrom, levels}
-use Rattle.tables.specs.Tables.{word, heldBy, gives, give, giveAll, levelList, table}
-use Rattle.tables.proofs.Beyond.{FarTable, Table, Sub, in-below, table-back, in-next, levels-enough, levels-none, down-leads}
+use Rattle.tables.specs.Tables.{heldBy, gives, give, giveAll, levelList, table}
+use Rattle.tables.proofs.Beyond.{Table, Sub, table-back, in-next, levels-enough, levels-none, down-leads}
 use Rattle.tables.proofs.Listed.{held-cases, held-self, held-phy}
 use Rattle.benches.proofs.Bridge.{All}
-use Rattle.benches.specs.Bench.{Free}
 use Rattle.benches.proofs.Holds.{Part}
 
 -- what is attached is borne

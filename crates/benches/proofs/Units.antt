@@ -1,19 +1,18 @@
 -- The units of a file as bytes: a file that was read is its units one after the other, and units one after the other read alike in any file.
-use Prim.Native.Nat.{ℕ, zero, suc, _+_, _*_, _≤_, _<_, _^_}
+use Prim.Native.Nat.{ℕ, zero, suc, _+_, _≤_, _<_, _^_}
 use mathlib.Core.Path.{_≡_, refl, sym, _∙_, ap, ap₂, subst}
 use mathlib.Core.Logic.{_≢_, inl, inr, ⊎-elim}
-use mathlib.Core.Bool.{Bool, true, false, not, _&&_}
+use mathlib.Core.Bool.{true, false}
 use mathlib.Core.List.{List, [], _∷_, _++_, append-assoc}
 use native.Mathlib.Omega.{arith}
 use lib.ListN.{length, getD, take, drop, set, take-append-drop, length-append, length-drop, drop-of-length-le}
 use lib.Seq.{take-at, drop-at, drop-drop, length-take-le, getD-take, getD-drop, take-add, drop-append-le, take-all}
-use lib.Dec.{T, eqb, leb, eqb→eq}
+use lib.Dec.{eqb, leb, eqb→eq}
 use borrow.Author.Tests.{le-leb, eq-eqb, ne-eqb}
 use Rattle.frames.specs.Bytes.{byte, numberAt}
-use Rattle.frames.specs.Refusals.{Result, refused, good, unless, then, refusal}
+use Rattle.frames.specs.Refusals.{Result, refused, good, then, refusal}
 use Rattle.frames.specs.Sizes.{sizeStated, frameSize}
 use Rattle.frames.specs.ReportGeneral.{generalRead}
-use Rattle.frames.specs.Discovery.{discoverRead}
 use Rattle.frames.specs.declared.General.{General}
 use Rattle.frames.specs.declared.Response.the-variants.{ReportGeneral, Discover}
 use Rattle.frames.proofs.LongFrames.{size-least}
@@ -25,17 +24,16 @@ use Rattle.wiring.specs.declared.Phy.the-variants.{Vacant}
 use Rattle.wiring.specs.Lists.{In, Distinct, isIn}
 use Rattle.wiring.specs.Read.{ReadExpander, addresses}
 use Rattle.wiring.proofs.Members.{is-false, of-isIn, in-cast, in-append}
-use Rattle.wiring.specs.Settings.{within}
 use Rattle.wiring.specs.Domain.{Expander, Domain, expanderAt, phyAt, attributeOf}
 use Rattle.wiring.specs.PhySet.{withPhy, setPhy}
-use Rattle.wiring.specs.File.{Parsed, parsed, sizeAt, phyOf, phyUnit, phyUnits, unitOf, unitTested, expanderUnit, expanderOf, expanders}
+use Rattle.wiring.specs.File.{Parsed, parsed, phyUnit, phyUnits, unitOf, unitTested, expanderUnit, expanderOf, expanders}
 use Rattle.wiring.specs.Units.{endsAt}
-use Rattle.wiring.proofs.Results.{never, good-one, unless-good, then-good}
-use Rattle.wiring.proofs.Reading.{size-whole, size-within, expander-unit-by}
+use Rattle.wiring.proofs.Results.{good-one, unless-good, then-good}
+use Rattle.wiring.proofs.Reading.{size-whole, expander-unit-by}
 use Rattle.benches.specs.Bytes.{sizeFrom, physAfter, physFrom, expandersAfter, cabledFrame, cabledAt}
 use Rattle.benches.specs.Joined.{cabledTo}
-use Rattle.benches.proofs.Offsets.{Found, unit-found, phy-found, phys-count, phys-after, head-found, unit-after, tested-same}
-use Rattle.benches.proofs.Written.{frame-left, cabled-left, cabled-right, length-frame}
+use Rattle.benches.proofs.Offsets.{unit-found, phy-found, phys-count, phys-after, head-found, unit-after, tested-same}
+use Rattle.benches.proofs.Written.{frame-left, cabled-right}
 use Rattle.benches.proofs.Frames.{FrameOf, size-there, frame-reads, frame-of, cabled-frame}
 
 -- a phy with its frame

@@ -1,28 +1,26 @@
 -- A domain made of two accepted parts and one cable passes causes 7 to 12 and 14.
 use mathlib.Core.Path.{_≡_, refl, sym, ap, ap₂, subst, subst₂, _∙_}
 use mathlib.Core.Logic.{_⊎_, inl, inr, _≢_, ⊎-elim, by-cases}
-use mathlib.Core.List.{List, [], _∷_, _++_, map}
-use mathlib.Core.Bool.{Bool, true, false, not, _&&_, _||_, Bool-discrete}
-use Prim.Native.Nat.{ℕ, zero, suc, _+_, _-_, _≤_, _<_}
+use mathlib.Core.List.{List, [], _∷_, map}
+use mathlib.Core.Bool.{Bool, true, false, not, _&&_, Bool-discrete}
+use Prim.Native.Nat.{ℕ, _+_, _-_, _≤_, _<_}
 use native.Mathlib.Decide.{ℕ-discrete, decLt}
 use native.Mathlib.Omega.{arith}
 use lib.ListN.{length, getD, List·getD-eq-default}
 use lib.Dec.{T, eqb}
-use Rattle.wiring.specs.declared.Phy.{Phy}
 use Rattle.wiring.specs.declared.Phy.the-variants.{Vacant}
 use Rattle.wiring.specs.Domain.{Expander, Domain, noExpander, expanderAt, phyAt, addressOf, farOf, attributeOf, routes, attached, toEnd, toExpander, numberOf}
-use Rattle.wiring.specs.Lists.{In, any}
+use Rattle.wiring.specs.Lists.{any}
 use Rattle.wiring.specs.Causes.{farPhy}
 use Rattle.wiring.specs.Neighbours.{cabled, neighbours}
 use Rattle.wiring.specs.Devices.{LoopIn, To, Borne, TableToTable, NoTableToTable}
 use Rattle.wiring.specs.Tested.{Linked}
 use Rattle.wiring.proofs.Members.{or-cases}
-use Rattle.wiring.proofs.Wires.{Way, Plain, Wired, end-attached, expander-attached, in-range, far-below, far-is, adj-to, to-adj, to-start, adj-symmetric}
+use Rattle.wiring.proofs.Wires.{Way, Plain, Wired, end-attached, expander-attached, in-range, far-below, far-is, adj-to, to-adj, adj-symmetric}
 use Rattle.wiring.proofs.Walks.{rest-of}
 use Rattle.wiring.proofs.Reach.{Joined, prepend}
 use Rattle.wiring.proofs.LongChains.{all-joined}
 use Rattle.tables.specs.Tables.{levelList}
-use Rattle.benches.specs.Bench.{Free}
 use Rattle.benches.specs.Joined.{cabledTo}
 use Rattle.benches.proofs.Bridge.{Carries, bridged, map-tail}
 use Rattle.benches.proofs.Holds.{Part, routes-inside}

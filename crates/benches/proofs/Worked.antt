@@ -1,27 +1,10 @@
 -- Two rigs joined, by hand: the joined file byte for byte.
 use Prim.Native.Nat.{ℕ, _+_, _*_}
 use mathlib.Core.Path.{_≡_, refl}
-use mathlib.Core.List.{List, [], _∷_, _++_, map, flatMap}
-use lib.ListN.{length, take, drop, set, replicate}
+use mathlib.Core.List.{List, _∷_, _++_}
+use lib.ListN.{length, replicate}
 use Rattle.frames.specs.Bytes.{numberAt, bytesOf}
-use Rattle.frames.specs.Sizes.{frameSize}
-use Rattle.frames.specs.ReportGeneral.{generalFixed, generalRead}
-use Rattle.frames.specs.Discovery.{discoverFixed, discoverRead}
-use Rattle.frames.specs.Refusals.{refused, good, refusal}
-use Rattle.frames.specs.declared.Discover.{Discover}
-use Rattle.wiring.specs.declared.Setting.{Setting}
-use Rattle.wiring.specs.Lists.{numbers, any, keep, isIn}
-use Rattle.wiring.specs.Settings.{inRange, widest}
-use Rattle.wiring.specs.Domain.{numberOf}
-use Rattle.wiring.specs.File.{sizeAt, domainRead, headerUnit, expanders, expanderUnit, phyUnits, phyUnit}
-use Rattle.wiring.specs.Causes.{unanswered, claimed, clash, clashing, fixed, endAt, phyPlaces, placesFrom, firstIn, wiredDomain}
-use Rattle.wiring.specs.Graph.{loopfree, reached}
-use Rattle.wiring.specs.Links.{unlooped, joined, joinedIn, linkedDomain}
-use Rattle.tables.specs.Levels.{once, belowPhys, below, nextLevel, levelsFrom, levels}
-use Rattle.tables.specs.Tables.{heldBy, gives, give, giveAll, levelList}
-use Rattle.tables.specs.Judge.{overlong, judgedDomain}
 use Rattle.benches.specs.Bytes.{physAfter, expandersAfter, cabledFrame, cabledAt, joinedFile}
-use Rattle.benches.specs.JoinCall.{free, joinCall}
 
 -- a REPORT GENERAL response: R 0, two phys
 abbrev general : List ℕ

@@ -1,11 +1,11 @@
 -- The bytes of the joined file as they are written: a cable in a frame, two files one after the other, and both cables.
-use Prim.Native.Nat.{ℕ, zero, suc, _+_, _-_, _*_, _/_, _%_, _≤_, _<_}
+use Prim.Native.Nat.{ℕ, zero, suc, _+_, _-_, _≤_}
 use mathlib.Core.Path.{_≡_, refl, sym, _∙_, ap, ap₂, subst}
 use mathlib.Core.List.{List, [], _∷_, _++_, append-assoc, append-nil}
 use native.Mathlib.Omega.{arith}
 use native.Mathlib.Nat.{zero-add}
-use lib.ListN.{length, getD, take, drop, set, length-append, length-drop, length-set, take-append-drop, drop-of-length-le}
-use lib.Seq.{paste, take-at, drop-at, take-all, drop-cons, drop-drop, take-append-le, drop-append-le, take-append-add, drop-append-add, length-take-le, getD-drop, take-set-le, drop-set-add, take-add}
+use lib.ListN.{length, take, drop, set, length-append, length-drop, length-set, take-append-drop, drop-of-length-le}
+use lib.Seq.{paste, take-at, take-all, drop-cons, drop-drop, take-append-le, drop-append-le, take-append-add, drop-append-add, length-take-le, getD-drop, take-set-le, drop-set-add, take-add}
 use borrow.Author.Tests.{le-leb}
 use borrow.Rule.Slice.PartMut.{midOf, putMid}
 use Rattle.frames.specs.Bytes.{byte, bytesOf, atFront}

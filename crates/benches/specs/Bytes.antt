@@ -1,7 +1,7 @@
 -- The joined file in bytes: where a phy's frame stands in a file, the cable in it, and the two files one after the other.
 use Prim.Native.Nat.{ℕ, zero, suc, _+_, _*_, _/_, _%_}
 use mathlib.Core.Bool.{cond}
-use mathlib.Core.List.{List, [], _∷_, _++_}
+use mathlib.Core.List.{List, _∷_, _++_}
 use lib.ListN.{take, drop}
 use lib.Dec.{eqb}
 use Rattle.frames.specs.Bytes.{byte, numberAt, bytesOf}

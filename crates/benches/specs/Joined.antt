@@ -1,6 +1,6 @@
 -- Two domains on one bench (document 02, paper 12): the first's expanders, then the second's, and one cable between two subtractive phys.
 use Prim.Native.Nat.{ℕ}
-use mathlib.Core.List.{List, _++_}
+use mathlib.Core.List.{_++_}
 use Rattle.wiring.specs.declared.Phy.{Phy}
 use Rattle.wiring.specs.declared.Phy.the-variants.{Present}
 use Rattle.wiring.specs.Domain.{Domain, expanderAt}
