@@ -2,6 +2,7 @@
 // answers.
 mod packing;
 
+use benches::Joining;
 use cards::Made;
 use forms::FormMade;
 use shelves::Shelf;
@@ -32,6 +33,7 @@ ghost use Rattle.tracing.specs.Many.{requestCount, listAfter};
 ghost use Rattle.forms.specs.Formed.{formCall, formTables, formTrace, formList};
 ghost use Rattle.forms.specs.Calls.{formCounts, formAfter, requestsIn};
 ghost use Rattle.cards.specs.Calls.{cardCall, fileCall, lengthOf, newAfter};
+ghost use Rattle.benches.specs.JoinCall.{joinCall, lengthOf as bytesJoined, joinedAfter};
 ghost use Rattle.shelves.specs.Shelf.{shelfBytes, made, stepped, entryAt, disabledAt};
 ghost use Rattle.exports.specs.Shelves.{ShelfDone};
 ghost use Rattle.exports.specs.Packing.{version, settingOf, packed, number, counts, formPacked, entryPacked, endPacked, stepPacked, forty, general, generalSas2, discovered, ownAddress, attachedAddress, route, routeTold, routeAddress};
@@ -407,6 +409,39 @@ pub extern "C" fn metzurgo_file_of_card(setting: u32, card: &[u8], file: &mut [u
     match answer {
         Made::Refused(r) => packing::refusal(r),
         Made::Bytes(n) => n as u64,
+    }
+}
+
+// Joins two files by one cable between two subtractive phys, each named by its own file's numbers, and answers how many bytes the
+// joined file has: 22, the first file, the second file (expander numbers shifted), 21, the joined file, 16.
+#[no_mangle]
+pub extern "C" fn metzurgo_join(
+    setting: u32,
+    first: &[u8],
+    expander: u8,
+    phy: u8,
+    second: &[u8],
+    other: u8,
+    far: u8,
+    out: &mut [u8],
+) -> u64
+    ensures { λ r. ⌜ (r ≡ packed number (then (joinCall (settingOf setting) (now (first .entry)) expander phy (now (second .entry)) other far (length (now (out .entry)))) bytesJoined))
+        × (now (out .exit) ≡ joinedAfter (joinCall (settingOf setting) (now (first .entry)) expander phy (now (second .entry)) other far (length (now (out .entry)))) (now (out .entry))) ⌝ }
+{
+    let course = packing::setting(setting);
+    let answer = benches::join(
+        course,
+        first,
+        ExpanderNumber(expander),
+        PhyId(phy),
+        second,
+        ExpanderNumber(other),
+        PhyId(far),
+        out,
+    );
+    match answer {
+        Joining::Refused(r) => packing::refusal(r),
+        Joining::Bytes(n) => n as u64,
     }
 }
 
