@@ -137,6 +137,9 @@ extern "C" {
           "and they are lent in whole bytes.")                                \
     X(19, "A card's version, one of its zero bits, a vacant phy's result "    \
           "or its length is wrong.")                                          \
+    X(21, "A phy of the cable that is to join two rigs does not exist, is "   \
+          "vacant, is not subtractive or is attached; or its expander has "   \
+          "an attached subtractive phy.")                                     \
     X(22, "The course's setting is out of its range: 1 to 64 expanders, "     \
           "1 to 128 phys, chains of 1 to 64 expanders.")                      \
     X(23, "A chain of cabled expanders is longer than the setting "           \
@@ -420,6 +423,26 @@ uint64_t metzurgo_card_of_file(uint32_t setting, const uint8_t *file,
 uint64_t metzurgo_file_of_card(uint32_t setting, const uint8_t *card,
                                size_t card_len, uint8_t *file,
                                size_t file_len);
+
+/*
+ * Joins two rigs by one cable between a subtractive phy of each, named by its own
+ * file's numbers. The joined file has the first's expanders, then the second's; the
+ * cable is written as type 2, far address and far phy at both ends, in the frames as
+ * they are, and no other bit of an expander changes. So the tables of the joined file
+ * are those of the first, then those of the second.
+ * Tests the causes of judging on the first file, then on the second, whose refusals
+ * have the number of expanders of the first added to their expander; then 21 (a phy
+ * that does not exist, is vacant, is not subtractive or is attached, or whose expander
+ * has an attached subtractive phy); then judges the joined file, in its own numbers (3
+ * for too many expanders, 4 or 8 for a device's address in both, 23); 16 last (fewer
+ * bytes than the joined file has, which are both lengths less 2). Later bytes stay.
+ * Answer: the bytes of the joined file.
+ */
+uint64_t metzurgo_join(uint32_t setting, const uint8_t *first,
+                       size_t first_len, uint8_t first_expander,
+                       uint8_t first_phy, const uint8_t *second,
+                       size_t second_len, uint8_t second_expander,
+                       uint8_t second_phy, uint8_t *out, size_t out_len);
 
 /*
  * A shelf: a software expander that its owner holds and the calls alter where it

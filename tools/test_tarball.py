@@ -33,6 +33,7 @@ SUBCOMMANDS = (
     "build",
     "print",
     "card",
+    "join",
     "collect",
 )
 FILES = (
@@ -127,7 +128,7 @@ class Check:
     def __init__(self, unpacked, archive, folder):
         self.unpacked, self.archive = unpacked, archive
         self.file, self.folder = folder / "rig.bin", folder
-        self.traces = self.requests = self.pictures = self.shelves = 0
+        self.traces = self.requests = self.pictures = self.shelves = self.joined = 0
 
     def sample(self, path):
         """Every subcommand on one sample, as a text and as a domain file."""
@@ -143,6 +144,7 @@ class Check:
             return
         self.judge(answer)
         self.tables()
+        self.join()
         self.all_traces()
         self.matrix()
         self.picture()
@@ -251,6 +253,31 @@ class Check:
             else:
                 same("the tables of a shelf", own, told["tables"])
                 self.shelves += 1
+
+    def join(self):
+        """The sample joined with another at its first empty subtractive phy, as the archive does."""
+        places = [
+            (number, phy)
+            for number, (_, phys) in enumerate(expanders(self.bytes))
+            for phy, frame in enumerate(phys)
+            if not frame[2] and not frame[12] >> 4 and frame[44] & 15 == 1
+        ]
+        if not places:
+            return
+        expander, phy = places[0]
+        out, other = self.folder / "bench.bin", self.folder / "other.bin"
+        self.unpacked.answer("build", "build", "samples/bench-right.rig", other)
+        answer, written = self.archive.call(self.file, "join", expander, phy, other, 0, 3)
+        refused = answer.startswith("refused")
+        words = ["join", self.rig, f"{expander}.{phy}", "samples/bench-right.rig", "row0.3"]
+        told = self.json(*words, "-o", out, status=int(refused))
+        if refused:
+            numbers = [told["refused"][key] for key in ("number", "expander", "phy")]
+            same("the refusal of a join", answer, "refused {} {} {}".format(*numbers))
+            return
+        same("a join", answer, f"bytes {told['bytes']}")
+        same("the file of a join", written["file"], [out.read_bytes().hex()])
+        self.joined += 1
 
     # Requests.
 
@@ -519,12 +546,13 @@ def main():
     requests = sum(check.requests for check, _ in done)
     for line in wrong:
         print(line)
-    if wrong or not traces or not requests or not pictures or not shelves:
+    joined = sum(check.joined for check, _ in done)
+    if wrong or not all((traces, requests, pictures, shelves, joined)):
         print(f"tarball: {len(wrong)} samples differ")
         return 1
     print(
         f"tarball: {len(samples)} samples, {traces} traces, {requests} requests in lists,"
-        f" {shelves} shelves, {pictures} pictures;"
+        f" {shelves} shelves, {joined} joins, {pictures} pictures;"
         f" the command answers as the archive does in {archive.calls} calls"
     )
     return 0

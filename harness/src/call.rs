@@ -12,6 +12,8 @@
 //!     compact_trace_many [REQUEST ...]            requests 1
 //!     card_of_file [bytes BYTES]                  bytes 64
 //!     file_of_card CARD [bytes BYTES]             bytes 334
+//!     join EXPANDER PHY FILE EXPANDER PHY [bytes BYTES] [then CALL]
+//!                                                 bytes 666
 //!
 //! Before the call may stand `setting EXPANDERS PHYS CHAIN`; without it the
 //! setting is 64 128 64. WORDS and BYTES are the lengths of the lent buffers:
@@ -20,7 +22,8 @@
 //! EXPANDER.PHY.INDEX; `disable` sets its bit before the trace, `enable` clears it,
 //! as often as they stand there and in that order. Without lengths the buffers are
 //! as long as needed, the bits of the table call as long as WORDS need. A CARD is in
-//! hexadecimal; `file_of_card` reads it in place of the file. Further lines have the
+//! hexadecimal; `file_of_card` reads it in place of the file. `join` joins the file with
+//! another, and `then` makes a call on what it wrote. Further lines have the
 //! words and the bits written, the expanders passed, or the card or file made. A
 //! refusal is the line `refused` with number, expander and phy.
 //!
@@ -30,7 +33,7 @@
 //! the words and bits that its table call gives. Their further lines have the form
 //! made, or the answers of the list.
 
-use crate::calls::Calls;
+use crate::calls::{Calls, Part};
 use crate::compare::{hex, Difference, Lent};
 use crate::generate::WIDEST;
 use crate::reference;
@@ -47,7 +50,8 @@ const USAGE: &str = "[setting EXPANDERS PHYS CHAIN] judge | wire WORDS | \
                      compact [words WORDS] | compact_tables FORM WORDS [bits BYTES] | \
                      compact_trace_many [START.ARRIVAL.ADDRESS ...] | \
                      card_of_file [bytes BYTES] | \
-                     file_of_card CARD [bytes BYTES]";
+                     file_of_card CARD [bytes BYTES] | join EXPANDER PHY FILE EXPANDER PHY \
+                     [bytes BYTES] [then CALL]";
 
 pub enum Failed {
     /// The words do not state a call.
@@ -128,6 +132,13 @@ fn under(subject: &dyn Calls, setting: u32, file: &[u8], call: &[&str]) -> Resul
             let card = bytes(card)?;
             let call = |room: &mut [u8]| subject.file_of_card(setting, &card, room);
             made("file", room(rest, LONGEST_CARD_FILE)?, call)
+        }
+        ["join", expander, phy, other, far, far_phy, ref rest @ ..] => {
+            let near = (number(expander)?, number(phy)?);
+            let far = (number(far)?, number(far_phy)?);
+            let other =
+                std::fs::read(other).map_err(|error| Failed::Usage(format!("{other}: {error}")))?;
+            join(subject, setting, (file, near), (&other, far), rest)
         }
         _ => Err(usage()),
     }
@@ -336,6 +347,31 @@ fn trace(
         "{outcome} count {count}\npassed {}",
         numbers.join(" ")
     ))
+}
+
+/// A join, and the call on the joined file that `rest` states.
+fn join(
+    subject: &dyn Calls,
+    setting: u32,
+    first: Part,
+    second: Part,
+    rest: &[&str],
+) -> Result<String, Failed> {
+    let at = rest.iter().position(|&word| word == "then");
+    let (own, then) = rest.split_at(at.unwrap_or(rest.len()));
+    let length = room(own, first.0.len() + second.0.len())?;
+    let mut out = Lent::new(length, || 0x77);
+    let before = out.after(&[]);
+    let answer = subject.join(setting, first, second, out.part());
+    if let Some(refused) = refusal(answer) {
+        out.check(|| "join".into(), &before)?;
+        return Ok(refused);
+    }
+    let written = out.written(|| "join".into(), &before, answer as usize)?;
+    match then {
+        [_, call @ ..] => under(subject, setting, &written, call),
+        [] => Ok(format!("bytes {answer}\nfile {}", hex(&written))),
+    }
 }
 
 /// A buffer of some length to lend, with this content as far as it goes.

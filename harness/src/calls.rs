@@ -1,7 +1,11 @@
 //! The calls of include/metzurgo.h, so that the archive, the reference and the
 //! fast version can stand in for each other.
 
+use crate::reference::Place;
 use crate::shelves::Words;
+
+/// A file, and one of its phys.
+pub type Part<'a> = (&'a [u8], Place);
 
 pub trait Calls: Sync {
     fn name(&self) -> &'static str;
@@ -59,6 +63,7 @@ pub trait Calls: Sync {
     ) -> u64;
     fn card_of_file(&self, setting: u32, file: &[u8], card: &mut [u8]) -> u64;
     fn file_of_card(&self, setting: u32, card: &[u8], file: &mut [u8]) -> u64;
+    fn join(&self, setting: u32, first: Part, second: Part, out: &mut [u8]) -> u64;
     fn write_route(
         &self,
         buf: &mut [u8],
@@ -182,6 +187,10 @@ impl Calls for Archive {
 
     fn file_of_card(&self, setting: u32, card: &[u8], file: &mut [u8]) -> u64 {
         metzurgo::raw::file_of_card(setting, card, file)
+    }
+
+    fn join(&self, setting: u32, first: Part, second: Part, out: &mut [u8]) -> u64 {
+        metzurgo::raw::join(setting, first, second, out)
     }
 
     fn write_route(

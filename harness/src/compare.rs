@@ -5,6 +5,7 @@ use std::fmt::{Debug, Write};
 
 use crate::calls::Calls;
 use crate::generate;
+use crate::joins;
 use crate::random::Random;
 use crate::reference::{
     self, Discover, General, Judged, Outcome, Refusal, Route, Setting, Step, Trace,
@@ -70,6 +71,7 @@ pub struct Counts {
     /// Files that have a card, and cards that were spoiled.
     pub cards: u64,
     pub spoiled_cards: u64,
+    pub joins: joins::Reached,
     /// Steps by their rule, (i) to (v), and those that are BAD DESTINATION.
     pub rules: [u64; 5],
     pub bad_steps: u64,
@@ -96,6 +98,7 @@ impl Counts {
         self.switched += other.switched;
         self.shelves += other.shelves;
         self.cards += other.cards;
+        self.joins.add(&other.joins);
         self.spoiled_cards += other.spoiled_cards;
         self.shelf_frames += other.shelf_frames;
         self.shelf_refusals += other.shelf_refusals;

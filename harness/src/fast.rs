@@ -1,8 +1,9 @@
 //! A straightforward fast version of the calls: arrays, no hash maps, nothing
 //! proved. The benchmark runs it beside the archive.
 
-use crate::calls::Calls;
+use crate::calls::{Calls, Part};
 use crate::cards;
+use crate::joins;
 use crate::reference::Reference;
 use crate::shelves::Words;
 
@@ -836,6 +837,14 @@ impl Calls for Fast {
 
     fn file_of_card(&self, setting: u32, card: &[u8], file: &mut [u8]) -> u64 {
         cards::put(cards::file_of_card(setting, card), file)
+    }
+
+    fn join(&self, setting: u32, first: Part, second: Part, out: &mut [u8]) -> u64 {
+        let [first, second] = [first, second].map(|(file, place)| joins::End {
+            file: file.to_vec(),
+            place,
+        });
+        joins::put(setting, [&first, &second], out)
     }
 
     fn write_route(

@@ -18,6 +18,7 @@ mod compare;
 mod fast;
 mod forms;
 mod generate;
+mod joins;
 mod layout;
 mod random;
 mod reference;
@@ -163,6 +164,7 @@ fn check(subject: &dyn Calls, seed: u64, counts: &mut Counts) -> Result<&'static
             forms::check(subject, setting, &made.file, &mut random.aside(), counts)?;
             cards::check(subject, setting, &made.file, &mut random, counts)
                 .map_err(|difference| difference.under(setting))?;
+            joins::check(subject, &made.file, &mut random, counts)?;
             Ok(())
         })
         .map_err(|difference| Failure {
@@ -310,13 +312,14 @@ fn run(subject: &dyn Calls, files: u64, seed: u64) {
         "  cards: {} of files, {} spoiled",
         counts.cards, counts.spoiled_cards
     );
+    counts.joins.print();
     println!(
         "  steps: {} in all, {} by (i), {} (ii), {} (iii), {} (iv), {} (v), {} BAD DESTINATION; {} traces followed by steps",
         counts.rules.iter().sum::<u64>(), counts.rules[0], counts.rules[1], counts.rules[2], counts.rules[3], counts.rules[4], counts.bad_steps, counts.walks
     );
     let mut missing = false;
     // 13 is withdrawn.
-    for number in (1..=12).chain(14..=19).chain(22..=23) {
+    for number in (1..=12).chain(14..=19).chain(21..=23) {
         let calls = counts.refusals[number];
         let files = counts.refused_files[number];
         match number {
@@ -349,6 +352,10 @@ fn run(subject: &dyn Calls, files: u64, seed: u64) {
     }
     if counts.rules.contains(&0) || counts.bad_steps == 0 || counts.walks == 0 {
         println!("a rule of a step was never reached");
+        exit(1);
+    }
+    if !counts.joins.whole() {
+        println!("a kind of join was never reached");
         exit(1);
     }
     if counts.switched == 0 {

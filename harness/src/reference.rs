@@ -7,9 +7,10 @@
 use std::collections::{BTreeMap, BTreeSet, HashMap, HashSet};
 use std::ops::Range;
 
-use crate::calls::Calls;
+use crate::calls::{Calls, Part};
 use crate::cards;
 use crate::forms;
+use crate::joins;
 use crate::shelves::{self, Plain, Words};
 use crate::traces::Request;
 
@@ -1319,6 +1320,14 @@ impl Calls for Reference {
 
     fn file_of_card(&self, setting: u32, card: &[u8], file: &mut [u8]) -> u64 {
         cards::put(cards::file_of_card(setting, card), file)
+    }
+
+    fn join(&self, setting: u32, first: Part, second: Part, out: &mut [u8]) -> u64 {
+        let [first, second] = [first, second].map(|(file, place)| joins::End {
+            file: file.to_vec(),
+            place,
+        });
+        joins::put(setting, [&first, &second], out)
     }
 
     fn write_route(

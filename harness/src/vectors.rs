@@ -4,6 +4,7 @@
 use crate::calls::Calls;
 use crate::compare::{hex, same, Difference, Lent};
 use crate::generate::WIDEST;
+use crate::joins;
 use crate::layout::*;
 use crate::shelves::Words;
 use crate::steps::walk;
@@ -343,6 +344,7 @@ pub fn run(subject: &dyn Calls) -> Result<usize, Difference> {
     test.shelf_entries()?;
     test.shelf_of_any_bytes()?;
     test.smp_utils()?;
+    test.count += joins::vectors(test.subject)?;
     Ok(test.count)
 }
 

@@ -11,7 +11,7 @@ Traceback (most recent call last):
 metzurgo.answers.Refusal: refused 14 3 5
 """
 
-from typing import Any, List, NamedTuple, Optional
+from typing import Any, List, NamedTuple, Optional, Tuple
 
 REFUSED = 1 << 63
 VACANT = 1 << 62
@@ -58,6 +58,9 @@ WIDEST = Setting(64, 128, 64)
 
 class Refusal(Exception):
     """A call was refused: its number, and its place, an expander and a phy."""
+
+    # The expander and phy that the call named, where the refusal is about these.
+    named: Optional[Tuple[int, int]] = None
 
     def __init__(self, number: int, expander: int, phy: int) -> None:
         super().__init__(f"refused {number} {expander} {phy}")

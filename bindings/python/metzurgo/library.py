@@ -26,6 +26,7 @@ _BYTES = [c_char_p, c_size_t]  # read only
 _LENT = [POINTER(c_uint8), c_size_t]
 _WORDS = [POINTER(c_uint64), c_size_t]
 _REQUEST = [c_uint8, c_uint8, c_uint64]  # start, arrival phy, address
+_END = _BYTES + [c_uint8, c_uint8]  # a file, and an expander and phy of it
 
 # Each call and its parameters. Every answer is a 64-bit number.
 CALLS = {
@@ -43,6 +44,7 @@ CALLS = {
     "metzurgo_compact_trace_many": _SETTING + _WORDS + _WORDS + _LENT + _WORDS + _WORDS,
     "metzurgo_card_of_file": _SETTING + _BYTES + _LENT,
     "metzurgo_file_of_card": _SETTING + _BYTES + _LENT,
+    "metzurgo_join": _SETTING + _END + _END + _LENT,
     "metzurgo_write_route": _LENT + [c_uint8, c_uint8, c_uint16, c_uint64, c_uint8],
     "metzurgo_read_route": _BYTES,
     "metzurgo_read_route_address": _BYTES,
@@ -245,6 +247,23 @@ class Library:
         given = (words_of(requests), len(requests), answers, len(answers))
         checked(self._calls.metzurgo_compact_trace_many(setting.packed(), *lent, *given))
         return answers
+
+    # Two rigs.
+
+    def join(
+        self,
+        setting: Setting,
+        first: bytes,
+        place: Tuple[int, int],
+        second: bytes,
+        other: Tuple[int, int],
+    ) -> bytes:
+        """The file of two rigs joined by a cable between a phy of each: expander and phy."""
+        room = (c_uint8 * (len(first) + len(second)))()
+        near, far = (first, len(first), *place), (second, len(second), *other)
+        call = self._calls.metzurgo_join
+        count = checked(call(setting.packed(), *near, *far, room, len(room)))
+        return bytes(room[:count])
 
     # Rig cards.
 

@@ -27,6 +27,7 @@ from .library import Library, counted, library
 ATTRIBUTES = ("direct", "subtractive", "table")
 NOTHING, END_DEVICE, EDGE_EXPANDER, FANOUT_EXPANDER = 0, 1, 2, 3
 COUNTS = 3  # the refusal of more expanders or phys than the setting allows
+JOIN = 21  # the refusal of a phy that cannot join two rigs
 FORMS = ("text", "file", "card")  # what a rig is loaded from
 
 
@@ -40,6 +41,14 @@ class RigError(Exception):
 
 class CardRefused(Refusal):
     """No file can be made of a card. The rig has the card, and no file."""
+
+    def __init__(self, rig: "Rig", refusal: Refusal) -> None:
+        super().__init__(refusal.number, refusal.expander, refusal.phy)
+        self.rig = rig
+
+
+class JoinRefused(Refusal):
+    """A join was refused. The rig is the one that the refusal is about."""
 
     def __init__(self, rig: "Rig", refusal: Refusal) -> None:
         super().__init__(refusal.number, refusal.expander, refusal.phy)
@@ -232,6 +241,7 @@ class Rig:
         self._starts: Dict[Tuple[int, Optional[int]], int] = {}
         self._names: Optional[Dict[str, int]] = None
         self._labels: Optional[Dict[int, str]] = None
+        self._called: List[str] = []  # names that are given to its expanders
 
     # Loading.
 
@@ -342,6 +352,8 @@ class Rig:
 
     def _text_of(self, number: int) -> Tuple[str, Optional[int], List[rigtext.Phy]]:
         """The name, line and phys that the text has for an expander."""
+        if number < len(self._called):
+            return self._called[number], None, []
         if self.text is None or number >= len(self.text.expanders):
             return f"E{number}", None, []
         expander = self.text.expanders[number]
@@ -439,6 +451,70 @@ class Rig:
             last = first + self.expanders[place.expander].indexes
             tables.append(Table(place.expander, place.phy, first, view[first:last], bits))
         return Tables(words, bits, tables)
+
+    def join(self, place: Tuple[int, int], other: "Rig", far: Tuple[int, int]) -> "Rig":
+        """The rig of this one and another, joined by a cable between a phy of each.
+
+        A place is an expander and a phy, by the numbers of its own rig. The expanders of the
+        other rig stand behind those of this one. JoinRefused where they cannot be joined.
+
+        >>> from metzurgo import PAIR
+        >>> left = PAIR.replace("direct to A1", "subtractive").replace("drive A1", "drive Z")
+        >>> right = Rig.of_text(left.replace(" 50", " 51"))
+        >>> bench = Rig.of_text(left).join((0, 1), right, (0, 1))
+        >>> bench.judge(), len(bench.tables().words)
+        (4, 8)
+        >>> bench.join((0, 1), right, (0, 1))
+        Traceback (most recent call last):
+        ...
+        metzurgo.rig.JoinRefused: refused 21 0 0
+        """
+        try:
+            file = library().join(self.setting, self.file, place, other.file, far)
+        except Refusal as refusal:
+            raise self._join_refused(refusal, place, other, far) from None
+        return Rig(file, f"{self.source} and {other.source}", self.setting)
+
+    def _join_refused(
+        self, refusal: Refusal, place: Tuple[int, int], other: "Rig", far: Tuple[int, int]
+    ) -> JoinRefused:
+        """The refusal with the rig that it is about, in the order of the tests."""
+        for rig, before in ((self, 0), (other, len(self.expanders))):
+            try:
+                library().judge(self.setting, rig.file)
+            except Refusal:
+                found = JoinRefused(rig, refusal)
+                found.named = (refusal.expander - before, refusal.phy)
+                return found
+        if refusal.number == JOIN:
+            rig, named = (other, far) if self._is_open(place) else (self, place)
+            found = JoinRefused(rig, refusal)
+            found.named = named
+            return found
+        joined = Rig(self._joined(place, other, far), "the joined rig", self.setting)
+        joined._called = [f"{each.name} of the first rig" for each in self.expanders]
+        joined._called += [f"{each.name} of the second rig" for each in other.expanders]
+        return JoinRefused(joined, refusal)
+
+    def _is_open(self, place: Tuple[int, int]) -> bool:
+        """Whether 21 does not hold of a phy."""
+        from .sentences import tell_join
+
+        return tell_join(self, *place) is None
+
+    def _joined(self, place: Tuple[int, int], other: "Rig", far: Tuple[int, int]) -> bytes:
+        """The joined file that the library judged, for its sentence."""
+        count = len(self.expanders) + len(other.expanders)
+        file = bytearray([0x10, count]) + self.file[2:] + other.file[2:]
+        behind = len(self.file) - 2
+        for start, rig, there in (
+            (self.start(*place) or 0, other, far),
+            (behind + (other.start(*far) or 0), self, place),
+        ):
+            file[start + 12] = file[start + 12] & 0x8F | EDGE_EXPANDER << 4
+            address = rig.expanders[there[0]].address.to_bytes(8, "big")
+            file[start + 24 : start + 33] = address + bytes([there[1]])
+        return bytes(file)
 
     def trace(self, tables: Tables, start: int, arrival: int, address: int) -> Traced:
         """Follows a request over tables."""

@@ -116,7 +116,8 @@ def tell(rig: Rig, refusal: Refusal) -> Told:
     teller = TELLERS.get(refusal.number)
     if rig.card is not None and not rig.file:
         teller = CARD_TELLERS.get(refusal.number, teller)
-    told = teller(rig, refusal.expander, refusal.phy) if teller else None
+    place = refusal.named or (refusal.expander, refusal.phy)
+    told = teller(rig, *place) if teller else None
     unknown = Told(f"the call was refused with {refusal.number}", "see docs/FILE-FORMAT.md")
     return told if told is not None else GENERAL.get(refusal.number, unknown)
 
@@ -569,6 +570,45 @@ def least_indexes(rig: Rig, expander: int) -> Optional[int]:
     return low
 
 
+def tell_join(rig: Rig, expander: int, phy: int) -> Optional[Told]:
+    """Why a phy cannot be cabled to another rig; None where it can."""
+    missing = missing_phy(rig, expander, phy)
+    if missing:
+        return missing
+    found = rig.expanders[expander].phys[phy]
+    name, change = rig.phy_name(expander, phy), GENERAL[21].change
+    if found.vacant:
+        return Told(f"{name} is vacant", change, found.line)
+    if found.kind != "subtractive":
+        return Told(f"{name} is a {found.kind} phy", change, found.line)
+    if found.type:
+        attached = f"{name} is attached to {rig.label(found.attached)}"
+        return Told(attached, change, found.line)
+    for other in rig.expanders[expander].phys:
+        if not other.vacant and other.type and other.kind == "subtractive":
+            return Told(
+                f"phy {other.number} of {rig.expander_name(expander)} is subtractive, too, and"
+                f" attached to {rig.label(other.attached)}",
+                "join the rigs at an expander without an attached subtractive phy",
+                other.line,
+            )
+    return None
+
+
+def missing_phy(rig: Rig, expander: int, phy: int) -> Optional[Told]:
+    """That there is no such expander, or no such phy of it."""
+    count = len(rig.expanders)
+    if expander >= count:
+        most = f"expanders 0 to {count - 1}" if count > 1 else "expander 0 alone"
+        return Told(f"there is no expander {expander}", f"the rig has {most}")
+    count = len(rig.expanders[expander].phys)
+    if phy >= count:
+        most = f"phys 0 to {count - 1}" if count > 1 else "phy 0 alone"
+        name = rig.expander_name(expander)
+        return Told(f"expander {name} has no phy {phy}", f"it has {most}", rig.line_of(expander))
+    return None
+
+
 def tell_setting(rig: Rig, expander: int, phy: int) -> Optional[Told]:
     return Told(f"the course's setting {rig.setting} is out of its range", GENERAL[22].change)
 
@@ -661,6 +701,7 @@ TELLERS: Dict[int, Callable[[Rig, int, int], Optional[Told]]] = {
     11: tell_loop,
     12: tell_island,
     14: tell_list,
+    21: tell_join,
     22: tell_setting,
     23: tell_chain,
 }

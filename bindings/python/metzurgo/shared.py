@@ -5,10 +5,10 @@ import json
 import sys
 import textwrap
 import time
-from typing import Any, Dict, Iterable, Iterator, NoReturn, TypeVar
+from typing import Any, Dict, Iterable, Iterator, NoReturn, Optional, TypeVar
 
 from .answers import WIDEST, Refusal, Setting
-from .rig import FORMS, CardRefused, Rig, Tables
+from .rig import FORMS, CardRefused, JoinRefused, Rig, Tables
 
 ACCEPTED, REFUSED, USAGE, UNREADABLE = 0, 1, 2, 3
 
@@ -160,6 +160,8 @@ def answered(rig: Rig, act: Any, *arguments: Any) -> Any:
     """What a call answers; a refusal ends the command."""
     try:
         return act(*arguments)
+    except JoinRefused as refusal:
+        raise Refused(refusal.rig, refusal) from None
     except Refusal as refusal:
         raise Refused(rig, refusal) from None
 

@@ -22,7 +22,7 @@ from metzurgo.answers import OUTCOMES, Refusal, Setting
 from metzurgo.form import Form, first_word
 from metzurgo.rig import Rig
 
-from .support import ROOT, FolderTest, samples
+from .support import ROOT, SAMPLES, FolderTest, samples
 
 
 def modules():
@@ -177,6 +177,11 @@ def answers(rig, call):
     match = re.fullmatch(r"file_of_card ([0-9a-f]+)", call)
     if match:
         return f"bytes {len(Rig.of_card(bytes.fromhex(match[1])).file)}", []
+    match = re.fullmatch(r"join ([0-9]+) ([0-9]+) (\S+) ([0-9]+) ([0-9]+)(?: then (.*))?", call)
+    if match:
+        near, far = tuple(map(int, match.groups()[:2])), tuple(map(int, match.groups()[3:5]))
+        bench = rig.join(near, Rig.load(SAMPLES / f"{match[3]}.rig", rig.setting), far)
+        return answers(bench, match[6]) if match[6] else (f"bytes {len(bench.file)}", [])
     match = re.fullmatch(r"trace ([0-9]+) ([0-9]+) ([0-9a-f]{16})", call)
     if match:
         request = int(match[1]), int(match[2]), int(match[3], 16)

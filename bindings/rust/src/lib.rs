@@ -1,5 +1,6 @@
 //! Calls of the Metzurgo SAS configurator: domain files, wiring, route tables,
-//! request tracing, rig cards, loading frames, and a software expander that obeys them.
+//! request tracing, rig cards, rigs joined, loading frames, and a software expander that obeys
+//! them.
 //!
 //! The functions at the top level take slices and give an answer with a type, or
 //! a [`Refusal`]. The module [`raw`] has the same calls with the answer as the
@@ -35,6 +36,7 @@ pub mod codes;
 mod files;
 mod forms;
 mod frames;
+mod joins;
 mod places;
 pub mod raw;
 mod refusals;
@@ -52,6 +54,7 @@ pub use frames::{
     read_discover, read_general, read_general_sas2, read_route, write_route, Discover, General,
     GeneralSas2, LongGeneral, Route,
 };
+pub use joins::{join, CableEnd};
 pub use places::{Expander, Phy};
 pub use refusals::{Cause, Refusal};
 pub use settings::Setting;

@@ -105,6 +105,19 @@ mod linked {
             file: *mut u8,
             file_len: usize,
         ) -> u64;
+        pub fn metzurgo_join(
+            setting: u32,
+            first: *const u8,
+            first_len: usize,
+            first_expander: u8,
+            first_phy: u8,
+            second: *const u8,
+            second_len: usize,
+            second_expander: u8,
+            second_phy: u8,
+            out: *mut u8,
+            out_len: usize,
+        ) -> u64;
         pub fn metzurgo_write_route(
             buf: *mut u8,
             buf_len: usize,
@@ -312,6 +325,30 @@ pub fn card_of_file(setting: u32, file: &[u8], card: &mut [u8]) -> u64 {
 pub fn file_of_card(setting: u32, card: &[u8], file: &mut [u8]) -> u64 {
     let (start, len) = (file.as_mut_ptr(), file.len());
     unsafe { linked::metzurgo_file_of_card(setting, card.as_ptr(), card.len(), start, len) }
+}
+
+/// Each file with the expander and phy of its end of the cable.
+pub fn join(
+    setting: u32,
+    (first, near): (&[u8], (u8, u8)),
+    (second, far): (&[u8], (u8, u8)),
+    out: &mut [u8],
+) -> u64 {
+    unsafe {
+        linked::metzurgo_join(
+            setting,
+            first.as_ptr(),
+            first.len(),
+            near.0,
+            near.1,
+            second.as_ptr(),
+            second.len(),
+            far.0,
+            far.1,
+            out.as_mut_ptr(),
+            out.len(),
+        )
+    }
 }
 
 pub fn write_route(

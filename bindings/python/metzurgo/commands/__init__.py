@@ -14,5 +14,6 @@ ORDER = (
     "build",
     "print",
     "card",
+    "join",
     "collect",
 )
