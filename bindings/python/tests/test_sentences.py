@@ -92,8 +92,8 @@ class Samples(unittest.TestCase):
         for path in samples():
             number = re.match(r"refused-([0-9]+)", path.stem)
             text = path.read_text(encoding="utf-8")
-            over_a_form = text.split("\n")[1].startswith("# call: compact")
-            if not number or int(number[1]) in LATER or over_a_form:
+            judged = re.search(r"^# call: .*judge$", text, re.M)
+            if not number or int(number[1]) in LATER or not judged:
                 self.assertNotIn(path.stem, TOLD)
                 continue
             with self.subTest(sample=path.stem):
