@@ -91,7 +91,7 @@ drop-zeros zero n = let e : n - 0 ≡ n = omega arith in rw e
 drop-zeros (suc k) zero = let e : 0 - suc k ≡ 0 = omega arith in rw e
 drop-zeros (suc k) (suc n) = let e : suc n - suc k ≡ n - k = omega arith in rw e (drop-zeros k n)
 
-row-words : (l : List ℕ) (a w : ℕ) (ws : List ℕ) → l ≡ replicate 258 0 → length ws ≤ 256 → sets (set (set l 0 a) 1 w) 2 ws ≡ a ∷ w ∷ (ws ++ replicate (256 - length ws) 0)
+pub row-words : (l : List ℕ) (a w : ℕ) (ws : List ℕ) → l ≡ replicate 258 0 → length ws ≤ 256 → sets (set (set l 0 a) 1 w) 2 ws ≡ a ∷ w ∷ (ws ++ replicate (256 - length ws) 0)
 row-words l a w ws q h =
     let z = drop-zeros (length ws) 256 in
     let n = length-replicate {A = ℕ} 256 0 in

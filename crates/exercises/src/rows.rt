@@ -1,0 +1,94 @@
+// The rows of an exercise.
+use wiring::ExpanderUnit;
+use wiring::Phy;
+use wiring::PhyFields;
+use wiring::PhyId;
+ghost use mathlib.Core.Path.{_≡_};
+ghost use mathlib.Core.List.{[], _∷_, map};
+ghost use Prim.Native.Nat.{suc, _≤_};
+ghost use lib.ListN.{length};
+ghost use lib.Seq.{sets};
+ghost use Rattle.wiring.specs.Rows.{phyWords, rowOf, rowsOf};
+ghost use Rattle.exercises.specs.Rig.{drive, toward, firstOf, secondOf};
+
+// The phy of a word: direct, to the word's drive or, for a zero word, to nothing.
+fn drive(word: u64) -> Phy
+    ensures { λ r. ⌜ r ≡ drive word ⌝ }
+{
+    if word == 0 {
+        return Phy::Present(PhyFields {
+            device: 0,
+            attribute: 0,
+            address: 0,
+            far: PhyId(0),
+        });
+    }
+    Phy::Present(PhyFields {
+        device: 1,
+        attribute: 0,
+        address: word,
+        far: PhyId(0),
+    })
+}
+
+// A phy to phy 0 of the expander with this address.
+fn toward(address: u64, attribute: u8) -> Phy
+    ensures { λ r. ⌜ r ≡ toward address attribute ⌝ }
+{
+    Phy::Present(PhyFields {
+        device: 2,
+        attribute: attribute,
+        address: address,
+        far: PhyId(0),
+    })
+}
+
+// Stores the phys of the words in a row, from phy 1 on.
+fn put_drives(row: &mut [u64], words: &[u64])
+    requires { ⌜ (length (now row) ≡ 258) × (length (now words) ≤ 127) ⌝ }
+    ensures { λ _. ⌜ now (row .exit) ≡ sets (now (row .entry)) 4 (phyWords (map drive (now (words .entry)))) ⌝ }
+{
+    let mut k: usize = 0;
+    while k < words.len() {
+        let f = drive(words[k]);
+        let at = 4 + 2 * k;
+        row[at] = wiring::phy_address(f);
+        row[at + 1] = wiring::phy_word(f);
+        k += 1;
+    }
+}
+
+// Writes the row of an expander: its first phy, then a phy for each of the words.
+fn put_row(row: &mut [u64], unit: ExpanderUnit, link: Phy, words: &[u64])
+    requires { ⌜ ((length (now row) ≡ 258) × (length (now words) ≤ 127)) × (unit .phys ≡ suc (length (now words))) ⌝ }
+    ensures { λ _. ⌜ now (row .exit) ≡ rowOf (record { address = unit .address; indexes = unit .indexes; configurable = unit .configurable; phys = link ∷ map drive (now (words .entry)) }) ⌝ }
+{
+    let head = wiring::head_word(unit);
+    wiring::clear(row);
+    row[0] = unit.address;
+    row[1] = head;
+    row[2] = wiring::phy_address(link);
+    row[3] = wiring::phy_word(link);
+    put_drives(row, words);
+}
+
+// Writes the rows of the two expanders, with addresses a and b: R, and the words that have a phy.
+pub(crate) fn put_rig(rows: &mut [u64], a: u64, b: u64, indexes: u16, words: &[u64])
+    requires { ⌜ (length (now rows) ≡ 516) × (length (now words) ≤ 127) ⌝ }
+    ensures { λ _. ⌜ now (rows .exit) ≡ rowsOf (firstOf a b indexes ∷ secondOf a b (now (words .entry)) ∷ []) ⌝ }
+{
+    let first = ExpanderUnit {
+        address: a,
+        indexes: indexes,
+        phys: 1,
+        configurable: 1,
+    };
+    let second = ExpanderUnit {
+        address: b,
+        indexes: 0,
+        phys: words.len() as u8 + 1,
+        configurable: 0,
+    };
+    put_row(&mut rows[..258], first, toward(b, 2), &words[..0]);
+    put_row(&mut rows[258..], second, toward(a, 1), words);
+}
