@@ -34,6 +34,7 @@ ghost use Rattle.forms.specs.Formed.{formCall, formTables, formTrace, formList}
 ghost use Rattle.forms.specs.Calls.{formCounts, formAfter, requestsIn};
 ghost use Rattle.cards.specs.Calls.{cardCall, fileCall, lengthOf, newAfter};
 ghost use Rattle.benches.specs.JoinCall.{joinCall, lengthOf as bytesJoined, joinedAfter};
+ghost use Rattle.exercises.specs.Call.{makeCall};
 ghost use Rattle.shelves.specs.Shelf.{shelfBytes, made, stepped, entryAt, disabledAt};
 ghost use Rattle.exports.specs.Shelves.{ShelfDone};
 ghost use Rattle.exports.specs.Packing.{version, settingOf, packed, number, counts, formPacked, entryPacked, endPacked, stepPacked, forty, general, generalSas2, discovered, ownAddress, attachedAddress, route, routeTold, routeAddress};
@@ -442,6 +443,19 @@ pub extern "C" fn metzurgo_join(
     match answer {
         Joining::Refused(r) => packing::refusal(r),
         Joining::Bytes(n) => n as u64,
+    }
+}
+
+// Makes a file of two expanders whose one table is the words, and answers how many bytes it has: 24, 16.
+#[no_mangle]
+pub extern "C" fn metzurgo_make(first: u64, second: u64, words: &[u64], out: &mut [u8]) -> u64
+    ensures { λ r. ⌜ (r ≡ packed number (then (makeCall first second (now (words .entry)) (length (now (out .entry)))) lengthOf))
+        × (now (out .exit) ≡ newAfter (makeCall first second (now (words .entry)) (length (now (out .entry)))) (now (out .entry))) ⌝ }
+{
+    let answer = exercises::make(first, second, words, out);
+    match answer {
+        Made::Refused(r) => packing::refusal(r),
+        Made::Bytes(n) => n as u64,
     }
 }
 
