@@ -1,8 +1,7 @@
 -- Over what the call promises: 24 exactly where there is no rig, then 16 where the lent bytes are too few, and otherwise the file of a rig.
 use Prim.Native.Nat.{ℕ, _^_, _≤_, _<_}
 use mathlib.Core.Path.{_≡_, refl, sym, ap, ap₂, subst, _∙_}
-use mathlib.Core.Logic.{_⊎_, inl, inr, _↔_, ⊎-elim, by-cases}
-use mathlib.Core.Bool.{Bool, true, false, not}
+use mathlib.Core.Logic.{_⊎_, _↔_, ⊎-elim, by-cases}
 use mathlib.Core.List.{List, _++_}
 use native.Mathlib.Omega.{arith}
 use native.Mathlib.Decide.{decLt}
@@ -10,22 +9,22 @@ use lib.ListN.{length, take, drop}
 use lib.Seq.{take-at}
 use lib.Dec.{T}
 use borrow.Author.Tests.{le-leb, lt-leb}
-use Rattle.wiring.specs.Frames.{Result, Refusal, refused, good, unless, then, refusal}
+use Rattle.wiring.specs.Frames.{Result, Refusal, refused, good, then, refusal}
 use Rattle.wiring.specs.Settings.{widest}
 use Rattle.wiring.specs.Domain.{Domain}
 use Rattle.wiring.specs.Read.{Bytes}
 use Rattle.wiring.proofs.Members.{T?, is-true, is-false}
 use Rattle.wiring.proofs.Results.{good-one}
-use Rattle.tables.specs.Tables.{table, tablePlaces, tables, needed}
+use Rattle.tables.specs.Tables.{table, tables, needed}
 use Rattle.tables.specs.Entries.{Entries, roomOf, Enough, putBefore}
 use Rattle.tables.specs.Judge.{judged, tableCall, countsIn, tablesAnswer, tablesAfter, TablesDone}
 use Rattle.tables.specs.declared.TablesGiven.{TablesGiven}
 use Rattle.tables.proofs.Tables.{tables-length}
 use Rattle.tables.proofs.Given.{tableCall-iff}
 use Rattle.cards.specs.declared.Made.{Made}
-use Rattle.cards.specs.declared.Made.the-variants.{Refused, Bytes as MadeBytes}
+use Rattle.cards.specs.declared.Made.the-variants.{Bytes as MadeBytes}
 use Rattle.cards.specs.FileOf.{fileOf}
-use Rattle.cards.specs.Calls.{fileFor, madeAnswer, lengthOf, newAfter, MadeDone}
+use Rattle.cards.specs.Calls.{madeAnswer, lengthOf, newAfter, MadeDone}
 use Rattle.exercises.specs.Rig.{made, noRig, Kind, Rig}
 use Rattle.exercises.specs.Call.{makeCall}
 use Rattle.exercises.proofs.Limits.{rig-possible}

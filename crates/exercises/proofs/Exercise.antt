@@ -6,15 +6,15 @@ use mathlib.Core.Bool.{Bool, true, false, cond, not, _||_, _&&_}
 use mathlib.Core.List.{List, [], _∷_, _++_, map, flatMap, append-nil, append-assoc}
 use native.Mathlib.Omega.{arith}
 use native.Mathlib.Decide.{ℕ-discrete, decLt}
-use lib.ListN.{length, getD, replicate, length-map}
-use lib.Dec.{T, eqb, ltb, eqb→eq, lt→ltb, leb→le, not-T}
+use lib.ListN.{length, getD, length-map}
+use lib.Dec.{T, eqb, ltb, lt→ltb, leb→le}
 use borrow.Author.Tests.{eq-eqb, ne-eqb}
 use Rattle.wiring.specs.declared.Phy.{Phy}
-use Rattle.wiring.specs.declared.Phy.the-variants.{Vacant, Present}
+use Rattle.wiring.specs.declared.Phy.the-variants.{Vacant}
 use Rattle.wiring.specs.Frames.{good}
 use Rattle.wiring.specs.Lists.{keep, In, isIn}
 use Rattle.wiring.specs.Settings.{widest}
-use Rattle.wiring.specs.Domain.{Expander, Domain, expanderAt, phyAt, typeOf, addressOf, farOf, attributeOf, routes, attached, toEnd, toExpander, numberOf}
+use Rattle.wiring.specs.Domain.{Domain, expanderAt, phyAt, typeOf, addressOf, farOf, attributeOf, routes, attached, toEnd, toExpander, numberOf}
 use Rattle.wiring.specs.Read.{ReadPhy, ReadExpander, Read, Bytes, FitsPhy, FitsExpander, FitsDomain}
 use Rattle.wiring.specs.File.{domainRead}
 use Rattle.wiring.specs.Rows.{rowsOf, domainIn}
@@ -23,14 +23,14 @@ use Rattle.wiring.specs.Graph.{self, ring}
 use Rattle.wiring.specs.Neighbours.{neighbours}
 use Rattle.wiring.specs.Devices.{LoopIn, ChainIn, To}
 use Rattle.wiring.specs.Tested.{Linked}
-use Rattle.wiring.proofs.Members.{or-left, or-right, is-true, isIn-of, eq→eqb, pigeonhole, getD-in, in-map}
+use Rattle.wiring.proofs.Members.{or-left, or-right, isIn-of, eq→eqb, pigeonhole, getD-in, in-map}
 use Rattle.wiring.proofs.Wires.{Plain, Wired, in-range, adj-to, to-adj}
 use Rattle.wiring.proofs.Back.{domain-back}
 use Rattle.wiring.proofs.Accepted.{read-expander}
 use Rattle.wiring.proofs.LongChains.{never-long}
 use Rattle.tables.specs.Levels.{down}
 use Rattle.tables.specs.Tables.{word, gives, give, giveAll, levelList, table, tablePlaces, tables}
-use Rattle.tables.specs.Judge.{judgedDomain, judged}
+use Rattle.tables.specs.Judge.{judged}
 use Rattle.tables.specs.Tested.{Routable}
 use Rattle.tables.proofs.Listed.{held-self}
 use Rattle.tables.proofs.Tables.{table-is}

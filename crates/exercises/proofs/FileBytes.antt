@@ -8,14 +8,14 @@ use native.Mathlib.Decide.{decLt}
 use lib.ListN.{length, getD, replicate, List·getD-append}
 use lib.Seq.{getD-append-add}
 use Rattle.frames.specs.Bytes.{bytesOf}
-use Rattle.frames.specs.ShortFrames.{shortGeneral, shortVacant, shortDiscover}
+use Rattle.cards.specs.ShortFrames.{shortGeneral, shortVacant, shortDiscover}
 use Rattle.wiring.specs.declared.Phy.{Phy}
 use Rattle.wiring.specs.declared.Phy.the-variants.{Vacant, Present}
 use Rattle.wiring.specs.declared.Setting.{Setting}
 use Rattle.wiring.specs.Lists.{In}
 use Rattle.wiring.specs.Domain.{Expander, Domain}
 use Rattle.wiring.specs.Read.{ReadExpander, Read, Bytes, FitsPhy, FitsExpander, FitsDomain}
-use Rattle.cards.specs.FileOf.{generalOf, discoverOf, phyFrame, physFrames, unitHead, unitsOf, fileOf}
+use Rattle.cards.specs.FileOf.{phyFrame, physFrames, unitHead, unitsOf, fileOf}
 
 -- the same as a record, whose list antt finds by itself
 record Full (s : List ℕ) : Type 0 where

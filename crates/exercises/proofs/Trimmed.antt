@@ -1,17 +1,16 @@
 -- Words up to the last non-zero one.
 use Prim.Native.Nat.{ℕ, zero, suc, _+_, _-_, _≤_, _<_}
-use mathlib.Core.Path.{_≡_, refl, sym, ap, subst, _∙_}
-use mathlib.Core.Logic.{_⊎_, inl, inr, _≢_, ⊎-elim, by-cases}
+use mathlib.Core.Path.{_≡_, refl, sym, ap, _∙_}
+use mathlib.Core.Logic.{inl, inr, _≢_}
 use mathlib.Core.Bool.{Bool, true, false, cond}
 use mathlib.Core.List.{List, [], _∷_, _++_}
 use native.Mathlib.Omega.{arith}
-use native.Mathlib.Decide.{ℕ-discrete}
 use lib.ListN.{length, getD, take, replicate, length-append}
 use lib.Seq.{take-suc, take-all, length-take-le}
-use lib.Dec.{T, eqb, eqb→eq}
+use lib.Dec.{eqb, eqb→eq}
 use borrow.Author.Tests.{ne-eqb}
 use Rattle.wiring.specs.Lists.{In}
-use Rattle.wiring.proofs.Members.{was-true, neqb}
+use Rattle.wiring.proofs.Members.{was-true}
 use Rattle.exercises.specs.Rig.{trimCons, trimmed}
 
 -- the words are those trimmed and then zeros

@@ -1,7 +1,6 @@
 -- put_rig lends each expander's row its part of the rows.
-use mathlib.Core.Path.{_≡_, refl, sym}
+use mathlib.Core.Path.{refl, sym}
 use native.Mathlib.Omega.{arith}
-use lib.ListN.{length, take}
 use lib.Seq.{length-take-le}
 use Rattle.exercises.proofs.RowPuts.{rig-put}
 use borrow.Author.Needs.{needs}

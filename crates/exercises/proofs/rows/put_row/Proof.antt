@@ -1,6 +1,6 @@
 -- put_row clears the row, and stores its two words, its link and the words' phys.
 use Prim.Native.Nat.{ℕ}
-use mathlib.Core.Path.{_≡_, _∙_, ap}
+use mathlib.Core.Path.{_∙_, ap}
 use native.Mathlib.Omega.{arith}
 use lib.ListN.{replicate, length-set}
 use Rattle.exercises.proofs.RowPuts.{row-put}

@@ -4,7 +4,6 @@ use mathlib.Core.Path.{_≡_, refl}
 use lib.ListN.{length, drop}
 use Rattle.wiring.specs.Lists.{isIn}
 use Rattle.wiring.proofs.Reading.{in-stop, in-go, in-end}
-use borrow.Author.Needs.{needs}
 use native.Mathlib.Omega.{arith}
 use Rattle.exercises.proofs.words.has_word.Statement.{statement}
 use Rattle.exercises.proofs.words.has_word.Tie as tie

@@ -1,10 +1,9 @@
 -- trimmed_count goes down from the end; its loop's invariant: the first n words trimmed are all words trimmed.
 use Prim.Native.Nat.{_≤_, _-_}
-use mathlib.Core.Path.{_≡_, refl}
+use mathlib.Core.Path.{_≡_}
 use lib.ListN.{length, take}
 use Rattle.exercises.specs.Rig.{trimmed}
 use Rattle.exercises.proofs.Trimmed.{trim-start, trim-stop, trim-go, trim-end}
-use borrow.Author.Needs.{needs}
 use native.Mathlib.Omega.{arith}
 use Rattle.exercises.proofs.words.trimmed_count.Statement.{statement}
 use Rattle.exercises.proofs.words.trimmed_count.Tie as tie
