@@ -143,7 +143,9 @@ extern "C" {
     X(22, "The course's setting is out of its range: 1 to 64 expanders, "     \
           "1 to 128 phys, chains of 1 to 64 expanders.")                      \
     X(23, "A chain of cabled expanders is longer than the setting "           \
-          "allows.")
+          "allows.")                                                          \
+    X(24, "No accepted rig of two expanders has these words as its "          \
+          "table.")
 
 /* The words of a refusal number; NULL for one that no call gives. */
 static inline const char *metzurgo_refusal_text(unsigned number)
@@ -443,6 +445,23 @@ uint64_t metzurgo_join(uint32_t setting, const uint8_t *first,
                        uint8_t first_phy, const uint8_t *second,
                        size_t second_len, uint8_t second_expander,
                        uint8_t second_phy, uint8_t *out, size_t out_len);
+
+/*
+ * An exercise from its solution: makes the file of a rig of two expanders, with
+ * these addresses, whose one table is the words. The first has one phy, a table
+ * phy to the second, and as many route indexes as there are words. The second
+ * has a subtractive phy to the first, then a direct phy for each word up to the
+ * last that is not zero: its drive, or nothing for a zero word. The frames are
+ * short, and all that is ignored is zero. Refuses with 24, place 0, 0, where no
+ * such rig is accepted under METZURGO_WIDEST, whatever the second expander is:
+ * an address is zero, or both are equal, or one of them is a word; there are more
+ * than 65,535 words, or one at index 127 or later is not zero. Then 16 (fewer
+ * bytes than the file has; METZURGO_LONGEST_EXERCISE are enough). Later bytes
+ * stay. Answer: the bytes of the file.
+ */
+#define METZURGO_LONGEST_EXERCISE 6782
+uint64_t metzurgo_make(uint64_t first, uint64_t second, const uint64_t *words,
+                       size_t words_len, uint8_t *out, size_t out_len);
 
 /*
  * A shelf: a software expander that its owner holds and the calls alter where it

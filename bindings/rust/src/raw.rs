@@ -118,6 +118,14 @@ mod linked {
             out: *mut u8,
             out_len: usize,
         ) -> u64;
+        pub fn metzurgo_make(
+            first: u64,
+            second: u64,
+            words: *const u64,
+            words_len: usize,
+            out: *mut u8,
+            out_len: usize,
+        ) -> u64;
         pub fn metzurgo_write_route(
             buf: *mut u8,
             buf_len: usize,
@@ -349,6 +357,11 @@ pub fn join(
             out.len(),
         )
     }
+}
+
+pub fn make(first: u64, second: u64, words: &[u64], out: &mut [u8]) -> u64 {
+    let (start, len) = (out.as_mut_ptr(), out.len());
+    unsafe { linked::metzurgo_make(first, second, words.as_ptr(), words.len(), start, len) }
 }
 
 pub fn write_route(

@@ -77,6 +77,7 @@ causes! {
     Join 21 "A phy of the cable that is to join two rigs does not exist, is vacant, is not subtractive or is attached; or its expander has an attached subtractive phy."
     Setting 22 "The course's setting is out of its range: 1 to 64 expanders, 1 to 128 phys, chains of 1 to 64 expanders."
     Chain 23 "A chain of cabled expanders is longer than the setting allows."
+    NoRig 24 "No accepted rig of two expanders has these words as its table."
 }
 
 impl fmt::Display for Cause {
