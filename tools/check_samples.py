@@ -6,8 +6,9 @@
 The calls are made by the test harness, on the archive, or with --reference on the
 harness's reference implementation. Each refused or
 faulty sample is built and called a second time, repaired. A sample has no warnings. Every file
-built is printed and built again. With --routes the program lists every file, and
-its listing is compared with the words of the table call. docs/FILE-FORMAT.md,
+built is printed and built again. The file that a `make` call makes is the sample's own.
+With --routes the program lists every file, and its listing is compared with the words
+of the table call, and of a `make` call. docs/FILE-FORMAT.md,
 docs/RIG-TEXT.md and samples/README.md are compared with the samples. Ends with 1
 where anything differs, and where a refusal number has no sample.
 """
@@ -24,7 +25,7 @@ ROOT = Path(__file__).resolve().parent.parent
 sys.path.insert(0, str(ROOT / "bindings/python"))
 from metzurgo import rigtext  # noqa: E402
 
-NUMBERS = [*range(1, 13), *range(14, 20), *range(21, 24)]  # 13 is withdrawn
+NUMBERS = [*range(1, 13), *range(14, 20), *range(21, 25)]  # 13 is withdrawn
 WRITTEN = ("words", "bits", "passed", "card", "form", "answers")
 KEYS = ("shows", "call", "answer", *WRITTEN, "repair", "repaired call", "repaired answer")
 
@@ -222,6 +223,20 @@ class Check:
             if written.get(kind) != values:
                 got = " ".join(written.get(kind, ["none"]))
                 raise Wrong(f'{when}the call "{call}" gives the {kind} {got}')
+        if call.startswith("make ") and "file" in written:
+            self.compare_made(call, bytes.fromhex(written["file"][0]), when)
+
+    def compare_made(self, call, file, when):
+        """A made file is that of the sample, and its listing is the solution, line by line."""
+        if file != self.built.read_bytes():
+            raise Wrong(f'{when}the call "{call}" makes another file than the sample\'s')
+        words = solution(call)
+        if not self.routes or len(words) > 8192:
+            return
+        lines = [f"0 0 {index} {word:016x}\n" for index, word in enumerate(words)]
+        expected = "".join(lines) + f"tables 1 entries {len(words)}\n"
+        if self.list_file(file) != expected:
+            raise Wrong(f"{when}the program routes does not list the solution of {call}")
 
     def list_tables(self, file):
         """Compares the listing of the program routes with the table call."""
@@ -270,6 +285,15 @@ class Check:
         self.built.write_bytes(bytes(byte | more for byte, more in zip(page, ones)))
         for call in sample.calls:
             self.compare(call.call, call.answer, call.written, "with ignored bits set: ")
+
+
+def solution(call):
+    """The words of a `make` call: addresses, or COUNTxADDRESS."""
+    words = []
+    for word in call.partition(" bytes ")[0].split()[3:]:
+        count, times, address = word.rpartition("x")
+        words += [int(address, 16)] * (int(count) if times else 1)
+    return words
 
 
 def build(text, when="", strict=True):
@@ -338,7 +362,7 @@ def check_refusal_table(samples):
     """docs/FILE-FORMAT.md: a row for each number, with a sample and its repair."""
     rows = table_rows(ROOT / "docs/FILE-FORMAT.md", "## Refusals")
     if [row[0] for row in rows] != [str(number) for number in NUMBERS]:
-        raise Wrong("the table of refusals does not have the rows 1 to 12, 14 to 19 and 21 to 23")
+        raise Wrong("the table of refusals does not have the rows 1 to 12, 14 to 19 and 21 to 24")
     for number, _, name, repair in rows:
         sample = samples.get(name.strip("`"))
         if not sample or sample.number != int(number):

@@ -14,6 +14,7 @@
 //!     file_of_card CARD [bytes BYTES]             bytes 334
 //!     join EXPANDER PHY FILE EXPANDER PHY [bytes BYTES] [then CALL]
 //!                                                 bytes 666
+//!     make FIRST SECOND WORD.. [bytes BYTES]      bytes 230
 //!
 //! Before the call may stand `setting EXPANDERS PHYS CHAIN`; without it the
 //! setting is 64 128 64. WORDS and BYTES are the lengths of the lent buffers:
@@ -23,7 +24,9 @@
 //! as often as they stand there and in that order. Without lengths the buffers are
 //! as long as needed, the bits of the table call as long as WORDS need. A CARD is in
 //! hexadecimal; `file_of_card` reads it in place of the file. `join` joins the file with
-//! another, and `then` makes a call on what it wrote. Further lines have the
+//! another, and `then` makes a call on what it wrote. `make` makes a file from the
+//! addresses of two expanders and table words, and reads none; COUNTxWORD is a word so
+//! often. Further lines have the
 //! words and the bits written, the expanders passed, or the card or file made. A
 //! refusal is the line `refused` with number, expander and phy.
 //!
@@ -37,8 +40,7 @@ use crate::calls::{Calls, Part};
 use crate::compare::{hex, Difference, Lent};
 use crate::generate::WIDEST;
 use crate::reference;
-use metzurgo::LONGEST_FORM;
-use metzurgo::{LONGEST_CARD, LONGEST_CARD_FILE};
+use metzurgo::{LONGEST_CARD, LONGEST_CARD_FILE, LONGEST_EXERCISE, LONGEST_FORM};
 
 /// The most words that the table call is lent for a trace.
 const MOST_WORDS: usize = 1 << 24;
@@ -51,7 +53,7 @@ const USAGE: &str = "[setting EXPANDERS PHYS CHAIN] judge | wire WORDS | \
                      compact_trace_many [START.ARRIVAL.ADDRESS ...] | \
                      card_of_file [bytes BYTES] | \
                      file_of_card CARD [bytes BYTES] | join EXPANDER PHY FILE EXPANDER PHY \
-                     [bytes BYTES] [then CALL]";
+                     [bytes BYTES] [then CALL] | make FIRST SECOND WORD.. [bytes BYTES]";
 
 pub enum Failed {
     /// The words do not state a call.
@@ -140,6 +142,12 @@ fn under(subject: &dyn Calls, setting: u32, file: &[u8], call: &[&str]) -> Resul
                 std::fs::read(other).map_err(|error| Failed::Usage(format!("{other}: {error}")))?;
             join(subject, setting, (file, near), (&other, far), rest)
         }
+        ["make", first, second, ref words @ .., "bytes", length] => {
+            make(subject, [first, second], words, number(length)?)
+        }
+        ["make", first, second, ref words @ ..] => {
+            make(subject, [first, second], words, LONGEST_EXERCISE)
+        }
         _ => Err(usage()),
     }
 }
@@ -164,6 +172,25 @@ fn made(what: &str, length: usize, call: impl FnOnce(&mut [u8]) -> u64) -> Resul
     }
     let written = lent.written(|| what.into(), &before, answer as usize)?;
     Ok(format!("bytes {answer}\n{what} {}", hex(&written)))
+}
+
+/// A file from its solution, with so many bytes lent.
+fn make(
+    subject: &dyn Calls,
+    expanders: [&str; 2],
+    words: &[&str],
+    length: usize,
+) -> Result<String, Failed> {
+    let [first, second] = expanders;
+    let (first, second) = (address(first)?, address(second)?);
+    let mut given = Vec::new();
+    for word in words {
+        // One word, or COUNTxWORD.
+        let (count, word) = word.split_once('x').unwrap_or(("1", word));
+        given.extend(std::iter::repeat_n(address(word)?, number(count)?));
+    }
+    let call = |room: &mut [u8]| subject.make(first, second, &given, room);
+    made("file", length, call)
 }
 
 /// The bytes of hexadecimal digits.

@@ -64,6 +64,7 @@ pub trait Calls: Sync {
     fn card_of_file(&self, setting: u32, file: &[u8], card: &mut [u8]) -> u64;
     fn file_of_card(&self, setting: u32, card: &[u8], file: &mut [u8]) -> u64;
     fn join(&self, setting: u32, first: Part, second: Part, out: &mut [u8]) -> u64;
+    fn make(&self, first: u64, second: u64, words: &[u64], out: &mut [u8]) -> u64;
     fn write_route(
         &self,
         buf: &mut [u8],
@@ -191,6 +192,10 @@ impl Calls for Archive {
 
     fn join(&self, setting: u32, first: Part, second: Part, out: &mut [u8]) -> u64 {
         metzurgo::raw::join(setting, first, second, out)
+    }
+
+    fn make(&self, first: u64, second: u64, words: &[u64], out: &mut [u8]) -> u64 {
+        metzurgo::raw::make(first, second, words, out)
     }
 
     fn write_route(

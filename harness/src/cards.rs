@@ -491,7 +491,7 @@ impl Cards<'_> {
 }
 
 /// A call that makes bytes in a buffer of this length: its answer and the buffer.
-fn compare(
+pub fn compare(
     what: impl Fn() -> String,
     made: &Result<Vec<u8>, Refusal>,
     length: usize,

@@ -39,9 +39,9 @@ impl Difference {
 pub struct Counts {
     pub calls: u64,
     /// Refusals by number, in all calls.
-    pub refusals: [u64; 24],
+    pub refusals: [u64; 25],
     /// Files that the judging call refuses, by number.
-    pub refused_files: [u64; 24],
+    pub refused_files: [u64; 25],
     pub accepted_files: u64,
     /// Accepted files by their traces: all requests, a sample, none because the
     /// tables are too long.
@@ -72,6 +72,9 @@ pub struct Counts {
     pub cards: u64,
     pub spoiled_cards: u64,
     pub joins: joins::Reached,
+    /// Solutions of which a file was made, and tables of accepted rigs among them.
+    pub solutions: u64,
+    pub exercises: u64,
     /// Steps by their rule, (i) to (v), and those that are BAD DESTINATION.
     pub rules: [u64; 5],
     pub bad_steps: u64,
@@ -100,6 +103,8 @@ impl Counts {
         self.cards += other.cards;
         self.joins.add(&other.joins);
         self.spoiled_cards += other.spoiled_cards;
+        self.solutions += other.solutions;
+        self.exercises += other.exercises;
         self.shelf_frames += other.shelf_frames;
         self.shelf_refusals += other.shelf_refusals;
         for (sum, more) in self.shelf_results.iter_mut().zip(other.shelf_results) {

@@ -3,6 +3,7 @@
 
 use crate::calls::{Calls, Part};
 use crate::cards;
+use crate::exercises;
 use crate::joins;
 use crate::reference::Reference;
 use crate::shelves::Words;
@@ -845,6 +846,10 @@ impl Calls for Fast {
             place,
         });
         joins::put(setting, [&first, &second], out)
+    }
+
+    fn make(&self, first: u64, second: u64, words: &[u64], out: &mut [u8]) -> u64 {
+        cards::put(exercises::make(first, second, words), out)
     }
 
     fn write_route(

@@ -15,6 +15,7 @@ mod call;
 mod calls;
 mod cards;
 mod compare;
+mod exercises;
 mod fast;
 mod forms;
 mod generate;
@@ -165,7 +166,7 @@ fn check(subject: &dyn Calls, seed: u64, counts: &mut Counts) -> Result<&'static
             cards::check(subject, setting, &made.file, &mut random, counts)
                 .map_err(|difference| difference.under(setting))?;
             joins::check(subject, &made.file, &mut random, counts)?;
-            Ok(())
+            exercises::check(subject, &mut random, counts)
         })
         .map_err(|difference| Failure {
             seed,
@@ -314,12 +315,16 @@ fn run(subject: &dyn Calls, files: u64, seed: u64) {
     );
     counts.joins.print();
     println!(
+        "  exercises: {} solutions with a rig, {} of them tables of accepted rigs",
+        counts.solutions, counts.exercises
+    );
+    println!(
         "  steps: {} in all, {} by (i), {} (ii), {} (iii), {} (iv), {} (v), {} BAD DESTINATION; {} traces followed by steps",
         counts.rules.iter().sum::<u64>(), counts.rules[0], counts.rules[1], counts.rules[2], counts.rules[3], counts.rules[4], counts.bad_steps, counts.walks
     );
     let mut missing = false;
     // 13 is withdrawn.
-    for number in (1..=12).chain(14..=19).chain(21..=23) {
+    for number in (1..=12).chain(14..=19).chain(21..=24) {
         let calls = counts.refusals[number];
         let files = counts.refused_files[number];
         match number {

@@ -9,6 +9,7 @@ use std::ops::Range;
 
 use crate::calls::{Calls, Part};
 use crate::cards;
+use crate::exercises;
 use crate::forms;
 use crate::joins;
 use crate::shelves::{self, Plain, Words};
@@ -1328,6 +1329,10 @@ impl Calls for Reference {
             place,
         });
         joins::put(setting, [&first, &second], out)
+    }
+
+    fn make(&self, first: u64, second: u64, words: &[u64], out: &mut [u8]) -> u64 {
+        cards::put(exercises::make(first, second, words), out)
     }
 
     fn write_route(
