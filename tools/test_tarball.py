@@ -34,6 +34,7 @@ SUBCOMMANDS = (
     "print",
     "card",
     "join",
+    "exercise",
     "collect",
 )
 FILES = (

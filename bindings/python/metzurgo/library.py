@@ -20,6 +20,7 @@ FRAME = 40  # the bytes of a CONFIGURE ROUTE INFORMATION request
 LONGEST_FORM = 16512  # the words of the longest form
 LONGEST_CARD = 80578  # the bytes of the longest card
 LONGEST_CARD_FILE = 428290  # and of the longest file that is made of a card
+LONGEST_EXERCISE = 6782  # and of the longest file of an exercise
 
 _SETTING = [c_uint32]
 _BYTES = [c_char_p, c_size_t]  # read only
@@ -45,6 +46,7 @@ CALLS = {
     "metzurgo_card_of_file": _SETTING + _BYTES + _LENT,
     "metzurgo_file_of_card": _SETTING + _BYTES + _LENT,
     "metzurgo_join": _SETTING + _END + _END + _LENT,
+    "metzurgo_make": [c_uint64, c_uint64] + _WORDS + _LENT,
     "metzurgo_write_route": _LENT + [c_uint8, c_uint8, c_uint16, c_uint64, c_uint8],
     "metzurgo_read_route": _BYTES,
     "metzurgo_read_route_address": _BYTES,
@@ -279,6 +281,16 @@ class Library:
         room = (c_uint8 * LONGEST_CARD_FILE)()
         call = self._calls.metzurgo_file_of_card
         count = checked(call(setting.packed(), card, len(card), room, len(room)))
+        return bytes(room[:count])
+
+    # Exercises.
+
+    def make(self, first: int, second: int, words: Sequence[int]) -> bytes:
+        """The domain file of two expanders, with these addresses, whose one table is the words."""
+        lent = (c_uint64 * len(words))(*words)
+        room = (c_uint8 * LONGEST_EXERCISE)()
+        call = self._calls.metzurgo_make
+        count = checked(call(first, second, lent, len(lent), room, len(room)))
         return bytes(room[:count])
 
     # Calls on one frame.

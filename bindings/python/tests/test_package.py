@@ -182,6 +182,11 @@ def answers(rig, call):
         near, far = tuple(map(int, match.groups()[:2])), tuple(map(int, match.groups()[3:5]))
         bench = rig.join(near, Rig.load(SAMPLES / f"{match[3]}.rig", rig.setting), far)
         return answers(bench, match[6]) if match[6] else (f"bytes {len(bench.file)}", [])
+    match = re.fullmatch(r"make ([0-9a-f]+) ([0-9a-f]+)((?: [0-9a-f]+)*)", call)
+    if match:
+        words = [int(word, 16) for word in match[3].split()]
+        made = library.library().make(int(match[1], 16), int(match[2], 16), words)
+        return f"bytes {len(made)}", []
     match = re.fullmatch(r"trace ([0-9]+) ([0-9]+) ([0-9a-f]{16})", call)
     if match:
         request = int(match[1]), int(match[2]), int(match[3], 16)

@@ -15,5 +15,6 @@ ORDER = (
     "print",
     "card",
     "join",
+    "exercise",
     "collect",
 )
