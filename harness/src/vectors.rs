@@ -339,6 +339,8 @@ pub fn run(subject: &dyn Calls) -> Result<usize, Difference> {
     test.card_refusals()?;
     test.card_settings()?;
     test.largest_card()?;
+    test.exercises()?;
+    test.no_exercises()?;
     test.shelves_told()?;
     test.shelf_results()?;
     test.shelf_entries()?;
@@ -3187,6 +3189,90 @@ impl Test<'_> {
     }
 
     // ------------------------------------------------------------ shelves
+
+    // ------------------------------------------------------------ exercises
+
+    /// The file of an exercise by hand: no words, zeros alone, and a solution with a hole
+    /// and a wide drive.
+    fn exercises(&mut self) -> Done {
+        let (first, second, b1, b2) = (0x10, 0x20, 0xb1, 0xb2);
+        let unit = |address: u64, indexes: u16, phys: u8, configurable: u8| {
+            let mut bytes = vec![0; 36];
+            bytes[..8].copy_from_slice(&address.to_be_bytes());
+            bytes[8] = 0x41;
+            bytes[14..16].copy_from_slice(&indexes.to_be_bytes());
+            bytes[17] = phys;
+            bytes[18] = configurable;
+            bytes
+        };
+        let phy = |number: u8, device: u8, attribute: u8, own: u64, attached: u64| {
+            let mut bytes = vec![0; 52];
+            bytes[..2].copy_from_slice(&[0x41, 0x10]);
+            bytes[9] = number;
+            bytes[12] = device << 4;
+            bytes[16..24].copy_from_slice(&own.to_be_bytes());
+            bytes[24..32].copy_from_slice(&attached.to_be_bytes());
+            bytes[44] = attribute;
+            bytes
+        };
+        let front = |indexes: u16, phys: u8| {
+            [
+                vec![0x10, 2],
+                unit(first, indexes, 1, 1),
+                phy(0, 2, 2, first, second),
+                unit(second, 0, phys, 0),
+                phy(0, 2, 1, second, first),
+            ]
+            .concat()
+        };
+        let drives = [
+            phy(1, 1, 0, second, b1),
+            phy(2, 0, 0, second, 0),
+            phy(3, 1, 0, second, b2),
+            phy(4, 1, 0, second, b2),
+        ]
+        .concat();
+        for (words, file) in [
+            (vec![], front(0, 1)),
+            (vec![0; 65_535], front(65_535, 1)),
+            (
+                vec![b1, 0, b2, b2, 0, 0],
+                [front(6, 5), drives.clone()].concat(),
+            ),
+        ] {
+            self.makes("exercise", &file, |subject, _, room| {
+                subject.make(first, second, &words, room)
+            })?;
+        }
+        Ok(())
+    }
+
+    /// Each reason of 24, which comes before 16, and words just within it.
+    fn no_exercises(&mut self) -> Done {
+        let (first, second, b1) = (0x10, 0x20, 0xb1);
+        let late = |index: usize| [vec![0; index], vec![b1, 0]].concat();
+        for (name, first, second, words) in [
+            ("first zero", 0, second, vec![b1]),
+            ("second zero", first, 0, vec![b1]),
+            ("equal", first, first, vec![b1]),
+            ("both zero", 0, 0, vec![]),
+            ("first a word", first, second, vec![b1, 0, first]),
+            ("second a word", first, second, vec![second]),
+            ("index 127", first, second, late(127)),
+            ("index 300", first, second, late(300)),
+            ("65,536 words", first, second, vec![0; 65_536]),
+        ] {
+            for length in [0, 400] {
+                self.makes_nothing(name, refused(24, 0, 0), length, |subject, _, room| {
+                    subject.make(first, second, &words, room)
+                })?;
+            }
+        }
+        let words = late(126);
+        self.makes_nothing("index 126", refused(16, 0, 0), 6781, |subject, _, room| {
+            subject.make(first, second, &words, room)
+        })
+    }
 
     // ------------------------------------------------------------ rig cards
 
