@@ -52,6 +52,7 @@ FILES = (
 )
 MANY = 65536  # words for the tables of any sample
 NOBODY = "7fffffffffffffff"  # an address that no sample has
+EXERCISE = ("7ffffffffffffffd", "7ffffffffffffffe")  # nor these, of the expanders of exercises
 SVG = "{http://www.w3.org/2000/svg}"
 
 
@@ -236,6 +237,18 @@ class Check:
             same("frames", [entry[1:] for entry in entries], loaded)
             same("frames", [entry[0] for entry in entries], [frame["expander"] for frame in frames])
         self.load(tables)
+        if tables:
+            self.exercise([entry["address"] for entry in tables[0]["entries"]][:100])
+
+    def exercise(self, words):
+        """The exercise that is made of a table is the archive's, and has that table."""
+        given = [word if word.strip("0") else "0" for word in words]
+        _, written = self.archive.call(self.file, "make", *EXERCISE, *given)
+        made = self.unpacked.answer("exercise", "exercise", *EXERCISE, *given)
+        same("the exercise", written["file"], [made.hex()])
+        listed = self.unpacked.answer("tables", "tables", "-", "--all", "--json", stdin=made)
+        (table,) = json.loads(listed)["tables"]
+        same("the table of the exercise", words, [entry["address"] for entry in table["entries"]])
 
     def load(self, tables):
         """A shelf like an expander holds its tables after the frames; a larger one is refused."""
