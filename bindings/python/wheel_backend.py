@@ -12,7 +12,25 @@ from typing import Dict, List, Optional
 
 HERE = Path(__file__).resolve().parent
 LIBRARY = "libmetzurgo.so"
-SCRIPTS = "[console_scripts]\nmetzurgo = metzurgo.__main__:main\n"
+# The command is a script of sh: Python does not start where standard input is a folder, so that is
+# closed first, and the command says itself that it cannot be read. pip puts the interpreter into the
+# first line of the script that it starts.
+SCRIPTS = {
+    "metzurgo": """\
+#!/bin/sh
+if [ -d /dev/stdin ]; then exec <&-; fi
+here=$(readlink -f "$0")
+exec "${here%/*}/metzurgo-python" "$@"
+""",
+    "metzurgo-python": """\
+#!python
+import sys
+
+from metzurgo.__main__ import main
+
+sys.exit(main())
+""",
+}
 
 
 def version() -> str:
@@ -47,7 +65,8 @@ def contents(info: str, tag: str) -> Dict[str, bytes]:
     wheel = ["Wheel-Version: 1.0", "Generator: metzurgo", f"Root-Is-Purelib: {pure}", f"Tag: {tag}"]
     files[f"{info}/METADATA"] = "".join(f"{line}\n" for line in about).encode()
     files[f"{info}/WHEEL"] = "".join(f"{line}\n" for line in wheel).encode()
-    files[f"{info}/entry_points.txt"] = SCRIPTS.encode()
+    for name, script in SCRIPTS.items():
+        files[f"metzurgo-{version()}.data/scripts/{name}"] = script.encode()
     return files
 
 
@@ -63,7 +82,10 @@ def build_wheel(
         for path, content in contents(info, tag).items():
             digest = base64.urlsafe_b64encode(hashlib.sha256(content).digest()).rstrip(b"=")
             record.append(f"{path},sha256={digest.decode()},{len(content)}")
-            wheel.writestr(path, content)
+            entry = zipfile.ZipInfo(path)
+            mode = 0o100755 if "/scripts/" in path else 0o100644
+            entry.external_attr, entry.compress_type = mode << 16, zipfile.ZIP_DEFLATED
+            wheel.writestr(entry, content)
         record.append(f"{info}/RECORD,,")
         wheel.writestr(f"{info}/RECORD", "".join(f"{line}\n" for line in record))
     return name

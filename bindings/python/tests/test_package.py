@@ -259,21 +259,26 @@ class Installed(FolderTest):
             capture_output=True,
         )
         library_path = os.path.abspath(library.find_library())
-        ran = subprocess.run(
-            [
-                sys.executable,
-                str(target / "bin" / "metzurgo"),
-                "judge",
-                str(ROOT / "samples/pair.rig"),
-            ],
-            env={**os.environ, "PYTHONPATH": str(target), "METZURGO_LIBRARY": library_path},
-            cwd=self.folder,
-            capture_output=True,
-            text=True,
-            check=False,
-        )
-        self.assertEqual("accepted: 2 expanders, 5 phys, 1 table, 4 words\n", ran.stdout)
-        self.assertEqual((0, ""), (ran.returncode, ran.stderr))
+        folder = os.open(self.folder, os.O_RDONLY)
+        self.addCleanup(os.close, folder)
+        accepted = "accepted: 2 expanders, 5 phys, 1 table, 4 words\n"
+        # Also with a folder as standard input, on which Python itself does not start.
+        for rig, stdin, status, out in (
+            (str(ROOT / "samples/pair.rig"), subprocess.DEVNULL, 0, accepted),
+            (str(ROOT / "samples/pair.rig"), folder, 0, accepted),
+            ("-", folder, 3, ""),
+        ):
+            ran = subprocess.run(
+                [str(target / "bin" / "metzurgo"), "judge", rig],
+                env={**os.environ, "PYTHONPATH": str(target), "METZURGO_LIBRARY": library_path},
+                cwd=self.folder,
+                stdin=stdin,
+                capture_output=True,
+                text=True,
+                check=False,
+            )
+            self.assertEqual((status, out), (ran.returncode, ran.stdout), ran.stderr)
+            self.assertEqual(int(status != 0), ran.stderr.count("\n"), ran.stderr)
         self.assertTrue((target / "metzurgo/py.typed").exists())
 
 
