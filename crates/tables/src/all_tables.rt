@@ -10,7 +10,7 @@ ghost use mathlib.Core.Path.{_≡_};
 ghost use mathlib.Core.List.{[], _∷_, _++_};
 ghost use Prim.Native.Nat.{_+_, _*_, _^_, _≤_, _<_};
 ghost use lib.ListN.{length, take, drop};
-ghost use Rattle.wiring.specs.Domain.{phyAt, routes};
+ghost use Rattle.wiring.specs.Domain.{expanderAt, phyAt, routes};
 ghost use Rattle.wiring.specs.Causes.{place, placesFrom};
 ghost use Rattle.wiring.specs.Rows.{domainIn};
 ghost use Rattle.tables.specs.Tables.{tablePlaces, size, sizes, needed};
@@ -53,6 +53,17 @@ pub fn table_count(rows: &[u64]) -> usize
     sum
 }
 
+// How many words the tables of expander i have. Where R is 0 its phys need no look.
+fn words_at(rows: &[u64], i: ExpanderNumber) -> usize
+    ensures { λ r. ⌜ (r ≡ length (withTables (domainIn (now (rows .entry))) (placesAt (domainIn (now (rows .entry))) (i .0))) * expanderAt (domainIn (now (rows .entry))) (i .0) .indexes) × (r ≤ 8388608) ⌝ }
+{
+    let size = wiring::index_count(rows, i) as usize;
+    if size == 0 {
+        return 0;
+    }
+    count_at(rows, i) * size
+}
+
 // How many words the tables of the expanders before i have.
 pub fn words_before(rows: &[u64], i: ExpanderNumber) -> usize
     ensures { λ r. ⌜ (r ≡ sizes (domainIn (now (rows .entry))) (placesFrom 0 (take (i .0) (domainIn (now (rows .entry)))))) × (r ≤ 8388608 * i .0) ⌝ }
@@ -60,8 +71,7 @@ pub fn words_before(rows: &[u64], i: ExpanderNumber) -> usize
     let mut sum: usize = 0;
     let mut j: u8 = 0;
     while j < i.0 {
-        let x = ExpanderNumber(j);
-        sum += count_at(rows, x) * wiring::index_count(rows, x) as usize;
+        sum += words_at(rows, ExpanderNumber(j));
         j += 1;
     }
     sum

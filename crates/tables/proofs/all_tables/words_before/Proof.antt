@@ -1,13 +1,13 @@
 -- words_before meets its contract. The loop's invariant: `sum` is the number of words of the tables of the first j expanders.
 use Prim.Native.Nat.{_-_, _*_, _≤_}
-use mathlib.Core.Path.{_≡_, _∙_, ap}
+use mathlib.Core.Path.{_≡_, refl, _∙_, ap}
 use native.Mathlib.Omega.{arith}
 use lib.ListN.{take}
 use Rattle.wiring.specs.Domain.{Domain}
 use Rattle.wiring.specs.Causes.{placesFrom}
 use Rattle.wiring.specs.Rows.{domainIn}
 use Rattle.tables.specs.Tables.{sizes}
-use Rattle.tables.proofs.Puts.{words-le, before-none, before-next}
+use Rattle.tables.proofs.Puts.{before-none, before-next}
 use borrow.Author.Needs.{needs}
 use Rattle.tables.proofs.all_tables.words_before.Statement.{statement}
 use Rattle.tables.proofs.all_tables.words_before.Tie as tie
@@ -21,20 +21,11 @@ abbrev μ-loop : tie.MeasureT-loop
 loop-holds : tie.Need-loop-holds Inv-loop μ-loop
 loop-holds c = omega (arith, before-none (domainIn (c .before .args .rows .now)))
 
-count-at-requires : tie.Need-count-at-requires Inv-loop μ-loop
-count-at-requires c κs = search needs
-
-index-count-requires : tie.Need-index-count-requires Inv-loop μ-loop
-index-count-requires c κs = search needs
-
-cast-sum : tie.Need-cast-sum Inv-loop μ-loop
-cast-sum c = search needs
-
-mul-sum : tie.Need-mul-sum Inv-loop μ-loop
-mul-sum c = omega (arith, words-le (c .index-count .result) (c .before .count-at .ensures .1) (omega arith))
+words-at-requires : tie.Need-words-at-requires Inv-loop μ-loop
+words-at-requires c κs = search needs
 
 add-sum : tie.Need-add-sum Inv-loop μ-loop
-add-sum c = omega (arith, words-le (c .index-count .result) (c .before .count-at .ensures .1) (omega arith))
+add-sum c = omega (arith, c .words-at .ensures .1)
 
 add-j : tie.Need-add-j Inv-loop μ-loop
 add-j c = omega arith
@@ -44,10 +35,10 @@ loop-less c = omega arith
 
 loop-again : tie.Need-loop-again Inv-loop μ-loop
 loop-again c =
-    let l = c .before .before .before .before .loop in
-    let d : Domain = domainIn (c .before .before .before .before .before .before .args .rows .now) in
-    let t = c .before .count-at in
-    omega (arith, words-le (c .index-count .result) (t .ensures .1) (omega arith), before-next d (l .j) (t .ensures .0) (c .index-count .ensures))
+    let l = c .before .before .before .loop in
+    let d : Domain = domainIn (c .before .before .before .before .before .args .rows .now) in
+    let t = c .words-at in
+    omega (arith, t .ensures .1, t .ensures .0, before-next d (l .j) refl refl)
 
 returns : tie.Need-returns Inv-loop μ-loop
 returns c =
@@ -57,4 +48,4 @@ returns c =
     (l .inv .2 ∙ ap (λ n. sizes d (placesFrom 0 (take n d))) e, omega arith)
 
 pub words-before-spec : {M : Type 1} → statement M
-words-before-spec = tie.close (tie.spec Inv-loop μ-loop loop-holds count-at-requires index-count-requires cast-sum mul-sum add-sum add-j loop-less loop-again returns)
+words-before-spec = tie.close (tie.spec Inv-loop μ-loop loop-holds words-at-requires add-sum add-j loop-less loop-again returns)
