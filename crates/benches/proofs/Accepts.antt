@@ -69,11 +69,19 @@ address-borne d s h =
     (k .0, k .1, inl (ap (λ (e : Expander). e .address) (k .2) ∙ sym (m .2)))
 
 module _ (most : Setting) (d₁ : Domain) (i p : ℕ) (d₂ : Domain) (j q : ℕ) (g₁ : Read most d₁) (g₂ : Read most d₂) where
+  pub each-joined : Free d₁ i p → Free d₂ j q → (x : Expander) → In x (joined d₁ i p d₂ j q) → ReadExpander most x
+  unfolding joined
+  each-joined f g x k =
+      let a = routes-inside d₁ 1 i p (omega arith) (f .subtractive) in
+      let b = routes-inside d₂ 1 j q (omega arith) (g .subtractive) in
+      let one = setPhy d₁ i p (cabledTo (expanderAt d₂ j .address) q) in
+      let two = setPhy d₂ j q (cabledTo (expanderAt d₁ i .address) p) in
+      ⊎-elim (each-with most d₁ g₁ i p (expanderAt d₂ j .address) q a (read-expander most d₂ g₂ j b .borne) x)
+      (each-with most d₂ g₂ j q (expanderAt d₁ i .address) p b (read-expander most d₁ g₁ i a .borne) x) (in-append one two x k)
+
   pub read-joined : Joinable d₁ i p d₂ j q → length d₁ + length d₂ ≤ most .expanders → Read most (joined d₁ i p d₂ j q)
   unfolding joined
   read-joined c h =
-      let a = routes-inside d₁ 1 i p (omega arith) (c .first .subtractive) in
-      let b = routes-inside d₂ 1 j q (omega arith) (c .second .subtractive) in
       let l = joined-length d₁ i p d₂ j q in
       let one = setPhy d₁ i p (cabledTo (expanderAt d₂ j .address) q) in
       let two = setPhy d₂ j q (cabledTo (expanderAt d₁ i .address) p) in
@@ -84,8 +92,7 @@ module _ (most : Setting) (d₁ : Domain) (i p : ℕ) (d₂ : Domain) (j q : ℕ
         some = omega (arith, g₁ .some);
         few = omega arith;
         differ = subst Distinct (sym e) (distinct-append (addresses d₁) (addresses d₂) (g₁ .differ) (g₂ .differ) (λ s x y. c .apart s (address-borne d₁ s x) (address-borne d₂ s y)));
-        each = λ x k. ⊎-elim (each-with most d₁ g₁ i p (expanderAt d₂ j .address) q a (read-expander most d₂ g₂ j b .borne) x)
-            (each-with most d₂ g₂ j q (expanderAt d₁ i .address) p b (read-expander most d₁ g₁ i a .borne) x) (in-append one two x k);
+        each = each-joined (c .first) (c .second);
       }
 
   pub phy-few : (d : Domain) → Read most d → (x y : ℕ) → Free d x y → y < 255

@@ -27,7 +27,7 @@ use Rattle.wiring.proofs.Results.{good-one, unless-good, good-unless, then-good
 use Rattle.wiring.proofs.Reading.{size-whole, size-by, phy-unit-by}
 use Rattle.benches.specs.Bytes.{typedTwo, cabledFrame}
 use Rattle.benches.specs.Joined.{cabledTo}
-use Rattle.benches.proofs.Offsets.{Found}
+use Rattle.offsets.proofs.Offsets.{Found}
 use Rattle.benches.proofs.Written.{listed, all-firsts, length-frame}
 
 pub record FrameOf (own p : ℕ) (φ : Phy) (f : List ℕ) : Type 0 where

@@ -10,12 +10,14 @@ use lib.ListN.{length, drop}
 use lib.Dec.{T, leb, eqb→eq}
 use borrow.Author.Tests.{le-leb}
 use Rattle.frames.specs.Bytes.{byte, numberAt}
-use Rattle.frames.specs.Refusals.{Result, good, unless, then, refusal}
+use Rattle.frames.specs.Refusals.{Result, refused, good, unless, then, refusal}
 use Rattle.wiring.specs.declared.Setting.{Setting}
 use Rattle.wiring.specs.Settings.{inRange}
 use Rattle.wiring.specs.Domain.{Expander, Domain, expanderAt, phyAt, attributeOf, routes}
 use Rattle.wiring.specs.PhySet.{setPhy}
-use Rattle.wiring.specs.Read.{Bytes, Read}
+use Rattle.wiring.specs.Read.{Bytes, ReadExpander, Read}
+use Rattle.wiring.specs.Lists.{In}
+use Rattle.wiring.specs.Addresses.{IndexRoom}
 use Rattle.wiring.specs.File.{headerUnit, domainRead, expanders}
 use Rattle.wiring.specs.Devices.{Borne}
 use Rattle.wiring.specs.Chains.{ShortChains}
@@ -26,15 +28,20 @@ use Rattle.wiring.proofs.Read.{read-good, stated-expanders}
 use Rattle.wiring.proofs.Accepted.{read-expander}
 use Rattle.wiring.proofs.Wires.{routes-range}
 use Rattle.tables.specs.Judge.{judgedDomain, judged}
+use Rattle.tables.specs.Prepared.{judgedIn}
 use Rattle.tables.proofs.Given.{judged-file}
+use Rattle.tables.proofs.Lawful.{judged-own}
 use Rattle.benches.specs.Bench.{Free}
-use Rattle.benches.specs.Bytes.{expanderPlace, phyPlace, addressIn, cabledAt, joinedFile}
+use Rattle.benches.specs.Bytes.{addressIn, cabledAt, joinedFile}
+use Rattle.offsets.specs.Offsets.{expanderOffset, phyOffset}
 use Rattle.benches.specs.Joined.{cabledTo, joined}
-use Rattle.benches.proofs.Offsets.{units-of, expander-there, head-found, phy-placed}
+use Rattle.benches.specs.BenchRows.{repeatedFrom, differing, judgedApart, apartIn}
+use Rattle.offsets.proofs.Offsets.{units-of, expander-there, head-found, phy-placed}
 use Rattle.benches.proofs.Written.{cabled-rest}
 use Rattle.benches.proofs.Units.{UnitBytes, UnitsOf, unitsBytes, expandersAll, placeIn, units-read, units-cut, testedAll, cableUnits, units-cabled, domain-cabled, bytes-units, has-phy, has-less, bytes-append, domain-append, units-append, length-units, tested-is, tested-pass}
 use Rattle.benches.proofs.Holds.{routes-inside, joined-length}
-use Rattle.benches.proofs.Accepts.{joined-accepted}
+use Rattle.benches.proofs.SameAddress.{tested-apart}
+use Rattle.benches.proofs.Accepts.{each-joined, joined-accepted}
 
 number-fits : (s : List ℕ) (i width : ℕ) → Bytes s → numberAt s i width < 256 ^ width
 unfolding numberAt
@@ -48,7 +55,7 @@ number-fits s i (suc width) b =
 pub address-in : (most : Setting) (file : List ℕ) (d : Domain) → domainRead most file ≡ good d → (i : ℕ) → i < length d → addressIn file i ≡ expanderAt d i .address
 address-in most file d e i h =
     let t = expander-there most file (length d) 0 2 [] d (units-of most file d e .1) i h in
-    let o = head-found most file (t .seen) (0 + i) (expanderPlace file i) (t .unit) (t .head) in
+    let o = head-found most file (t .seen) (0 + i) (expanderOffset file i) (t .unit) (t .head) in
     sym (o .address) ∙ ap (λ (x : Expander). x .address) (t .is)
 
 -- one file with the cable, after its header: units that read as the domain with the cabled phy
@@ -56,7 +63,7 @@ pub record CabledUnits (file : List ℕ) (d : Domain) (i p s q : ℕ) : Type 0 w
   pub units : List UnitBytes
   pub each : UnitsOf units
   pub domain : expandersAll units ≡ setPhy d i p (cabledTo s q)
-  pub bytes : drop 2 (cabledAt file (phyPlace file i p) s q) ≡ unitsBytes units
+  pub bytes : drop 2 (cabledAt file (phyOffset file i p) s q) ≡ unitsBytes units
 
 pub cabled-units : (most : Setting) (file : List ℕ) (d : Domain) → domainRead most file ≡ good d → (i p s q : ℕ) → T (routes 1 (phyAt d i p)) → s ≢ 0 → s < 2 ^ 64 → CabledUnits file d i p s q
 cabled-units most file d e i p s q t z k =
@@ -66,12 +73,12 @@ cabled-units most file d e i p s q t z k =
     let a = phy-placed most file d e i p l in
     let h = has-phy (c .units) i p (subst (λ (v : Domain). p < length (expanderAt v i .phys)) (sym (c .domain)) l) in
     let at = c .place i p (has-less (c .units) i p h) in
-    let n : phyPlace file i p - 2 ≡ placeIn (c .units) i p = omega arith in
+    let n : phyOffset file i p - 2 ≡ placeIn (c .units) i p = omega arith in
     record {
       units = cableUnits (c .units) i p s q;
       each = units-cabled s q z k (c .units) i p (c .each) (subst (λ (v : Domain). attributeOf (phyAt v i p) ≡ 1) (sym (c .domain)) (eqb→eq (attributeOf (phyAt d i p)) 1 t));
       domain = domain-cabled s q z k (c .units) i p ∙ ap (λ (v : Domain). setPhy v i p (cabledTo s q)) (c .domain);
-      bytes = cabled-rest s q file (phyPlace file i p) (o .0) (a .after) ∙ ap₂ (λ (v : List ℕ) (m : ℕ). cabledAt v m s q) (c .bytes) n ∙ bytes-units s q z k (c .units) i p (c .each) h;
+      bytes = cabled-rest s q file (phyOffset file i p) (o .0) (a .after) ∙ ap₂ (λ (v : List ℕ) (m : ℕ). cabledAt v m s q) (c .bytes) n ∙ bytes-units s q z k (c .units) i p (c .each) h;
     }
 
 -- two files of bytes that were read, with phys that can take the cable
@@ -103,10 +110,10 @@ module _ (most : Setting) (first : List ℕ) (i p : ℕ) (second : List ℕ) (j 
   at₂ = address-in most second d₂ e₂ j in₂
 
   c₁ : CabledUnits first d₁ i p s₂ q
-  c₁ = cabled-units most first d₁ e₁ i p s₂ q (f₁ .subtractive) (λ z. read-expander most d₂ g₂ j in₂ .borne (sym at₂ ∙ z)) (number-fits second (expanderPlace second j) 8 b₂)
+  c₁ = cabled-units most first d₁ e₁ i p s₂ q (f₁ .subtractive) (λ z. read-expander most d₂ g₂ j in₂ .borne (sym at₂ ∙ z)) (number-fits second (expanderOffset second j) 8 b₂)
 
   c₂ : CabledUnits second d₂ j q s₁ p
-  c₂ = cabled-units most second d₂ e₂ j q s₁ p (f₂ .subtractive) (λ z. read-expander most d₁ g₁ i in₁ .borne (sym at₁ ∙ z)) (number-fits first (expanderPlace first i) 8 b₁)
+  c₂ = cabled-units most second d₂ e₂ j q s₁ p (f₂ .subtractive) (λ z. read-expander most d₁ g₁ i in₁ .borne (sym at₁ ∙ z)) (number-fits first (expanderOffset first i) 8 b₁)
 
   abbrev all : List UnitBytes
   all = c₁ .units ++ c₂ .units
@@ -187,3 +194,28 @@ module _ (most : Setting) (first : List ℕ) (i p : ℕ) (second : List ℕ) (j 
     λ e. joined-accepted most d₁ i p d₂ j q g₁ g₂ (most .chain) j₁ j₂ f₁ f₂ .0 (judging-joined (joined d₁ i p d₂ j q) .0 e .1),
     λ h. judging-joined (joined d₁ i p d₂ j q) .1 (refl, joined-accepted most d₁ i p d₂ j q g₁ g₂ (most .chain) j₁ j₂ f₁ f₂ .1 h),
   )
+
+  -- with no more expanders than the setting's it reads as the joined domain, unless 4 holds of that
+  pub joined-apart : length d₁ + length d₂ ≤ most .expanders → domainRead most (joinedFile first i p second j q) ≡ differing (joined d₁ i p d₂ j q)
+  unfolding differing
+  joined-apart h =
+      let n : length all ≡ length (joined d₁ i p d₂ j q) = sym (length-units all) ∙ ap length all-domain in
+      let b : leb (length all) (most .expanders) ≡ true = le-leb (length all) (most .expanders) (let l = length-all in omega arith) in
+      let t = tested-apart most all [] (joined d₁ i p d₂ j q) 0 [] (units-append (c₁ .units) (c₂ .units) (c₁ .each) (c₂ .each))
+      (subst (λ (v : Domain). (x : Expander) → In x v → ReadExpander most x) (sym all-domain) (each-joined most d₁ i p d₂ j q g₁ g₂ f₁ f₂)) (sym all-domain) refl refl in
+      read-is ∙ rw b (t ∙ ap₂ (λ (k : ℕ) (v : Domain). unless (leb (length (joined d₁ i p d₂ j q)) (repeatedFrom (joined d₁ i p d₂ j q) k 0)) (refusal 4 (repeatedFrom (joined d₁ i p d₂ j q) k 0) 0) (good v)) n all-domain)
+
+  -- judging the joined rows, where 4 comes first, is judging the joined file
+  pub rows-judged : length d₁ + length d₂ ≤ most .expanders → judgedApart (most .chain) (joined d₁ i p d₂ j q) ≡ judged most (joinedFile first i p second j q)
+  rows-judged h = ap (λ (x : Result Domain). then x (judgedDomain (most .chain))) (sym (joined-apart h))
+
+  -- and so by own lists, with room for the entries
+  pub rows-own : length d₁ + length d₂ ≤ most .expanders → (who low : List ℕ) → IndexRoom (joined d₁ i p d₂ j q) who low
+      → apartIn (most .chain) (length who) (length low) (joined d₁ i p d₂ j q) ≡ judged most (joinedFile first i p second j q)
+  rows-own h who low room = go (differing (joined d₁ i p d₂ j q)) refl ∙ rows-judged h
+    where
+      go : (x : Result Domain) → differing (joined d₁ i p d₂ j q) ≡ x → then x (judgedIn (most .chain) (length who) (length low)) ≡ then x (judgedDomain (most .chain))
+      go (refused r) e = refl
+      go (good d) e =
+          let a = joined-apart h ∙ e in
+          judged-own most (joinedFile first i p second j q) who low d a (subst (λ (v : Domain). IndexRoom v who low) (joined-file d .0 a .0) room)

@@ -1,37 +1,44 @@
 -- The outcomes of the join call.
-use Prim.Native.Nat.{ℕ, suc, _+_, _-_, _*_, _≤_, _<_}
-use mathlib.Core.Path.{_≡_, refl, sym, _∙_, ap}
+use Prim.Native.Nat.{ℕ, suc, _+_, _-_, _≤_, _<_, min}
+use mathlib.Core.Path.{_≡_, refl, sym, _∙_, ap, ap₂}
 use mathlib.Core.Bool.{Bool, true, false, not, _&&_, _||_}
 use mathlib.Core.List.{List, _++_}
 use native.Mathlib.Omega.{arith}
 use lib.ListN.{length, getD, take, drop, drop-of-length-le}
-use lib.Seq.{paste, take-all, take-at, drop-cons}
-use lib.Dec.{T, leb}
-use borrow.Author.Tests.{le-leb, lt-leb}
+use lib.Seq.{drop-cons}
+use lib.Dec.{T, leb, leb→le}
+use borrow.Author.Tests.{le-leb, lt-leb, leb-false}
 use Rattle.frames.specs.Bytes.{byte}
 use Rattle.frames.specs.Refusals.{Result, refused, good, unless, then, refusal}
 use Rattle.frames.specs.declared.Refusal.{Refusal}
 use Rattle.wiring.specs.declared.Setting.{Setting}
+use Rattle.wiring.specs.declared.Check.the-variants.{Refused as NotPassed, Passed}
 use Rattle.wiring.specs.declared.Phy.{Phy}
 use Rattle.wiring.specs.declared.Phy.the-variants.{Vacant}
 use Rattle.wiring.specs.Lists.{any}
 use Rattle.wiring.specs.Settings.{within, inRange}
 use Rattle.wiring.specs.Domain.{Domain, expanderAt, phyAt, routes, attached}
+use Rattle.wiring.specs.Checks.{FileRoom}
 use Rattle.wiring.specs.File.{headerUnit, domainRead, expanders}
-use Rattle.wiring.proofs.Members.{tests, is-true, was-true}
+use Rattle.wiring.proofs.Members.{tests, is-true, and-left, and-right}
 use Rattle.wiring.proofs.Ranges.{range-iff}
 use Rattle.wiring.proofs.Read.{read-good, stated-expanders}
-use Rattle.wiring.proofs.Results.{never, good-one}
+use Rattle.wiring.proofs.Results.{never, good-one, unless-good, then-good}
+use Rattle.wiring.proofs.Excess.{header-cut}
+use Rattle.wiring.proofs.Opening.{file-room}
 use Rattle.wiring.proofs.Wires.{routes-range}
-use Rattle.tables.specs.Judge.{judged, expandersIn}
+use Rattle.tables.specs.Judge.{judgedDomain, judged}
 use Rattle.tables.proofs.Given.{judged-file}
 use Rattle.benches.specs.declared.Joining.{Joining}
 use Rattle.benches.specs.declared.Joining.the-variants.{Bytes}
+use Rattle.benches.specs.declared.Side.the-variants.{Accepted as IsAccepted}
 use Rattle.benches.specs.Bytes.{joinedFile}
-use Rattle.benches.specs.JoinCall.{upward, free, freeIn, fitting, joinFor, joinCall, joiningAnswer, JoinDone}
-use Rattle.benches.specs.Parts.{Placed, Accepted, Ready}
+use Rattle.benches.specs.BenchRows.{checkOf}
+use Rattle.benches.specs.JoinCall.{upward, free, shifted, fitting, joinFor, joinCall, joiningAnswer, JoinDone}
+use Rattle.benches.specs.Parts.{Accepted, SideFound, sideAnswer, sideOf, Counts, countsFor, filesFor, Ready, statedBoth, JoinRoom}
+use Rattle.offsets.specs.Offsets.{Placed}
 use Rattle.benches.proofs.Bounds.{up-refused, judged-up}
-use Rattle.benches.proofs.Offsets.{units-of, length-bound, phy-placed}
+use Rattle.offsets.proofs.Offsets.{units-of, length-bound, phy-placed}
 use Rattle.benches.proofs.Written.{length-joined}
 
 -- refused, and done
@@ -41,30 +48,56 @@ join-refused o r answer before e a = rw e (record { answers = a; bytes = refl })
 pub join-good : (o : Result (List ℕ)) (new : List ℕ) (n : ℕ) (before after : List ℕ) → o ≡ good new → n ≡ length new → after ≡ new ++ drop n before → JoinDone o (Bytes n) before after
 join-good o new n before after e l w = rw e (record { answers = ap good l; bytes = w ∙ ap (λ (k : ℕ). new ++ drop k before) l })
 
--- what the judging call answers
-pub not-judged : (x : Result Domain) (r : Refusal) → _≡_ {A = Result ℕ} (refused r) (then x expandersIn) → x ≡ refused r
-not-judged (refused s) r e = let q : r ≡ s = cc in ap refused (sym q)
-not-judged (good d) r e = never r (length d) e
+-- what judging the rows answers
+pub not-passed : (x : Result Domain) (r : Refusal) → NotPassed r ≡ checkOf x → x ≡ refused r
+not-passed (refused s) r e = let q : r ≡ s = cc in ap refused (sym q)
+not-passed (good d) r e = let z : _≡_ {A = ℕ} 0 1 = cc in absurd (omega arith)
 
-pub was-judged : (x : Result Domain) (n : ℕ) → _≡_ {A = Result ℕ} (good n) (then x expandersIn) → (d : Domain) × (x ≡ good d) × (n ≡ length d)
-was-judged (refused s) n e = never s n (sym e)
-was-judged (good d) n e = (d, refl, good-one n (length d) e)
+pub was-passed : (x : Result Domain) → Passed ≡ checkOf x → (d : Domain) × (x ≡ good d)
+was-passed (refused s) e = let z : _≡_ {A = ℕ} 0 1 = cc in absurd (omega arith)
+was-passed (good d) e = (d, refl)
 
-pub accepted-as : (setting : Setting) (file : List ℕ) (n : ℕ) → _≡_ {A = Result ℕ} (good n) (then (judged setting file) expandersIn) → Accepted setting file n
-accepted-as setting file n e = let a = was-judged (judged setting file) n e in record { domain = a .0; accepted = a .1; count = a .2 }
+-- what judging one file answers
+pub not-side : (x : Result Domain) (i p : ℕ) (r : Refusal) → _≡_ {A = Result SideFound} (refused r) (then x (sideOf i p)) → x ≡ refused r
+not-side (refused s) i p r e = let q : r ≡ s = cc in ap refused (sym q)
+not-side (good d) i p r e = let z : _≡_ {A = ℕ} 0 1 = cc in absurd (omega arith)
+
+-- an accepted file of n expanders, whose named phy can take the cable, or not
+pub record SideAs (setting : Setting) (file : List ℕ) (i p n : ℕ) (f : Bool) : Type 0 where
+  pub one : Accepted setting file n
+  pub can : f ≡ free (one .domain) i p
+
+pub side-as : (setting : Setting) (file : List ℕ) (i p n : ℕ) (f : Bool) → _≡_ {A = Result SideFound} (good (record { count = n; free = f })) (then (judged setting file) (sideOf i p))
+    → SideAs setting file i p n f
+side-as setting file i p n f e = go (judged setting file) refl e
+  where
+    go : (x : Result Domain) → judged setting file ≡ x → _≡_ {A = Result SideFound} (good (record { count = n; free = f })) (then x (sideOf i p)) → SideAs setting file i p n f
+    go (refused s) q e = let z : _≡_ {A = ℕ} 0 1 = cc in absurd (omega arith)
+    go (good d) q e =
+        let s : _≡_ {A = SideFound} (record { count = n; free = f }) (record { count = length d; free = free d i p }) = good-one _ _ e in
+        record { one = record { domain = d; accepted = q; count = ap (λ (v : SideFound). v .count) s }; can = ap (λ (v : SideFound). v .free) s }
+
+pub side-refused : (setting : Setting) (file : List ℕ) (i p : ℕ) (r : Refusal) → domainRead setting file ≡ refused r → _≡_ {A = Result SideFound} (refused r) (then (judged setting file) (sideOf i p))
+side-refused setting file i p r e = rw e
+
+pub side-good : (setting : Setting) (file : List ℕ) (i p n : ℕ) (f : Bool) (d : Domain) → judged setting file ≡ good d → n ≡ length d → f ≡ free d i p
+    → _≡_ {A = Result SideFound} (good (record { count = n; free = f })) (then (judged setting file) (sideOf i p))
+side-good setting file i p n f d e a b = ap₂ (λ (k : ℕ) (g : Bool). sideAnswer (IsAccepted k g)) a b ∙ sym (ap (λ (x : Result Domain). then x (sideOf i p)) e)
+
+-- a file that was read into rows and judged there
+pub judged-by : (setting : Setting) (file : List ℕ) (d : Domain) (x : Result Domain) → domainRead setting file ≡ good d → judgedDomain (setting .chain) d ≡ x → judged setting file ≡ x
+judged-by setting file d x e q = rw e q
+
+-- 21 and 3 where the expanders are too many, or the joined file is judged
+counted : {A B : Type 0} (b l : Bool) (c : A) (x : Result Domain) (k : Result B) → (l ≡ false → x ≡ refused (refusal 3 0 0))
+    → unless b (refusal 21 0 0) (then x (λ _. k)) ≡ then (unless b (refusal 21 0 0) (unless l (refusal 3 0 0) (good c))) (λ _. then x (λ _. k))
+counted false l c x k z = refl
+counted true true c x k z = refl
+counted true false c x k z = rw (z refl) refl
 
 module _ (setting : Setting) (first : List ℕ) (i p : ℕ) (second : List ℕ) (j q room : ℕ) where
   abbrev call : Result (List ℕ)
   call = joinCall setting first i p second j q room
-
-  pub first-refused : (r : Refusal) → judged setting first ≡ refused r → call ≡ refused r
-  unfolding joinCall
-  first-refused r e = rw e
-
-  pub second-refused : (n : ℕ) (r : Refusal) → Accepted setting first n → judged setting second ≡ refused r
-      → call ≡ refused (refusal (r .number) (n + r .expander .0) (r .phy .0))
-  unfolding joinCall
-  second-refused n r a e = let c : length (a .domain) ≡ n = sym (a .count) in rw (a .accepted, e, c)
 
   -- past both judgements
   pub both-accepted : (d₁ d₂ : Domain) → judged setting first ≡ good d₁ → judged setting second ≡ good d₂ → call ≡ joinFor setting first i p d₁ second j q d₂ room
@@ -72,22 +105,8 @@ module _ (setting : Setting) (first : List ℕ) (i p : ℕ) (second : List ℕ) 
   both-accepted d₁ d₂ e f = rw (e, f)
 
   module _ (n m : ℕ) (a : Accepted setting first n) (b : Accepted setting second m) where
-    pub one-bound : freeIn (domainRead setting first) i p ≡ false → call ≡ refused (refusal 21 0 0)
-    one-bound h =
-        let k : free (a .domain) i p ≡ false = ap (λ (x : Result Domain). freeIn x i p) (sym (judged-file setting first (a .domain) .0 (a .accepted) .0)) ∙ h in
-        both-accepted (a .domain) (b .domain) (a .accepted) (b .accepted) ∙ rw k
-
-    pub other-bound : freeIn (domainRead setting second) j q ≡ false → call ≡ refused (refusal 21 0 0)
-    other-bound h =
-        let k : free (b .domain) j q ≡ false = ap (λ (x : Result Domain). freeIn x j q) (sym (judged-file setting second (b .domain) .0 (b .accepted) .0)) ∙ h in
-        both-accepted (a .domain) (b .domain) (a .accepted) (b .accepted) ∙ go (free (a .domain) i p) (free (b .domain) j q) _ k
-      where
-        go : (x y : Bool) (rest : Result (List ℕ)) → y ≡ false → unless (x && y) (refusal 21 0 0) rest ≡ refused (refusal 21 0 0)
-        go true y rest e = rw e
-        go false y rest e = refl
-
     -- the header of the joined file states the sum
-    sum-stated : byte first 1 + byte second 1 ≡ n + m
+    pub sum-stated : byte first 1 + byte second 1 ≡ n + m
     sum-stated =
         let e = stated-expanders setting first (a .domain) (judged-file setting first (a .domain) .0 (a .accepted) .0) in
         let f = stated-expanders setting second (b .domain) (judged-file setting second (b .domain) .0 (b .accepted) .0) in
@@ -104,25 +123,70 @@ module _ (setting : Setting) (first : List ℕ) (i p : ℕ) (second : List ℕ) 
         let k : leb 1 (byte first 1 + byte second 1) ≡ true = le-leb 1 (byte first 1 + byte second 1) (omega (arith, g .some, a .count)) in
         simp (o, le-leb 2 (length (joinedFile first i p second j q)) z, k, l)
 
-    module _ (e : freeIn (domainRead setting first) i p ≡ true) (f : freeIn (domainRead setting second) j q ≡ true) where
-      free-first : free (a .domain) i p ≡ true
-      free-first = ap (λ (x : Result Domain). freeIn x i p) (sym (judged-file setting first (a .domain) .0 (a .accepted) .0)) ∙ e
+  abbrev files : Result Counts
+  files = filesFor setting first i p second j q
 
-      free-second : free (b .domain) j q ≡ true
-      free-second = ap (λ (x : Result Domain). freeIn x j q) (sym (judged-file setting second (b .domain) .0 (b .accepted) .0)) ∙ f
+  -- what both files give
+  pub files-first : (r : Refusal) → judged setting first ≡ refused r → files ≡ refused r
+  unfolding filesFor
+  files-first r e = rw e
 
-      pub many-refused : setting .expanders < n + m → call ≡ refused (refusal 3 0 0)
-      many-refused h = both-accepted (a .domain) (b .domain) (a .accepted) (b .accepted) ∙ rw (free-first, free-second, too-many h)
+  pub files-second : (n : ℕ) (r : Refusal) → Accepted setting first n → judged setting second ≡ refused r
+      → files ≡ refused (refusal (r .number) (n + r .expander .0) (r .phy .0))
+  unfolding filesFor
+  files-second n r a e = let c : length (a .domain) ≡ n = sym (a .count) in rw (a .accepted, e, c)
 
-      pub ready : n + m ≤ setting .expanders → Ready setting first i p second j q
-      ready h = record { n = n; m = m; one = a; other = b; few = h; free-one = was-true (free (a .domain) i p) free-first; free-other = was-true (free (b .domain) j q) free-second }
+  pub files-both : (n m : ℕ) (f g : Bool) → SideAs setting first i p n f → SideAs setting second j q m g → files ≡ countsFor (setting .expanders) n m (f && g)
+  unfolding filesFor
+  files-both n m f g a b = rw (a .one .accepted, b .one .accepted, a .one .count, b .one .count, a .can, b .can)
+
+  -- the call: what both files give, then the joined file judged, then 16
+  call-is : call ≡ then files (λ _. then (judged setting (joinedFile first i p second j q)) (λ _. fitting room (joinedFile first i p second j q)))
+  unfolding joinCall filesFor
+  call-is = go (judged setting first) (judged setting second) refl refl
+    where
+      go : (x y : Result Domain) → judged setting first ≡ x → judged setting second ≡ y
+          → then x (λ d₁. then (shifted (length d₁) y) (λ d₂. joinFor setting first i p d₁ second j q d₂ room))
+          ≡ then (then x (λ d₁. then (shifted (length d₁) y) (λ d₂. countsFor (setting .expanders) (length d₁) (length d₂) (free d₁ i p && free d₂ j q))))
+          (λ _. then (judged setting (joinedFile first i p second j q)) (λ _. fitting room (joinedFile first i p second j q)))
+      go (refused r) y e f = refl
+      go (good d₁) (refused r) e f = refl
+      go (good d₁) (good d₂) e f =
+          counted (free d₁ i p && free d₂ j q) (leb (length d₁ + length d₂) (setting .expanders)) _ (judged setting (joinedFile first i p second j q)) _ (λ z.
+          too-many (length d₁) (length d₂) (record { domain = d₁; accepted = e; count = refl }) (record { domain = d₂; accepted = f; count = refl }) (leb-false (length d₁ + length d₂) (setting .expanders) z))
+
+  pub files-refused : (r : Refusal) → files ≡ refused r → call ≡ refused r
+  files-refused r e = call-is ∙ rw e
+
+  -- both files can be joined
+  pub files-ready : (n m : ℕ) → files ≡ good (record { one = n; other = m }) → Ready setting first n i p second m j q
+  unfolding filesFor
+  files-ready n m e =
+      let a = then-good (judged setting first) _ _ e in
+      let b = then-good (shifted (length (a .0)) (judged setting second)) _ _ (a .2) in
+      let u = unless-good (free (a .0) i p && free (b .0) j q) (refusal 21 0 0) _ _ (b .2) in
+      let v = unless-good (leb (length (a .0) + length (b .0)) (setting .expanders)) (refusal 3 0 0) _ _ (u .1) in
+      let s : _≡_ {A = Counts} (record { one = length (a .0); other = length (b .0) }) (record { one = n; other = m }) = good-one _ _ (v .1) in
+      let x = ap (λ (w : Counts). w .one) s in
+      let y = ap (λ (w : Counts). w .other) s in
+      record {
+        one = record { domain = a .0; accepted = a .1; count = sym x };
+        other = record { domain = b .0; accepted = shifted-good (length (a .0)) (judged setting second) (b .0) (b .1); count = sym y };
+        few = omega (arith, leb→le (length (a .0) + length (b .0)) (setting .expanders) (v .0));
+        free-one = and-left (free (a .0) i p) (free (b .0) j q) (u .0);
+        free-other = and-right (free (a .0) i p) (free (b .0) j q) (u .0);
+      }
+    where
+      shifted-good : (n : ℕ) (x : Result Domain) (d : Domain) → shifted n x ≡ good d → x ≡ good d
+      shifted-good n (refused r) d e = never _ _ e
+      shifted-good n (good a) d e = e
 
   -- a phy that can take the cable is there
   free-there : (d : Domain) (x y : ℕ) → T (free d x y) → y < length (expanderAt d x .phys)
   unfolding free
   free-there d x y t = routes-range d 1 x y (search tests) (omega arith)
 
-  module _ (c : Ready setting first i p second j q) where
+  module _ (n m : ℕ) (c : Ready setting first n i p second m j q) where
     read-first : domainRead setting first ≡ good (c .one .domain)
     read-first = judged-file setting first (c .one .domain) .0 (c .one .accepted) .0
 
@@ -137,22 +201,27 @@ module _ (setting : Setting) (first : List ℕ) (i p : ℕ) (second : List ℕ) 
 
     pub header-fits : byte first 1 + byte second 1 < 256
     header-fits =
-        let s = sum-stated (c .n) (c .m) (c .one) (c .other) in
+        let s = sum-stated n m (c .one) (c .other) in
         let g = read-good setting first (c .one .domain) read-first in
         omega (arith, c .few, g .range .expanders .1)
+
+    -- room for so many expanders as the files state, and at most 64, is enough
+    pub ready-room : (rows rows′ who who′ low low′ : List ℕ) → length rows′ ≡ length rows → length who′ ≡ length who → length low′ ≡ length low
+        → JoinRoom (statedBoth first second) rows who low → JoinRoom (n + m) rows′ who′ low′
+    ready-room rows rows′ who who′ low low′ l k h room =
+        let s = sum-stated n m (c .one) (c .other) in
+        let g = read-good setting first (c .one .domain) read-first in
+        let e : statedBoth first second ≡ n + m = omega (arith, c .few, g .range .expanders .1) in
+        let a = room .words in
+        let b = room .slots in
+        let d = room .phys in
+        record { words = omega arith; slots = omega arith; phys = omega arith }
 
     pub joined-size : length (joinedFile first i p second j q) ≡ length first + (length second - 2)
     joined-size =
         let a = placed-first in
         let b = placed-second in
         length-joined first second i p j q (units-of setting first (c .one .domain) read-first .0) (units-of setting second (c .other .domain) read-second .0) (a .after) (a .within) (b .after) (b .within)
-
-    pub scratch-fits : length first + (length second - 2) ≤ 529154
-    scratch-fits =
-        let a = length-bound setting first (c .one .domain) read-first in
-        let b = length-bound setting second (c .other .domain) read-second in
-        let g = read-good setting first (c .one .domain) read-first in
-        omega (arith, c .few, c .one .count, c .other .count, g .range .expanders .1)
 
     abbrev new : List ℕ
     new = joinedFile first i p second j q
@@ -177,15 +246,6 @@ shift-fits setting first second n r a e =
     let g = read-good setting first (a .domain) (judged-file setting first (a .domain) .0 (a .accepted) .0) in
     omega (arith, a .count, g .few, g .range .expanders .1)
 
--- the scratch that was judged, and what is copied from it
-pub scratch-is : (new rest scratch : List ℕ) (n : ℕ) → scratch ≡ new ++ rest → n ≡ length new → take n scratch ≡ new
-scratch-is new rest scratch n e l = ap (take n) e ∙ take-at new rest n (sym l)
-
-pub copied : (out new : List ℕ) (n : ℕ) → n ≡ length new → paste out 0 new (length new) ≡ new ++ drop n out
-copied out new n l =
-    let z : 0 + length new ≡ n = omega arith in
-    ap (λ (v : List ℕ). v ++ drop (0 + length new) out) (take-all (length new) new (omega arith)) ∙ ap (λ (k : ℕ). new ++ drop k out) z
-
 -- a phy that is attached and subtractive, looked for in a list
 pub any-go : (f : Phy → Bool) (l : List Phy) (p : ℕ) (v : Bool) → any f (drop p l) ≡ v → p < length l → (b : Bool) → b ≡ f (getD l p (Vacant 0)) → (b || any f (drop (p + 1) l)) ≡ v
 unfolding any
@@ -204,7 +264,7 @@ free-by d x y p q r = rw (p, q, r)
 
 -- an accepted file: at least its header, and no longer than the most expanders with the most phys and long frames
 module _ (setting : Setting) (file : List ℕ) (n : ℕ) (a : Accepted setting file n) where
-  accepted-read : domainRead setting file ≡ good (a .domain)
+  pub accepted-read : domainRead setting file ≡ good (a .domain)
   accepted-read = judged-file setting file (a .domain) .0 (a .accepted) .0
 
   pub accepted-few : n ≤ 64
@@ -216,6 +276,20 @@ module _ (setting : Setting) (file : List ℕ) (n : ℕ) (a : Accepted setting f
   pub accepted-bound : length file ≤ 529154
   accepted-bound = omega (arith, length-bound setting file (a .domain) accepted-read, a .count, accepted-few)
 
--- 16,512 words are enough for the rows of a file's domain
-pub rows-room : (setting : Setting) (file rows : List ℕ) → length rows ≡ 16512 → (d : Domain) → domainRead setting file ≡ good d → 258 * length d ≤ length rows
-rows-room setting file rows l d e = let g = read-good setting file d e in omega (arith, g .few, g .range .expanders .1)
+-- room for as many expanders as the file states, and at most 64, is enough for its domain
+pub side-room : (setting : Setting) (file rows who low : List ℕ) → JoinRoom (min 64 (byte file 1)) rows who low → FileRoom setting file rows who low
+side-room setting file rows who low room =
+    file-room setting (min 64 (byte file 1)) file rows who low
+    (λ d e. let g = read-good setting file d e in omega (arith, stated-expanders setting file d e, g .few, g .range .expanders .1)) (room .words) (room .slots) (room .phys)
+
+-- a first file that states more than 64 expanders is refused as its first two bytes are
+pub join-cut : (setting : Setting) (first : List ℕ) (i p : ℕ) (second : List ℕ) (j q room : ℕ) → 2 < length first → 64 < byte first 1
+    → joinCall setting (take 2 first) i p second j q room ≡ joinCall setting first i p second j q room
+join-cut setting first i p second j q room h k = go (domainRead setting first) refl
+  where
+    same : (file : List ℕ) (r : Refusal) → domainRead setting file ≡ refused r → joinCall setting file i p second j q room ≡ refused r
+    same file r e = files-refused setting file i p second j q room r (files-first setting file i p second j q room r (rw e))
+
+    go : (x : Result Domain) → domainRead setting first ≡ x → joinCall setting (take 2 first) i p second j q room ≡ joinCall setting first i p second j q room
+    go (refused r) e = same (take 2 first) r (header-cut setting first h k ∙ e) ∙ sym (same first r e)
+    go (good d) e = let g = read-good setting first d e in absurd (omega (arith, stated-expanders setting first d e, g .few, g .range .expanders .1))

@@ -1,9 +1,9 @@
-pub mod Offsets
 pub mod Bounds
 pub mod Written
 pub mod Joins
 pub mod Frames
 pub mod Units
+pub mod SameAddress
 pub mod Bridge
 pub mod Holds
 pub mod PartTables
@@ -13,6 +13,7 @@ pub mod Benches
 pub mod Accepts
 pub mod Across
 pub mod JoinedReads
+pub mod RowsJudged
 pub mod Exactly
 pub mod JoinedEntries
 mod Worked

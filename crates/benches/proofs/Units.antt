@@ -30,9 +30,10 @@ use Rattle.wiring.specs.File.{Parsed, parsed, phyUnit, phyUnits, unitOf, unitTe
 use Rattle.wiring.specs.Units.{endsAt}
 use Rattle.wiring.proofs.Results.{good-one, unless-good, then-good}
 use Rattle.wiring.proofs.Reading.{size-whole, expander-unit-by}
-use Rattle.benches.specs.Bytes.{sizeFrom, physAfter, physFrom, expandersAfter, cabledFrame, cabledAt}
+use Rattle.benches.specs.Bytes.{cabledFrame, cabledAt}
+use Rattle.offsets.specs.Offsets.{sizeFrom, physAfter, physFrom, expandersAfter}
 use Rattle.benches.specs.Joined.{cabledTo}
-use Rattle.benches.proofs.Offsets.{unit-found, phy-found, phys-count, phys-after, head-found, unit-after, tested-same}
+use Rattle.offsets.proofs.Offsets.{unit-found, phy-found, phys-count, phys-after, head-found, unit-after, tested-same}
 use Rattle.benches.proofs.Written.{frame-left, cabled-right}
 use Rattle.benches.proofs.Frames.{FrameOf, size-there, frame-reads, frame-of, cabled-frame}
 

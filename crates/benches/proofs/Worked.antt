@@ -4,7 +4,8 @@ use mathlib.Core.Path.{_≡_, refl}
 use mathlib.Core.List.{List, _∷_, _++_}
 use lib.ListN.{length, replicate}
 use Rattle.frames.specs.Bytes.{numberAt, bytesOf}
-use Rattle.benches.specs.Bytes.{physAfter, expandersAfter, cabledFrame, cabledAt, joinedFile}
+use Rattle.benches.specs.Bytes.{cabledFrame, cabledAt, joinedFile}
+use Rattle.offsets.specs.Offsets.{physAfter, expandersAfter}
 
 -- a REPORT GENERAL response: R 0, two phys
 abbrev general : List ℕ

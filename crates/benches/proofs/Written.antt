@@ -10,8 +10,9 @@ use borrow.Author.Tests.{le-leb}
 use borrow.Rule.Slice.PartMut.{midOf, putMid}
 use Rattle.frames.specs.Bytes.{byte, bytesOf, atFront}
 use Rattle.frames.proofs.Numbers.{length-bytesOf}
-use Rattle.benches.specs.Parts.{Placed}
-use Rattle.benches.specs.Bytes.{typedTwo, cabledFrame, cabledAt, addressIn, phyPlace, joinedFile}
+use Rattle.offsets.specs.Offsets.{Placed}
+use Rattle.benches.specs.Bytes.{typedTwo, cabledFrame, cabledAt, addressIn, joinedFile}
+use Rattle.offsets.specs.Offsets.{phyOffset}
 
 -- 33 bytes and the rest
 abbrev pub listed : (ℕ → ℕ) → List ℕ → List ℕ
@@ -151,14 +152,14 @@ both-put out first second n h k r =
 
 -- both cables
 pub both-cabled : (first second rest : List ℕ) (i p j q : ℕ) → 2 ≤ length first → 2 ≤ length second
-    → 2 ≤ phyPlace first i p → phyPlace first i p + 52 ≤ length first → 2 ≤ phyPlace second j q → phyPlace second j q + 52 ≤ length second
-    → cabledAt (cabledAt (0x10 ∷ (byte first 1 + byte second 1) ∷ (drop 2 first ++ (drop 2 second ++ rest))) (phyPlace first i p) (addressIn second j) q) (length first + (phyPlace second j q - 2)) (addressIn first i) p
+    → 2 ≤ phyOffset first i p → phyOffset first i p + 52 ≤ length first → 2 ≤ phyOffset second j q → phyOffset second j q + 52 ≤ length second
+    → cabledAt (cabledAt (0x10 ∷ (byte first 1 + byte second 1) ∷ (drop 2 first ++ (drop 2 second ++ rest))) (phyOffset first i p) (addressIn second j) q) (length first + (phyOffset second j q - 2)) (addressIn first i) p
     ≡ joinedFile first i p second j q ++ rest
 unfolding joinedFile
 both-cabled first second rest i p j q h k a b c d =
     let n = byte first 1 + byte second 1 in
-    let at = phyPlace first i p in
-    let to = phyPlace second j q in
+    let at = phyOffset first i p in
+    let to = phyOffset second j q in
     let s = addressIn first i in
     let t = addressIn second j in
     let x : List ℕ = drop 2 first in
@@ -179,12 +180,12 @@ both-cabled first second rest i p j q h k a b c d =
 
 -- its length
 pub length-joined : (first second : List ℕ) (i p j q : ℕ) → 2 ≤ length first → 2 ≤ length second
-    → 2 ≤ phyPlace first i p → phyPlace first i p + 52 ≤ length first → 2 ≤ phyPlace second j q → phyPlace second j q + 52 ≤ length second
+    → 2 ≤ phyOffset first i p → phyOffset first i p + 52 ≤ length first → 2 ≤ phyOffset second j q → phyOffset second j q + 52 ≤ length second
     → length (joinedFile first i p second j q) ≡ length first + (length second - 2)
 unfolding joinedFile
 length-joined first second i p j q h k a b c d =
-    let at = phyPlace first i p in
-    let to = phyPlace second j q in
+    let at = phyOffset first i p in
+    let to = phyOffset second j q in
     let s = addressIn first i in
     let t = addressIn second j in
     let x = length-cabled t q first at (omega arith) in
@@ -194,7 +195,7 @@ length-joined first second i p j q h k a b c d =
     ap (λ (z : ℕ). suc (suc z)) (length-append (drop 2 (cabledAt first at t q)) (drop 2 (cabledAt second to s p))) ∙ omega arith
 
 -- the same with places and addresses as they were found
-pub joined-put : (first second rest : List ℕ) (i p j q at to s t : ℕ) → at ≡ phyPlace first i p → to ≡ phyPlace second j q → s ≡ addressIn first i → t ≡ addressIn second j
+pub joined-put : (first second rest : List ℕ) (i p j q at to s t : ℕ) → at ≡ phyOffset first i p → to ≡ phyOffset second j q → s ≡ addressIn first i → t ≡ addressIn second j
     → Placed first i p → Placed second j q
     → cabledAt (cabledAt (0x10 ∷ (byte first 1 + byte second 1) ∷ (drop 2 first ++ (drop 2 second ++ rest))) at t q) (length first + (to - 2)) s p ≡ joinedFile first i p second j q ++ rest
 joined-put first second rest i p j q at to s t a b c d x y =

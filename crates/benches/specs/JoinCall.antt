@@ -1,7 +1,7 @@
 -- The join call: 22, the first file judged, the second file judged, 21, the joined file judged, 16.
 use Prim.Native.Nat.{ℕ, _+_}
 use mathlib.Core.Path.{_≡_}
-use mathlib.Core.Bool.{Bool, false, not, _&&_}
+use mathlib.Core.Bool.{Bool, not, _&&_}
 use mathlib.Core.List.{List, _++_}
 use lib.ListN.{length, drop}
 use lib.Dec.{leb}
@@ -22,11 +22,6 @@ upward φ = attached φ && routes 1 φ
 -- 21 does not hold of a named phy: it exists, is not vacant, subtractive and not attached, and its expander has no attached subtractive phy
 unfoldable pub free : Domain → ℕ → ℕ → Bool
 free d i p = routes 1 (phyAt d i p) && (not (attached (phyAt d i p)) && not (any upward (expanderAt d i .phys)))
-
--- the same of what a file reads as; not where it is refused
-abbrev pub freeIn : Result Domain → ℕ → ℕ → Bool
-freeIn (refused r) i p = false
-freeIn (good d) i p = free d i p
 
 module _ {A : Type 0} where
   -- a refusal with so many added to its expander number, place 0, 0 included

@@ -1,86 +1,22 @@
 // The join call.
+use crate::Files;
 use crate::Joining;
-use crate::free;
+use crate::bench_rows;
 use crate::refusals;
+use crate::sides;
 use crate::writing;
-use tables::Judgement;
+use wiring::Check;
 use wiring::ExpanderNumber;
 use wiring::PhyId;
 use wiring::Setting;
-ghost use mathlib.Core.Path.{_≡_};
-ghost use Prim.Native.Nat.{_+_, _-_, _≤_};
+ghost use Prim.Native.Nat.{_+_, _≤_};
 ghost use lib.ListN.{length};
+ghost use Rattle.frames.specs.Bytes.{byte};
 ghost use Rattle.benches.specs.JoinCall.{joinCall, JoinDone};
-ghost use Rattle.benches.specs.Parts.{Accepted, Ready};
+ghost use Rattle.benches.specs.Parts.{Ready, statedBoth, JoinRoom};
 
-// Writes the joined file into `scratch`, judges it, and hands it on where it is accepted and there is room: 16.
-fn join_in(
-    setting: Setting,
-    first: &[u8],
-    i: ExpanderNumber,
-    p: PhyId,
-    second: &[u8],
-    j: ExpanderNumber,
-    q: PhyId,
-    out: &mut [u8],
-    scratch: &mut [u8],
-) -> Joining
-    requires { ⌜ Ready setting (now first) (i .0) (p .0) (now second) (j .0) (q .0) × (length (now first) + (length (now second) - 2) ≤ length (now scratch)) ⌝ }
-    ensures { λ r. ⌜ JoinDone (joinCall setting (now (first .entry)) (i .0) (p .0) (now (second .entry)) (j .0) (q .0) (length (now (out .entry)))) r (now (out .entry)) (now (out .exit)) ⌝ }
-{
-    let n = first.len() + (second.len() - 2);
-    writing::put_joined(scratch, first, i, p, second, j, q);
-    let verdict = tables::judge(setting, &scratch[..n]);
-    match verdict {
-        Judgement::Refused(r) => Joining::Refused(r),
-        Judgement::Expanders(_) => {
-            if out.len() < n {
-                return refusals::joining_refused(16);
-            }
-            writing::copy(out, 0, &scratch[..n]);
-            Joining::Bytes(n)
-        }
-    }
-}
-
-// The same, with room for a joined file of 4,096 bytes.
-fn join_few(
-    setting: Setting,
-    first: &[u8],
-    i: ExpanderNumber,
-    p: PhyId,
-    second: &[u8],
-    j: ExpanderNumber,
-    q: PhyId,
-    out: &mut [u8],
-) -> Joining
-    requires { ⌜ Ready setting (now first) (i .0) (p .0) (now second) (j .0) (q .0) × (length (now first) + (length (now second) - 2) ≤ 4096) ⌝ }
-    ensures { λ r. ⌜ JoinDone (joinCall setting (now (first .entry)) (i .0) (p .0) (now (second .entry)) (j .0) (q .0) (length (now (out .entry)))) r (now (out .entry)) (now (out .exit)) ⌝ }
-{
-    let mut scratch = [0u8; 4096];
-    join_in(setting, first, i, p, second, j, q, out, &mut scratch[..])
-}
-
-// The same, with room for the longest joined file: 64 expanders with 128 phys each, and long frames.
-fn join_many(
-    setting: Setting,
-    first: &[u8],
-    i: ExpanderNumber,
-    p: PhyId,
-    second: &[u8],
-    j: ExpanderNumber,
-    q: PhyId,
-    out: &mut [u8],
-) -> Joining
-    requires { ⌜ Ready setting (now first) (i .0) (p .0) (now second) (j .0) (q .0) ⌝ }
-    ensures { λ r. ⌜ JoinDone (joinCall setting (now (first .entry)) (i .0) (p .0) (now (second .entry)) (j .0) (q .0) (length (now (out .entry)))) r (now (out .entry)) (now (out .exit)) ⌝ }
-{
-    let mut scratch = [0u8; 529154];
-    join_in(setting, first, i, p, second, j, q, out, &mut scratch[..])
-}
-
-// Two accepted files, of n and m expanders: 21, then 3 for too many expanders, then the joined file judged, then 16.
-fn join_accepted(
+// Judges the joined domain in rows, and writes the joined file where it is accepted and there is room: 16.
+fn join_ready(
     setting: Setting,
     first: &[u8],
     n: u8,
@@ -91,28 +27,133 @@ fn join_accepted(
     j: ExpanderNumber,
     q: PhyId,
     out: &mut [u8],
+    rows: &mut [u64],
+    who: &mut [u16],
+    low: &mut [u8],
 ) -> Joining
-    requires { ⌜ Accepted setting (now first) n × Accepted setting (now second) m ⌝ }
+    requires { ⌜ Ready setting (now first) n (i .0) (p .0) (now second) m (j .0) (q .0) × JoinRoom (n + m) (now rows) (now who) (now low) ⌝ }
     ensures { λ r. ⌜ JoinDone (joinCall setting (now (first .entry)) (i .0) (p .0) (now (second .entry)) (j .0) (q .0) (length (now (out .entry)))) r (now (out .entry)) (now (out .exit)) ⌝ }
 {
-    if !free::is_free(setting, first, i, p) {
-        return refusals::joining_refused(21);
+    let verdict = bench_rows::judge_both(setting, first, n, i, p, second, m, j, q, rows, who, low);
+    match verdict {
+        Check::Refused(r) => Joining::Refused(r),
+        Check::Passed => {
+            let size = first.len() + (second.len() - 2);
+            if out.len() < size {
+                return refusals::joining_refused(16);
+            }
+            writing::put_joined(out, first, i, p, second, j, q);
+            Joining::Bytes(size)
+        }
     }
-    if !free::is_free(setting, second, j, q) {
-        return refusals::joining_refused(21);
+}
+
+// Both files judged, 21 and 3, then the joined domain judged, then 16: with room for the rows of both files and for who has which address.
+fn join_in(
+    setting: Setting,
+    first: &[u8],
+    i: ExpanderNumber,
+    p: PhyId,
+    second: &[u8],
+    j: ExpanderNumber,
+    q: PhyId,
+    out: &mut [u8],
+    rows: &mut [u64],
+    who: &mut [u16],
+    low: &mut [u8],
+) -> Joining
+    requires { ⌜ JoinRoom (statedBoth (now first) (now second)) (now rows) (now who) (now low) ⌝ }
+    ensures { λ r. ⌜ JoinDone (joinCall setting (now (first .entry)) (i .0) (p .0) (now (second .entry)) (j .0) (q .0) (length (now (out .entry)))) r (now (out .entry)) (now (out .exit)) ⌝ }
+{
+    let files = sides::judge_files(setting, first, i, p, second, j, q, rows, who, low);
+    match files {
+        Files::Refused(r) => Joining::Refused(r),
+        Files::Expanders(n, m) => join_ready(
+            setting,
+            first,
+            n,
+            i,
+            p,
+            second,
+            m,
+            j,
+            q,
+            out,
+            rows,
+            who,
+            low,
+        ),
     }
-    if n + m > setting.expanders {
-        return refusals::joining_refused(3);
-    }
-    if first.len() + (second.len() - 2) <= 4096 {
-        return join_few(setting, first, i, p, second, j, q, out);
-    }
-    join_many(setting, first, i, p, second, j, q, out)
+}
+
+// The join call of files that state few expanders: at most 8 in all.
+fn join_few(
+    setting: Setting,
+    first: &[u8],
+    i: ExpanderNumber,
+    p: PhyId,
+    second: &[u8],
+    j: ExpanderNumber,
+    q: PhyId,
+    out: &mut [u8],
+) -> Joining
+    requires { ⌜ byte (now first) 1 + byte (now second) 1 ≤ 8 ⌝ }
+    ensures { λ r. ⌜ JoinDone (joinCall setting (now (first .entry)) (i .0) (p .0) (now (second .entry)) (j .0) (q .0) (length (now (out .entry)))) r (now (out .entry)) (now (out .exit)) ⌝ }
+{
+    let mut rows = [0u64; 2064];
+    let mut who = [0u16; 1088];
+    let mut low = [0u8; 1024];
+    join_in(
+        setting,
+        first,
+        i,
+        p,
+        second,
+        j,
+        q,
+        out,
+        &mut rows[..],
+        &mut who[..],
+        &mut low[..],
+    )
+}
+
+// The join call, with room for the most expanders.
+fn join_many(
+    setting: Setting,
+    first: &[u8],
+    i: ExpanderNumber,
+    p: PhyId,
+    second: &[u8],
+    j: ExpanderNumber,
+    q: PhyId,
+    out: &mut [u8],
+) -> Joining
+    ensures { λ r. ⌜ JoinDone (joinCall setting (now (first .entry)) (i .0) (p .0) (now (second .entry)) (j .0) (q .0) (length (now (out .entry)))) r (now (out .entry)) (now (out .exit)) ⌝ }
+{
+    let mut rows = [0u64; 16512];
+    let mut who = [0u16; 8256];
+    let mut low = [0u8; 8192];
+    join_in(
+        setting,
+        first,
+        i,
+        p,
+        second,
+        j,
+        q,
+        out,
+        &mut rows[..],
+        &mut who[..],
+        &mut low[..],
+    )
 }
 
 // Joins two files by one cable between phy p of expander i of the first and phy q of expander j of the second: 22, the
-// first file judged, the second file judged (its refusals with the first's expanders added to their expander), 21, the joined file
-// judged, 16. It answers how many bytes the joined file has. The bytes after stay, and all of them where it is refused.
+// first file judged, the second file judged (its refusals with the first's expanders added to their expander), 21, the joined
+// domain judged, 16. It answers how many bytes the joined file has. The bytes after stay, and all of them where it is refused.
+// Few expanders need little room. A first file that states more than 64 is refused by the setting or its first two bytes; that
+// it calls itself there gives each room a stack frame of its own (docs/DECISIONS.md, 17).
 pub fn join(
     setting: Setting,
     first: &[u8],
@@ -125,17 +166,15 @@ pub fn join(
 ) -> Joining
     ensures { λ r. ⌜ JoinDone (joinCall setting (now (first .entry)) (i .0) (p .0) (now (second .entry)) (j .0) (q .0) (length (now (out .entry)))) r (now (out .entry)) (now (out .exit)) ⌝ }
 {
-    let one = tables::judge(setting, first);
-    match one {
-        Judgement::Refused(r) => Joining::Refused(r),
-        Judgement::Expanders(n) => {
-            let other = tables::judge(setting, second);
-            match other {
-                Judgement::Refused(r) => refusals::second_refused(n, r),
-                Judgement::Expanders(m) => {
-                    join_accepted(setting, first, n, i, p, second, m, j, q, out)
-                }
-            }
+    let n = wiring::stated_count(first);
+    if n > 64 {
+        if first.len() > 2 {
+            return join(setting, &first[..2], i, p, second, j, q, out);
         }
     }
+    let m = wiring::stated_count(second);
+    if (n as usize) + (m as usize) <= 8 {
+        return join_few(setting, first, i, p, second, j, q, out);
+    }
+    join_many(setting, first, i, p, second, j, q, out)
 }

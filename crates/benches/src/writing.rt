@@ -1,5 +1,4 @@
 // Writes the joined file.
-use crate::places;
 use wiring::ExpanderNumber;
 use wiring::PhyId;
 ghost use mathlib.Core.Path.{_≡_};
@@ -9,10 +8,10 @@ ghost use lib.ListN.{length, drop};
 ghost use lib.Seq.{paste};
 ghost use Rattle.frames.specs.Bytes.{byte};
 ghost use Rattle.benches.specs.Bytes.{typedTwo, cabledAt, joinedFile};
-ghost use Rattle.benches.specs.Parts.{Placed};
+ghost use Rattle.offsets.specs.Offsets.{Placed};
 
 // Copies all bytes of `from` to the place `at`.
-pub(crate) fn copy(out: &mut [u8], at: usize, from: &[u8])
+fn copy(out: &mut [u8], at: usize, from: &[u8])
     requires { ⌜ at + length (now from) ≤ length (now out) ⌝ }
     ensures { λ _. ⌜ now (out .exit) ≡ paste (now (out .entry)) at (now (from .entry)) (length (now (from .entry))) ⌝ }
 {
@@ -66,12 +65,12 @@ pub(crate) fn put_joined(
     ensures { λ _. ⌜ now (out .exit) ≡ joinedFile (now (first .entry)) (i .0) (p .0) (now (second .entry)) (j .0) (q .0) ++ drop (length (now (first .entry)) + (length (now (second .entry)) - 2)) (now (out .entry)) ⌝ }
 {
     put_both(out, first, second);
-    let s = frames::address_at(first, places::expander_place(first, i.0));
-    let t = frames::address_at(second, places::expander_place(second, j.0));
-    cable_at(out, places::phy_place(first, i.0, p.0), t, q);
+    let s = frames::address_at(first, offsets::expander_offset(first, i.0));
+    let t = frames::address_at(second, offsets::expander_offset(second, j.0));
+    cable_at(out, offsets::phy_offset(first, i.0, p.0), t, q);
     cable_at(
         out,
-        first.len() + (places::phy_place(second, j.0, q.0) - 2),
+        first.len() + (offsets::phy_offset(second, j.0, q.0) - 2),
         s,
         p,
     );

@@ -1,17 +1,22 @@
--- join_many has room for the longest joined file.
+-- join_many lends room for the most expanders.
+use Prim.Native.Nat.{ℕ}
+use native.Mathlib.Omega.{arith}
+use lib.ListN.{length-replicate}
 use borrow.Author.Needs.{needs}
-use Prim.Native.Nat.{ℕ, _+_, _-_, _≤_}
-use mathlib.Core.Path.{sym, subst}
-use lib.ListN.{length, length-replicate}
-use Rattle.benches.proofs.Joins.{scratch-fits}
 use Rattle.benches.proofs.calls.join_many.Statement.{statement}
 use Rattle.benches.proofs.calls.join_many.Tie as tie
 
 slice-aggregate-join-in : tie.Need-slice-aggregate-join-in
 slice-aggregate-join-in c = search needs
 
+slice-aggregate-join-in-2 : tie.Need-slice-aggregate-join-in-2
+slice-aggregate-join-in-2 c = search needs
+
+slice-aggregate-join-in-3 : tie.Need-slice-aggregate-join-in-3
+slice-aggregate-join-in-3 c = search needs
+
 join-in-requires : tie.Need-join-in-requires
-join-in-requires c κs = ((c .before .before .before .before .before .pre), subst (λ (n : ℕ). (length ((c .before .before .before .before .before .args) .first .now) + (length ((c .before .before .before .before .before .args) .second .now) - 2)) ≤ n) (sym (length-replicate {A = ℕ} 529154 0)) (scratch-fits ((c .before .before .before .before .before .args) .setting) ((c .before .before .before .before .before .args) .first .now) ((c .before .before .before .before .before .args) .i .0) ((c .before .before .before .before .before .args) .p .0) ((c .before .before .before .before .before .args) .second .now) ((c .before .before .before .before .before .args) .j .0) ((c .before .before .before .before .before .args) .q .0) (length ((c .before .before .before .before .before .args) .out .now)) (c .before .before .before .before .before .pre)))
+join-in-requires c κs = record { words = omega (arith, length-replicate {A = ℕ} 16512 0); slots = omega (arith, length-replicate {A = ℕ} 8256 0); phys = omega (arith, length-replicate {A = ℕ} 8192 0) }
 
 same-length : tie.Need-same-length
 same-length c = search needs
@@ -20,4 +25,4 @@ returns : tie.Need-returns
 returns c = search needs
 
 pub join-many-spec : {M : Type 1} → statement M
-join-many-spec = tie.close (tie.spec slice-aggregate-join-in join-in-requires same-length returns)
+join-many-spec = tie.close (tie.spec slice-aggregate-join-in slice-aggregate-join-in-2 slice-aggregate-join-in-3 join-in-requires same-length returns)

@@ -1,49 +1,34 @@
--- is_free reads the file into rows, and tests the domain in the rows.
+-- is_free goes by the tests of the definition.
 use borrow.Author.Needs.{needs}
-use Prim.Native.Nat.{ℕ}
-use mathlib.Core.Path.{sym, _∙_, ap}
-use lib.ListN.{replicate, length-replicate}
-use lib.Seq.{length-take-le}
-use Rattle.frames.specs.Refusals.{Result}
-use Rattle.wiring.specs.Domain.{Domain}
-use Rattle.benches.specs.JoinCall.{freeIn}
-use Rattle.benches.proofs.Joins.{rows-room}
-use Rattle.wiring.proofs.Opening.{opened-as, opened-fits}
+use mathlib.Core.Path.{refl, sym, _∙_, ap}
+use mathlib.Core.Bool.{not}
+use borrow.Author.Tests.{eq-eqb, ne-eqb}
+use Rattle.wiring.specs.Domain.{typeOf, attributeOf}
+use Rattle.wiring.specs.Rows.{domainIn}
+use Rattle.benches.proofs.Joins.{free-by}
 use Rattle.benches.proofs.free.is_free.Statement.{statement}
 use Rattle.benches.proofs.free.is_free.Tie as tie
 
-slice-aggregate-read-domain : tie.Need-slice-aggregate-read-domain
-slice-aggregate-read-domain c = search needs
+phy-at-requires : tie.Need-phy-at-requires
+phy-at-requires c κs = search needs
 
-read-domain-requires : tie.Need-read-domain-requires
-read-domain-requires c κs = search needs
-
-enum-told : tie.Need-enum-told
-enum-told c = search needs
-
-enum-known-read : tie.Need-enum-known-read
-enum-known-read c = search needs
-
-cast-e : tie.Need-cast-e
-cast-e c = search needs
-
-mul-e : tie.Need-mul-e
-mul-e c = search needs
-
-array-share-prefix-rows : tie.Need-array-share-prefix-rows
-array-share-prefix-rows c = opened-fits _ _ _ _ _ _ (rows-room ((c .before .before .before .before .before .before .before .args) .setting) ((c .before .before .before .before .before .before .before .args) .file .now) (replicate 16512 0) (length-replicate {A = ℕ} 16512 0)) ((c .before .before .before .before .read-domain) .ensures) ((c .before .read) .given .1) ((c .before .before .before .before .read-domain) .kept .1 .1 .0)
-
-slice-aggregate-is-free-in : tie.Need-slice-aggregate-is-free-in
-slice-aggregate-is-free-in c = sym (length-take-le _ ((c .before .before .before .before .before .read-domain) .last .1 .1 .0) (opened-fits _ _ _ _ _ _ (rows-room ((c .before .before .before .before .before .before .before .before .args) .setting) ((c .before .before .before .before .before .before .before .before .args) .file .now) (replicate 16512 0) (length-replicate {A = ℕ} 16512 0)) ((c .before .before .before .before .before .read-domain) .ensures) ((c .before .before .read) .given .1) ((c .before .before .before .before .before .read-domain) .kept .1 .1 .0)))
-
-is-free-in-requires : tie.Need-is-free-in-requires
-is-free-in-requires c κs = search needs
+phy-attribute-requires : tie.Need-phy-attribute-requires
+phy-attribute-requires c κs = search needs
 
 returns : tie.Need-returns
-returns c = sym (ap (λ (x : Result Domain). freeIn x ((c .before .before .before .before .before .before .args) .i .0) ((c .before .before .before .before .before .before .args) .p .0)) (opened-as _ _ _ _ _ _ (rows-room ((c .before .before .before .before .before .before .args) .setting) ((c .before .before .before .before .before .before .args) .file .now) (replicate 16512 0) (length-replicate {A = ℕ} 16512 0)) ((c .before .before .before .read-domain) .ensures) ((c .enum-told) .given .1)))
+returns c = sym (free-by (domainIn ((c .before .before .before .before .args) .rows .now)) ((c .before .before .before .before .args) .i .0) ((c .before .before .before .before .args) .p .0) (ne-eqb _ 1 (λ z. (c .if1) .taken (((c .before .phy-attribute) .ensures ∙ ap attributeOf ((c .before .before .phy-at) .ensures)) ∙ z))) refl refl)
+
+phy-type-requires : tie.Need-phy-type-requires
+phy-type-requires c κs = search needs
 
 returns-2 : tie.Need-returns-2
-returns-2 c = (c .is-free-in) .ensures ∙ sym (ap (λ (x : Result Domain). freeIn x ((c .before .before .before .before .before .before .before .before .before .args) .i .0) ((c .before .before .before .before .before .before .before .before .before .args) .p .0)) (opened-as _ _ _ _ _ _ (rows-room ((c .before .before .before .before .before .before .before .before .before .args) .setting) ((c .before .before .before .before .before .before .before .before .before .args) .file .now) (replicate 16512 0) (length-replicate {A = ℕ} 16512 0)) ((c .before .before .before .before .before .before .read-domain) .ensures) ((c .before .before .before .read) .given .1) .0))
+returns-2 c = sym (free-by (domainIn ((c .before .before .before .before .before .before .args) .rows .now)) ((c .before .before .before .before .before .before .args) .i .0) ((c .before .before .before .before .before .before .args) .p .0) (eq-eqb _ 1 (sym ((c .before .before .before .phy-attribute) .ensures ∙ ap attributeOf ((c .before .before .before .before .phy-at) .ensures)) ∙ (c .before .before .if1) .left)) (ap not (ne-eqb _ 0 (λ z. (c .if2) .taken (((c .before .phy-type) .ensures ∙ ap typeOf ((c .before .before .before .before .phy-at) .ensures)) ∙ z)))) refl)
+
+has-upward-requires : tie.Need-has-upward-requires
+has-upward-requires c κs = search needs
+
+returns-3 : tie.Need-returns-3
+returns-3 c = sym (free-by (domainIn ((c .before .before .before .before .before .before .before .args) .rows .now)) ((c .before .before .before .before .before .before .before .args) .i .0) ((c .before .before .before .before .before .before .before .args) .p .0) (eq-eqb _ 1 (sym ((c .before .before .before .before .phy-attribute) .ensures ∙ ap attributeOf ((c .before .before .before .before .before .phy-at) .ensures)) ∙ (c .before .before .before .if1) .left)) (ap not (eq-eqb _ 0 (sym ((c .before .before .phy-type) .ensures ∙ ap typeOf ((c .before .before .before .before .before .phy-at) .ensures)) ∙ (c .before .if2) .left))) (sym ((c .has-upward) .ensures)))
 
 pub is-free-spec : {M : Type 1} → statement M
-is-free-spec = tie.close (tie.spec slice-aggregate-read-domain read-domain-requires enum-told enum-known-read cast-e mul-e array-share-prefix-rows slice-aggregate-is-free-in is-free-in-requires returns returns-2)
+is-free-spec = tie.close (tie.spec phy-at-requires phy-attribute-requires returns phy-type-requires returns-2 has-upward-requires returns-3)

@@ -14,41 +14,41 @@ use Rattle.benches.proofs.writing.put_joined.Tie as tie
 put-both-requires : tie.Need-put-both-requires
 put-both-requires c κs = ((omega (arith, (c .before .before .before .before .pre) .0 .0 .within), omega (arith, (c .before .before .before .before .pre) .0 .1 .within)), (c .before .before .before .before .pre) .1)
 
-expander-place-requires : tie.Need-expander-place-requires
-expander-place-requires c κs = search needs
+expander-offset-requires : tie.Need-expander-offset-requires
+expander-offset-requires c κs = search needs
 
 address-at-requires : tie.Need-address-at-requires
 address-at-requires c κs = search needs
 
-expander-place-requires-2 : tie.Need-expander-place-requires-2
-expander-place-requires-2 c κs = search needs
+expander-offset-requires-2 : tie.Need-expander-offset-requires-2
+expander-offset-requires-2 c κs = search needs
 
 address-at-requires-2 : tie.Need-address-at-requires-2
 address-at-requires-2 c κs = search needs
 
-phy-place-requires : tie.Need-phy-place-requires
-phy-place-requires c κs = search needs
+phy-offset-requires : tie.Need-phy-offset-requires
+phy-offset-requires c κs = search needs
 
 cable-at-requires : tie.Need-cable-at-requires
-cable-at-requires c κs = omega (arith, (c .phy-place) .ensures, (c .before .before .before .before .before .before .before .before .before .before .before .before .before .pre) .0 .0 .within, (c .before .before .before .before .before .before .before .before .put-both) .kept .0, (c .before .before .before .before .before .before .before .before .before .before .before .before .before .pre) .1 .0)
+cable-at-requires c κs = omega (arith, (c .phy-offset) .ensures, (c .before .before .before .before .before .before .before .before .before .before .before .before .before .pre) .0 .0 .within, (c .before .before .before .before .before .before .before .before .put-both) .kept .0, (c .before .before .before .before .before .before .before .before .before .before .before .before .before .pre) .1 .0)
 
-phy-place-requires-2 : tie.Need-phy-place-requires-2
-phy-place-requires-2 c κs = search needs
+phy-offset-requires-2 : tie.Need-phy-offset-requires-2
+phy-offset-requires-2 c κs = search needs
 
 sub-cable-at : tie.Need-sub-cable-at
-sub-cable-at c = omega (arith, (c .phy-place2) .ensures, (c .before .before .before .before .before .before .before .before .before .before .before .before .before .before .before .before .before .before .pre) .0 .1 .after)
+sub-cable-at c = omega (arith, (c .phy-offset2) .ensures, (c .before .before .before .before .before .before .before .before .before .before .before .before .before .before .before .before .before .before .pre) .0 .1 .after)
 
 add-cable-at : tie.Need-add-cable-at
-add-cable-at c = omega (arith, (c .phy-place2) .ensures, (c .before .before .before .before .before .before .before .before .before .before .before .before .before .before .before .before .before .before .pre) .0 .1 .within, (c .before .before .before .before .before .before .before .before .before .before .before .before .before .before .before .before .before .before .pre) .1 .0)
+add-cable-at c = omega (arith, (c .phy-offset2) .ensures, (c .before .before .before .before .before .before .before .before .before .before .before .before .before .before .before .before .before .before .pre) .0 .1 .within, (c .before .before .before .before .before .before .before .before .before .before .before .before .before .before .before .before .before .before .pre) .1 .0)
 
 cable-at-requires-2 : tie.Need-cable-at-requires-2
-cable-at-requires-2 c κs = omega (arith, (c .phy-place2) .ensures, (c .before .before .before .before .before .before .before .before .before .before .before .before .before .before .before .before .before .before .pre) .0 .1 .within, (c .before .before .before .before .before .before .before .before .before .before .before .before .before .before .before .before .before .before .pre) .0 .1 .after, (c .before .before .before .before .cable-at) .kept .0, (c .before .before .before .before .before .before .before .before .before .before .before .before .before .put-both) .kept .0, (c .before .before .before .before .before .before .before .before .before .before .before .before .before .before .before .before .before .before .pre) .1 .0)
+cable-at-requires-2 c κs = omega (arith, (c .phy-offset2) .ensures, (c .before .before .before .before .before .before .before .before .before .before .before .before .before .before .before .before .before .before .pre) .0 .1 .within, (c .before .before .before .before .before .before .before .before .before .before .before .before .before .before .before .before .before .before .pre) .0 .1 .after, (c .before .before .before .before .cable-at) .kept .0, (c .before .before .before .before .before .before .before .before .before .before .before .before .before .put-both) .kept .0, (c .before .before .before .before .before .before .before .before .before .before .before .before .before .before .before .before .before .before .pre) .1 .0)
 
 same-length : tie.Need-same-length
 same-length c = (c .before .before .cable-at2) .kept .0 ∙ (c .before .before .before .before .before .before .before .cable-at) .kept .0 ∙ (c .before .before .before .before .before .before .before .before .before .before .before .before .before .before .before .before .put-both) .kept .0
 
 returns : tie.Need-returns
-returns c = (c .before .before .cable-at2) .ensures ∙ ap (λ (v : List ℕ). cabledAt v (length ((c .before .before .before .before .before .before .before .before .before .before .before .before .before .before .before .before .before .before .before .before .before .args) .first .now) + ((c .before .before .before .phy-place2) .result - 2)) ((c .before .before .before .before .before .before .before .before .before .before .before .before .address-at) .result) ((c .before .before .before .before .before .before .before .before .before .before .before .before .before .before .before .before .before .before .before .before .before .args) .p .0)) ((c .before .before .before .before .before .before .before .cable-at) .ensures ∙ ap (λ (v : List ℕ). cabledAt v ((c .before .before .before .before .before .before .before .before .phy-place) .result) ((c .before .before .before .before .before .before .before .before .before .before .address-at2) .result) ((c .before .before .before .before .before .before .before .before .before .before .before .before .before .before .before .before .before .before .before .before .before .args) .q .0)) ((c .before .before .before .before .before .before .before .before .before .before .before .before .before .before .before .before .put-both) .ensures)) ∙ joined-put ((c .before .before .before .before .before .before .before .before .before .before .before .before .before .before .before .before .before .before .before .before .before .args) .first .now) ((c .before .before .before .before .before .before .before .before .before .before .before .before .before .before .before .before .before .before .before .before .before .args) .second .now) _ ((c .before .before .before .before .before .before .before .before .before .before .before .before .before .before .before .before .before .before .before .before .before .args) .i .0) ((c .before .before .before .before .before .before .before .before .before .before .before .before .before .before .before .before .before .before .before .before .before .args) .p .0) ((c .before .before .before .before .before .before .before .before .before .before .before .before .before .before .before .before .before .before .before .before .before .args) .j .0) ((c .before .before .before .before .before .before .before .before .before .before .before .before .before .before .before .before .before .before .before .before .before .args) .q .0) ((c .before .before .before .before .before .before .before .before .phy-place) .result) ((c .before .before .before .phy-place2) .result) ((c .before .before .before .before .before .before .before .before .before .before .before .before .address-at) .result) ((c .before .before .before .before .before .before .before .before .before .before .address-at2) .result) ((c .before .before .before .before .before .before .before .before .phy-place) .ensures) ((c .before .before .before .phy-place2) .ensures) ((c .before .before .before .before .before .before .before .before .before .before .before .before .address-at) .ensures ∙ ap (λ (n : ℕ). numberAt ((c .before .before .before .before .before .before .before .before .before .before .before .before .before .before .before .before .before .before .before .before .before .args) .first .now) n 8) ((c .before .before .before .before .before .before .before .before .before .before .before .before .before .expander-place) .ensures .0)) ((c .before .before .before .before .before .before .before .before .before .before .address-at2) .ensures ∙ ap (λ (n : ℕ). numberAt ((c .before .before .before .before .before .before .before .before .before .before .before .before .before .before .before .before .before .before .before .before .before .args) .second .now) n 8) ((c .before .before .before .before .before .before .before .before .before .before .before .expander-place2) .ensures .0)) ((c .before .before .before .before .before .before .before .before .before .before .before .before .before .before .before .before .before .before .before .before .before .pre) .0 .0) ((c .before .before .before .before .before .before .before .before .before .before .before .before .before .before .before .before .before .before .before .before .before .pre) .0 .1)
+returns c = (c .before .before .cable-at2) .ensures ∙ ap (λ (v : List ℕ). cabledAt v (length ((c .before .before .before .before .before .before .before .before .before .before .before .before .before .before .before .before .before .before .before .before .before .args) .first .now) + ((c .before .before .before .phy-offset2) .result - 2)) ((c .before .before .before .before .before .before .before .before .before .before .before .before .address-at) .result) ((c .before .before .before .before .before .before .before .before .before .before .before .before .before .before .before .before .before .before .before .before .before .args) .p .0)) ((c .before .before .before .before .before .before .before .cable-at) .ensures ∙ ap (λ (v : List ℕ). cabledAt v ((c .before .before .before .before .before .before .before .before .phy-offset) .result) ((c .before .before .before .before .before .before .before .before .before .before .address-at2) .result) ((c .before .before .before .before .before .before .before .before .before .before .before .before .before .before .before .before .before .before .before .before .before .args) .q .0)) ((c .before .before .before .before .before .before .before .before .before .before .before .before .before .before .before .before .put-both) .ensures)) ∙ joined-put ((c .before .before .before .before .before .before .before .before .before .before .before .before .before .before .before .before .before .before .before .before .before .args) .first .now) ((c .before .before .before .before .before .before .before .before .before .before .before .before .before .before .before .before .before .before .before .before .before .args) .second .now) _ ((c .before .before .before .before .before .before .before .before .before .before .before .before .before .before .before .before .before .before .before .before .before .args) .i .0) ((c .before .before .before .before .before .before .before .before .before .before .before .before .before .before .before .before .before .before .before .before .before .args) .p .0) ((c .before .before .before .before .before .before .before .before .before .before .before .before .before .before .before .before .before .before .before .before .before .args) .j .0) ((c .before .before .before .before .before .before .before .before .before .before .before .before .before .before .before .before .before .before .before .before .before .args) .q .0) ((c .before .before .before .before .before .before .before .before .phy-offset) .result) ((c .before .before .before .phy-offset2) .result) ((c .before .before .before .before .before .before .before .before .before .before .before .before .address-at) .result) ((c .before .before .before .before .before .before .before .before .before .before .address-at2) .result) ((c .before .before .before .before .before .before .before .before .phy-offset) .ensures) ((c .before .before .before .phy-offset2) .ensures) ((c .before .before .before .before .before .before .before .before .before .before .before .before .address-at) .ensures ∙ ap (λ (n : ℕ). numberAt ((c .before .before .before .before .before .before .before .before .before .before .before .before .before .before .before .before .before .before .before .before .before .args) .first .now) n 8) ((c .before .before .before .before .before .before .before .before .before .before .before .before .before .expander-offset) .ensures .0)) ((c .before .before .before .before .before .before .before .before .before .before .address-at2) .ensures ∙ ap (λ (n : ℕ). numberAt ((c .before .before .before .before .before .before .before .before .before .before .before .before .before .before .before .before .before .before .before .before .before .args) .second .now) n 8) ((c .before .before .before .before .before .before .before .before .before .before .before .expander-offset2) .ensures .0)) ((c .before .before .before .before .before .before .before .before .before .before .before .before .before .before .before .before .before .before .before .before .before .pre) .0 .0) ((c .before .before .before .before .before .before .before .before .before .before .before .before .before .before .before .before .before .before .before .before .before .pre) .0 .1)
 
 pub put-joined-spec : {M : Type 1} → statement M
-put-joined-spec = tie.close (tie.spec put-both-requires expander-place-requires address-at-requires expander-place-requires-2 address-at-requires-2 phy-place-requires cable-at-requires phy-place-requires-2 sub-cable-at add-cable-at cable-at-requires-2 same-length returns)
+put-joined-spec = tie.close (tie.spec put-both-requires expander-offset-requires address-at-requires expander-offset-requires-2 address-at-requires-2 phy-offset-requires cable-at-requires phy-offset-requires-2 sub-cable-at add-cable-at cable-at-requires-2 same-length returns)

@@ -1,0 +1,85 @@
+-- judge_side meets its contract: the rows that the file is read into are its domain, and there is room for the entries.
+use mathlib.Core.Path.{sym, _∙_, ap}
+use lib.Seq.{length-take-le}
+use Rattle.frames.specs.Refusals.{Result, then}
+use Rattle.wiring.specs.Domain.{Domain}
+use Rattle.wiring.specs.Checks.{checkAnswer}
+use Rattle.wiring.proofs.Opening.{opened-as, opened-fits}
+use Rattle.tables.proofs.Lawful.{judged-own}
+use Rattle.benches.specs.Parts.{sideOf}
+use Rattle.benches.proofs.Joins.{side-room, side-refused, side-good, judged-by}
+use borrow.Author.Needs.{needs}
+use Rattle.benches.proofs.sides.judge_side.Statement.{statement}
+use Rattle.benches.proofs.sides.judge_side.Tie as tie
+
+read-domain-requires : tie.Need-read-domain-requires
+read-domain-requires c κs = search needs
+
+enum-known-read : tie.Need-enum-known-read
+enum-known-read c = search needs
+
+enum-known-read-2 : tie.Need-enum-known-read-2
+enum-known-read-2 c = search needs
+
+cast-e : tie.Need-cast-e
+cast-e c = search needs
+
+mul-e : tie.Need-mul-e
+mul-e c = search needs
+
+slice-reshare-prefix-judge-rows : tie.Need-slice-reshare-prefix-judge-rows
+slice-reshare-prefix-judge-rows c = let a = (c .before .before .before .before .before .before .before .before .before .before .before .args) in (opened-fits _ _ _ _ _ _ ((side-room (a .setting) (a .file .now) (a .rows .now) (a .who .now) (a .low .now) (c .before .before .before .before .before .before .before .before .before .before .before .pre)) .rows) ((c .before .before .before .before .before .read-domain) .ensures) ((c .before .read2) .given .1) ((c .before .before .before .before .before .read-domain) .kept .1 .1 .0))
+
+slice-aggregate-judge-rows : tie.Need-slice-aggregate-judge-rows
+slice-aggregate-judge-rows c = let a = (c .before .before .before .before .before .before .before .before .before .before .before .before .args) in sym (length-take-le _ ((c .before .before .before .before .before .before .read-domain) .last .1 .1 .0) (opened-fits _ _ _ _ _ _ ((side-room (a .setting) (a .file .now) (a .rows .now) (a .who .now) (a .low .now) (c .before .before .before .before .before .before .before .before .before .before .before .before .pre)) .rows) ((c .before .before .before .before .before .before .read-domain) .ensures) ((c .before .before .read2) .given .1) ((c .before .before .before .before .before .before .read-domain) .kept .1 .1 .0)))
+
+judge-rows-requires : tie.Need-judge-rows-requires
+judge-rows-requires c κs = search needs
+
+enum-known-verdict : tie.Need-enum-known-verdict
+enum-known-verdict c = search needs
+
+enum-told : tie.Need-enum-told
+enum-told c = search needs
+
+slice-reshare-prefix-is-free : tie.Need-slice-reshare-prefix-is-free
+slice-reshare-prefix-is-free c = let a = (c .before .before .before .before .before .before .before .before .before .before .before .before .before .before .before .before .before .before .before .before .before .args) in (opened-fits _ _ _ _ _ _ ((side-room (a .setting) (a .file .now) (a .rows .now) (a .who .now) (a .low .now) (c .before .before .before .before .before .before .before .before .before .before .before .before .before .before .before .before .before .before .before .before .before .pre)) .rows) ((c .before .before .before .before .before .before .before .before .before .before .before .before .before .before .before .read-domain) .ensures) ((c .before .before .before .before .before .before .before .before .before .before .before .read2) .given .1) ((c .before .before .before .before .before .before .before .before .before .before .before .before .before .before .before .read-domain) .kept .1 .1 .0))
+
+slice-aggregate-is-free : tie.Need-slice-aggregate-is-free
+slice-aggregate-is-free c = let a = (c .before .before .before .before .before .before .before .before .before .before .before .before .before .before .before .before .before .before .before .before .before .before .args) in sym (length-take-le _ ((c .before .before .before .before .before .before .before .before .before .before .before .before .before .before .before .before .read-domain) .last .1 .1 .0) (opened-fits _ _ _ _ _ _ ((side-room (a .setting) (a .file .now) (a .rows .now) (a .who .now) (a .low .now) (c .before .before .before .before .before .before .before .before .before .before .before .before .before .before .before .before .before .before .before .before .before .before .pre)) .rows) ((c .before .before .before .before .before .before .before .before .before .before .before .before .before .before .before .before .read-domain) .ensures) ((c .before .before .before .before .before .before .before .before .before .before .before .before .read2) .given .1) ((c .before .before .before .before .before .before .before .before .before .before .before .before .before .before .before .before .read-domain) .kept .1 .1 .0)))
+
+is-free-requires : tie.Need-is-free-requires
+is-free-requires c κs = search needs
+
+same-length : tie.Need-same-length
+same-length c = search needs
+
+returns : tie.Need-returns
+returns c = let a = (c .before .before .before .before .before .before .before .before .before .before .before .args) in side-refused (a .setting) (a .file .now) (a .i .0) (a .p .0) _ (opened-as _ _ _ _ _ _ ((side-room (a .setting) (a .file .now) (a .rows .now) (a .who .now) (a .low .now) (c .before .before .before .before .before .before .before .before .before .before .before .pre)) .rows) ((c .before .before .before .before .before .read-domain) .ensures) ((c .before .read) .given .1))
+
+same-length-2 : tie.Need-same-length-2
+same-length-2 c = search needs
+
+same-length-3 : tie.Need-same-length-3
+same-length-3 c = search needs
+
+same-length-4 : tie.Need-same-length-4
+same-length-4 c = search needs
+
+returns-2 : tie.Need-returns-2
+returns-2 c = let a = (c .before .before .before .before .before .before .before .before .before .before .before .before .before .before .before .before .before .before .before .before .before .before .args) in let o = opened-as _ _ _ _ _ _ ((side-room (a .setting) (a .file .now) (a .rows .now) (a .who .now) (a .low .now) (c .before .before .before .before .before .before .before .before .before .before .before .before .before .before .before .before .before .before .before .before .before .before .pre)) .rows) ((c .before .before .before .before .before .before .before .before .before .before .before .before .before .before .before .before .read-domain) .ensures) ((c .before .before .before .before .before .before .before .before .before .before .before .before .read2) .given .1) in sym (ap (λ (x : Result Domain). then x (sideOf (a .i .0) (a .p .0))) (judged-by (a .setting) (a .file .now) _ _ (o .0) (sym (judged-own _ _ _ _ _ (o .0) ((side-room (a .setting) (a .file .now) (a .rows .now) (a .who .now) (a .low .now) (c .before .before .before .before .before .before .before .before .before .before .before .before .before .before .before .before .before .before .before .before .before .before .pre)) .index _ (o .0))) ∙ sym ((c .before .before .before .before .before .before .before .judge-rows) .ensures .0) ∙ ap (checkAnswer _) ((c .before .verdict) .given .1))))
+
+same-length-5 : tie.Need-same-length-5
+same-length-5 c = search needs
+
+same-length-6 : tie.Need-same-length-6
+same-length-6 c = search needs
+
+same-length-7 : tie.Need-same-length-7
+same-length-7 c = search needs
+
+returns-3 : tie.Need-returns-3
+returns-3 c = let a = (c .before .before .before .before .before .before .before .before .before .before .before .before .before .before .before .before .before .before .before .before .before .before .before .args) in let o = opened-as _ _ _ _ _ _ ((side-room (a .setting) (a .file .now) (a .rows .now) (a .who .now) (a .low .now) (c .before .before .before .before .before .before .before .before .before .before .before .before .before .before .before .before .before .before .before .before .before .before .before .pre)) .rows) ((c .before .before .before .before .before .before .before .before .before .before .before .before .before .before .before .before .before .read-domain) .ensures) ((c .before .before .before .before .before .before .before .before .before .before .before .before .before .read2) .given .1) in side-good (a .setting) (a .file .now) (a .i .0) (a .p .0) _ _ _ (judged-by (a .setting) (a .file .now) _ _ (o .0) (sym (judged-own _ _ _ _ _ (o .0) ((side-room (a .setting) (a .file .now) (a .rows .now) (a .who .now) (a .low .now) (c .before .before .before .before .before .before .before .before .before .before .before .before .before .before .before .before .before .before .before .before .before .before .before .pre)) .index _ (o .0))) ∙ sym ((c .before .before .before .before .before .before .before .before .judge-rows) .ensures .0) ∙ ap (checkAnswer _) ((c .before .before .enum-told) .given .1))) (o .1 .1) ((c .is-free) .ensures)
+
+pub judge-side-spec : {M : Type 1} → statement M
+judge-side-spec = tie.close (tie.spec read-domain-requires enum-known-read enum-known-read-2 cast-e mul-e slice-reshare-prefix-judge-rows slice-aggregate-judge-rows judge-rows-requires enum-known-verdict enum-told slice-reshare-prefix-is-free slice-aggregate-is-free is-free-requires same-length returns same-length-2 same-length-3 same-length-4 returns-2 same-length-5 same-length-6 same-length-7 returns-3)

@@ -1,0 +1,63 @@
+// Where the frames of a file that was read stand: each is short or long by its byte 3.
+ghost use mathlib.Core.Path.{_≡_};
+ghost use Prim.Native.Nat.{_+_, _*_, _≤_, _<_};
+ghost use Rattle.frames.specs.declared.Response.the-variants.{ReportGeneral, Discover};
+ghost use Rattle.offsets.specs.Offsets.{sizeFrom, physAfter, physFrom, expandersAfter, expanderOffset, phyOffset};
+
+// The size of the DISCOVER response at `at`.
+fn discover_size(file: &[u8], at: usize) -> usize
+    requires { ⌜ at < 5000000 ⌝ }
+    ensures { λ r. ⌜ (r ≡ sizeFrom Discover (now (file .entry)) at) × (r ≤ 64) ⌝ }
+{
+    if wiring::byte_at(file, at + 3) == 0 {
+        return 52;
+    }
+    64
+}
+
+// The place of the phys of the expander at `at`.
+fn phys_from(file: &[u8], at: usize) -> usize
+    requires { ⌜ at < 5000000 ⌝ }
+    ensures { λ r. ⌜ (r ≡ physFrom (now (file .entry)) at) × (r ≤ at + 76) ⌝ }
+{
+    if wiring::byte_at(file, at + 8 + 3) == 0 {
+        return at + 8 + 28;
+    }
+    at + 8 + 68
+}
+
+// The place after n phys, the first of which stands at `at`.
+fn phys_after(file: &[u8], n: u64, at: usize) -> usize
+    requires { ⌜ (at < 4500000) × (n < 256) ⌝ }
+    ensures { λ r. ⌜ (r ≡ physAfter (now (file .entry)) n at) × (r ≤ at + 64 * n) ⌝ }
+{
+    let mut next = at;
+    let mut p: u64 = 0;
+    while p < n {
+        next += discover_size(file, next);
+        p += 1;
+    }
+    next
+}
+
+// The place of expander i.
+pub fn expander_offset(file: &[u8], i: u8) -> usize
+    ensures { λ r. ⌜ (r ≡ expanderOffset (now (file .entry)) i) × (r ≤ 2 + 16396 * i) ⌝ }
+{
+    let mut at: usize = 2;
+    let mut k: u8 = 0;
+    while k < i {
+        let n = wiring::byte_at(file, at + 17);
+        at = phys_after(file, n, phys_from(file, at));
+        k += 1;
+    }
+    at
+}
+
+// The place of the frame of phy p of expander i.
+pub fn phy_offset(file: &[u8], i: u8, p: u8) -> usize
+    ensures { λ r. ⌜ r ≡ phyOffset (now (file .entry)) i p ⌝ }
+{
+    let at = expander_offset(file, i);
+    phys_after(file, p as u64, phys_from(file, at))
+}
