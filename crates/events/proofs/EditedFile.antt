@@ -37,9 +37,12 @@ use Rattle.wiring.proofs.Members.{is-true, is-false, and-left, and-right}
 use Rattle.wiring.proofs.Results.{never, good-one, unless-good, good-unless, then-good, good-then}
 use Rattle.wiring.proofs.Reading.{unitAt, unit-cut, unit-by, size-whole, size-within}
 use Rattle.wiring.proofs.Wires.{phy-range}
+use Rattle.tables.specs.Replugging.{pluggable, replug}
 use Rattle.events.specs.declared.Event.{Event}
-use Rattle.events.specs.Events.{named, pluggable, replug, edited}
-use Rattle.events.specs.EventFile.{pastFrame, pastPhys, phyFrame, typed, frameEdited, fileEdited}
+use Rattle.events.specs.Events.{named, edited}
+use Rattle.events.specs.EventFile.{typed, frameEdited, fileEdited}
+use Rattle.offsets.specs.Offsets.{phyOffset}
+use Rattle.events.proofs.FrameOffsets.{pastFrame, pastPhys, phyFrame, frame-offset}
 
 -- where a unit that was read ends: after its frame
 module _ {A B : Type 0} where
@@ -616,7 +619,7 @@ expanders-within most file (suc n) i at seen d (suc e) q h l =
 -- the edited file reads as the edited domain
 module _ (setting : Setting) (file : List ℕ) (d : Domain) (h : domainRead setting file ≡ good d) (v : Event) (f : T (pluggable (named d v))) (fits : v .address < 256 ^ 8) where
   abbrev lo : ℕ
-  lo = phyFrame file (v .expander .0) (v .phy .0) 2
+  lo = phyOffset file (v .expander .0) (v .phy .0)
 
   pub edited-read : (lo + 52 ≤ length file) × (domainRead setting (fileEdited file v) ≡ good (edited d v))
   unfolding domainRead headerUnit
@@ -625,8 +628,9 @@ module _ (setting : Setting) (file : List ℕ) (d : Domain) (h : domainRead sett
       let file′ : List ℕ = fileEdited file v in
       let x = unless-good (inRange setting) (refusal 22 0 0) _ d h in
       let y = then-good (headerUnit setting file) _ d (x .1) in
-      let r = expanders-within setting file (y .0) 0 2 [] d (v .expander .0) (v .phy .0) (y .2) (phy-range d pluggable (v .expander .0) (v .phy .0) f (λ t. t)) in
-      let m = frame-more file (v .expander .0) (v .phy .0) 2 in
+      let o : phyFrame file (v .expander .0) (v .phy .0) 2 ≡ lo = frame-offset file (v .expander .0) (v .phy .0) in
+      let r : lo + 52 ≤ length file = subst (λ (k : ℕ). k + 52 ≤ length file) o (expanders-within setting file (y .0) 0 2 [] d (v .expander .0) (v .phy .0) (y .2) (phy-range d pluggable (v .expander .0) (v .phy .0) f (λ t. t))) in
+      let m : 2 ≤ lo = subst (λ (k : ℕ). 2 ≤ k) o (frame-more file (v .expander .0) (v .phy .0) 2) in
       let long = edit-length a lo file r in
       let outside : (k : ℕ) → (k < lo + 12) ⊎ (lo + 33 ≤ k) → byte file′ k ≡ byte file k =
       λ k o. edit-outside a lo file r k (λ z. ⊎-elim {C = ⊥} (λ j. omega arith) (λ j. omega arith) o) (⊎-elim (λ j. inl (omega arith)) inr o) in
@@ -637,5 +641,5 @@ module _ (setting : Setting) (file : List ℕ) (d : Domain) (h : domainRead sett
         r,
         good-unless (inRange setting) (refusal 22 0 0) _ (x .0)
             ∙ good-then (headerUnit setting file′) _ (y .0) (edited d v) n
-            (expanders-edited file file′ lo a long outside (unit-edited a lo file fits) setting (y .0) 0 2 [] d (v .expander .0) (v .phy .0) (y .2) refl f),
+            (expanders-edited file file′ lo a long outside (unit-edited a lo file fits) setting (y .0) 0 2 [] d (v .expander .0) (v .phy .0) (y .2) (sym o) f),
       )

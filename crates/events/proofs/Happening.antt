@@ -1,32 +1,34 @@
 -- Paper 9: for every list of events from a configured domain, by induction on the list and over the promise of the call.
 use mathlib.Core.Path.{_≡_, refl, sym, ap, ap₂, subst, _∙_}
-use mathlib.Core.List.{List, [], _∷_, _++_}
+use mathlib.Core.List.{List, [], _∷_}
 use Prim.Native.Nat.{ℕ, _≤_, _<_, _^_}
 use native.Mathlib.Omega.{arith}
 use lib.ListN.{length, drop, length-append, length-drop}
 use lib.Dec.{T}
-use Rattle.frames.specs.Bits.{bytesFor, marked}
-use Rattle.frames.specs.Refusals.{Result, refused, good, unless, then, refusal}
+use Rattle.frames.specs.Bits.{bytesFor}
+use Rattle.frames.specs.Refusals.{Result, refused, good, refusal}
 use Rattle.frames.proofs.Packing.{Bytes}
 use Rattle.frames.proofs.DisableBits.{length-marked}
 use Rattle.wiring.specs.declared.Setting.{Setting}
 use Rattle.wiring.specs.Domain.{Domain}
-use Rattle.wiring.specs.File.{domainRead}
 use Rattle.wiring.proofs.Results.{good-one, unless-good, then-good}
-use Rattle.tables.specs.Tables.{tables, needed}
+use Rattle.tables.specs.Tables.{tables}
 use Rattle.tables.specs.Entries.{Entries, Room, roomOf, Enough, putBefore}
-use Rattle.tables.specs.Judge.{judged, judgedDomain, tablesFor, tableCall, tablesAfter, TablesDone}
+use Rattle.tables.specs.Judge.{judged, tablesFor, tableCall, tablesAfter, TablesDone}
 use Rattle.tables.specs.Refilling.{refilled}
+use Rattle.tables.specs.Replugging.{pluggable}
 use Rattle.tables.specs.declared.TablesGiven.{TablesGiven}
+use Rattle.tables.specs.declared.TablesGiven.the-variants.{Counts}
 use Rattle.tables.proofs.Given.{judged-file, judged-wires, tableCall-iff}
 use Rattle.tables.proofs.Tables.{tables-length}
+use Rattle.tables.proofs.Exactly.{counts-iff}
 use Rattle.events.specs.declared.Event.{Event}
 use Rattle.events.specs.declared.EventAnswer.{EventAnswer}
-use Rattle.events.specs.Events.{named, pluggable, replug, edited}
+use Rattle.events.specs.Events.{named, edited}
 use Rattle.events.specs.EventFile.{fileEdited}
 use Rattle.events.specs.Calls.{attempted, eventCall, fileAfter, entriesAfter, EventDone, Lab, Happened, none, next, applied}
 use Rattle.events.specs.Paper9.{Configured, Afresh}
-use Rattle.events.proofs.Edited.{needed-same}
+use Rattle.tables.proofs.Edited.{needed-same}
 use Rattle.events.proofs.EditedFile.{edited-read}
 use Rattle.events.proofs.Refilled.{refilled-is}
 
@@ -49,6 +51,14 @@ accepted-is setting file v room d d₂ fits j e =
     let r = edited-read setting file d (judged-file setting file d .0 j .0) v (f .0) fits .1 in
     let s : d₂ ≡ edited d v = good-one d₂ (edited d v) (sym (judged-file setting (fileEdited file v) d₂ .0 (g .2) .0) ∙ r) in
     record { free = f .0; is = s; old = j; new = g .2 ∙ ap good s }
+
+-- where the table call answers counts, its file and what it left are a configured domain
+pub tables-configure : (setting : Setting) (file : List ℕ) (t w : ℕ) (before after : Entries) → TablesDone (tableCall setting file (roomOf before)) (Counts t w) before after
+    → Configured setting before (record { file = file; entries = after })
+tables-configure setting file t w before after o =
+    let c = counts-iff (tableCall setting file (roomOf before)) (Counts t w) before after o .0 (t, w, refl) in
+    let j = tableCall-iff setting file (c .0) (roomOf before) .0 (c .1) in
+    record { domain = c .0; accepted = j .0; enough = j .1; given = o .left ∙ ap (λ x. tablesAfter x before) (c .1) }
 
 module _ (setting : Setting) (before : Entries) (b : Bytes (before .bits)) where
   -- the entries that were lent at first, and those left of them by the table call, are as many

@@ -27,14 +27,15 @@ use Rattle.tables.proofs.Tables.{table-length, tables-length as all-words}
 use Rattle.tables.proofs.Stretches.{stretch-is}
 use Rattle.tables.proofs.Given.{judged-wires}
 use Rattle.tables.specs.Refilling.{touched, tableAt, renewed, refilled, changed, Moved, moved}
+use Rattle.tables.specs.Replugging.{pluggable, replug}
 use Rattle.events.specs.declared.Event.{Event}
 use Rattle.events.specs.declared.EventAnswer.the-variants.{Counts}
-use Rattle.events.specs.Events.{named, pluggable, replug, edited}
+use Rattle.events.specs.Events.{named, edited}
 use Rattle.events.specs.EventFile.{fileEdited}
 use Rattle.events.specs.Calls.{eventCall, fileAfter, entriesAfter, EventDone, Lab}
 use Rattle.events.specs.Paper9.{Configured}
 use Rattle.events.specs.Moving.{OnDirect, Unaltered, tableLinks, MovesLittle}
-use Rattle.events.proofs.Edited.{indexes-same, routes-same, touched-same, table-places-same}
+use Rattle.tables.proofs.Edited.{indexes-same, routes-same, touched-same, table-places-same}
 use Rattle.events.proofs.Refilled.{renewed-is, table-same, tables-length}
 use Rattle.events.proofs.Happening.{accepted-is}
 use Rattle.events.proofs.OneWord.{list-length, table-one}

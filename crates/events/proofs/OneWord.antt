@@ -22,10 +22,10 @@ use Rattle.wiring.proofs.Wires.{Wired, routes-one, far-below, far-is}
 use Rattle.tables.specs.Levels.{down, levels}
 use Rattle.tables.specs.Tables.{word, levelList, table}
 use Rattle.tables.specs.Own.{owns, ownFrom, own, ownList}
+use Rattle.tables.specs.Replugging.{pluggable, replug}
 use Rattle.tables.proofs.Beyond.{down-leads, levels-few}
 use Rattle.tables.proofs.Law.{law, levels-empty}
-use Rattle.events.specs.Events.{pluggable, replug}
-use Rattle.events.proofs.Edited.{flatMap-same, replug-routes, expander-there, phy-there, indexes-same, levels-same, own-other}
+use Rattle.tables.proofs.Edited.{flatMap-same, replug-routes, expander-there, phy-there, indexes-same, levels-same, own-other}
 
 module _ {A : Type 0} where
   set-right : (xs ys : List A) (i : ℕ) (a : A) → set (xs ++ ys) (length xs + i) a ≡ xs ++ set ys i a

@@ -28,7 +28,8 @@ use Rattle.tables.specs.Judge.{overlong, judgedDomain}
 use Rattle.tables.specs.Refilling.{touched, renewed, refilled, changed, moved}
 use Rattle.events.specs.declared.Event.{Event}
 use Rattle.events.specs.Events.{edited}
-use Rattle.events.specs.EventFile.{pastFrame, pastPhys, phyFrame, frameEdited, fileEdited}
+use Rattle.events.specs.EventFile.{frameEdited, fileEdited}
+use Rattle.offsets.specs.Offsets.{physAfter, expandersAfter}
 use Rattle.events.specs.Calls.{eventCall}
 
 -- an address of the rig, by its last byte
@@ -87,7 +88,7 @@ unfolding pairFile pairRig numberBits field bitsOf packedIn
     strip reach cabled neighbours unlooped joined joinedIn chainsWithin unlong linkedDomain
     once belowPhys below nextLevel levelsFrom levels flatMap
     heldBy gives give giveAll levelList table tablePlaces size sizes overlong judgedDomain
-    withPhy setPhy touched renewed changed pastFrame pastPhys phyFrame frameEdited eventCall
+    withPhy setPhy touched renewed changed physAfter expandersAfter frameEdited eventCall
 pulled = (refl, refl, refl, refl)
 
 -- C1 plugged in its place
@@ -102,7 +103,7 @@ unfolding pairFile pairRig numberBits field bitsOf packedIn
     strip reach cabled neighbours unlooped joined joinedIn chainsWithin unlong linkedDomain
     once belowPhys below nextLevel levelsFrom levels flatMap
     heldBy gives give giveAll levelList table tablePlaces size sizes overlong judgedDomain
-    withPhy setPhy touched renewed changed pastFrame pastPhys phyFrame frameEdited eventCall
+    withPhy setPhy touched renewed changed physAfter expandersAfter frameEdited eventCall
 plugged = (refl, refl, refl, refl)
 
 -- refused: 8 at another phy than the one named; 20 at a phy attached to an expander, before 16; 16, then 18, before the edited file's 8
@@ -118,5 +119,5 @@ unfolding pairFile
     strip reach cabled neighbours unlooped joined joinedIn chainsWithin unlong linkedDomain
     once belowPhys below nextLevel levelsFrom levels flatMap
     heldBy gives give giveAll levelList table tablePlaces size sizes overlong judgedDomain
-    pastFrame pastPhys phyFrame frameEdited eventCall
+    physAfter expandersAfter frameEdited eventCall
 not-plugged = (refl, refl, refl, refl, refl)

@@ -26,10 +26,10 @@ use Rattle.tables.specs.Tables.{levelList, table, tablePlaces, tables, size, ne
 use Rattle.tables.specs.Entries.{Entries, entries, roomOf, Enough, putBefore}
 use Rattle.tables.specs.Own.{own, ownList}
 use Rattle.tables.specs.Refilling.{touched, tableAt, renewed, refilledBy, refilled}
+use Rattle.tables.specs.Replugging.{pluggable, replug}
 use Rattle.tables.proofs.Law.{law}
 use Rattle.tables.proofs.Fills.{length-filled}
-use Rattle.events.specs.Events.{pluggable, replug}
-use Rattle.events.proofs.Edited.{flatMap-same, indexes-same, levels-same, touched-same, own-other, table-places-same, width-same}
+use Rattle.tables.proofs.Edited.{flatMap-same, indexes-same, levels-same, touched-same, own-other, table-places-same, width-same}
 
 -- at places where old numbers stand one after the other, new ones where they differ
 pub renewed-is : (test : Place → Bool) (width : Place → ℕ) (new old : Place → List ℕ) (qs : List Place) (rest : List ℕ)

@@ -1,26 +1,24 @@
 -- Paper 9: an accepted event writes exactly the tables with the named expander in one of their levels, whatever was lent.
 use mathlib.Core.Path.{_≡_, refl, sym, ap, ap₂, subst, _∙_}
-use mathlib.Core.Logic.{_⊎_, inl, inr, ⊎-elim, by-cases}
+use mathlib.Core.Logic.{⊎-elim}
 use mathlib.Core.List.{List, [], _∷_, _++_, append-nil}
-use mathlib.Core.Bool.{Bool, true, false, cond, _&&_}
-use Prim.Native.Nat.{ℕ, zero, suc, _+_, _*_, _-_, _/_, _≤_, _<_, _^_}
+use mathlib.Core.Bool.{Bool, true, false, cond}
+use Prim.Native.Nat.{ℕ, zero, suc, _+_, _*_, _-_, _≤_, _<_, _^_}
 use native.Mathlib.Omega.{arith}
-use native.Mathlib.Nat.{add-zero}
-use lib.ListN.{length, getD, take, drop, replicate, length-append, length-drop, length-map}
-use lib.Seq.{take-at, drop-at, drop-drop, length-take-le, getD-drop}
-use lib.Dec.{T, eqb}
-use Rattle.frames.specs.Bits.{bitsOf, packedIn, bytesFor, zeroBit, zeroBits}
+use lib.ListN.{length, take, drop, replicate, length-append, length-drop, length-map}
+use lib.Seq.{take-at, drop-at, drop-drop, length-take-le}
+use lib.Dec.{T}
+use Rattle.frames.specs.Bits.{bitsOf, packedIn, zeroBit, zeroBits}
 use Rattle.frames.specs.Refusals.{good}
 use Rattle.frames.proofs.PackedBits.{Bits, length-bitsOf, bits-drop}
 use Rattle.frames.proofs.Packing.{bits-bitsOf, unpacked}
 use Rattle.wiring.specs.declared.Setting.{Setting}
 use Rattle.wiring.specs.Lists.{In, any, keep, isIn}
 use Rattle.wiring.specs.Domain.{Domain, expanderAt, phyAt, routes, toExpander}
-use Rattle.wiring.specs.Causes.{Place, place, places, farPhy}
-use Rattle.wiring.specs.PhySet.{setPhy}
-use Rattle.wiring.proofs.Members.{is-true, is-false, was-true, kept, and-left, and-right}
+use Rattle.wiring.specs.Causes.{Place, place, places}
+use Rattle.wiring.proofs.Members.{is-true, was-true, and-left, and-right}
 use Rattle.wiring.proofs.Wires.{routes-range, in-places}
-use Rattle.tables.specs.Levels.{down, levels}
+use Rattle.tables.specs.Levels.{levels}
 use Rattle.tables.specs.Tables.{levelList, table, tablePlaces, size, sizes, needed, offsetIn, offset, stretch}
 use Rattle.tables.specs.Entries.{Entries, roomOf, Enough}
 use Rattle.tables.specs.Judge.{judged}
@@ -29,10 +27,10 @@ use Rattle.tables.proofs.Law.{levels-empty}
 use Rattle.tables.proofs.Fills.{length-filled}
 use Rattle.tables.proofs.Stretches.{isPlace, is-place, place-is}
 use Rattle.events.specs.declared.Event.{Event}
-use Rattle.events.specs.Events.{pluggable, replug, edited}
+use Rattle.events.specs.Events.{edited}
 use Rattle.events.specs.Calls.{eventCall}
 use Rattle.events.specs.Paper9.{Touches}
-use Rattle.events.proofs.Edited.{levels-same, touched-same, indexes-same, routes-same, places-same, width-same, needed-same, stretch-same}
+use Rattle.tables.proofs.Edited.{levels-same, touched-same, routes-same, needed-same, stretch-same}
 use Rattle.events.proofs.Refilled.{bits-zeros}
 use Rattle.events.proofs.Happening.{accepted-is}
 

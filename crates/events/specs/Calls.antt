@@ -8,10 +8,11 @@ use Rattle.wiring.specs.Domain.{Domain}
 use Rattle.tables.specs.Entries.{Entries, Room, roomOf}
 use Rattle.tables.specs.Judge.{judged, tablesFor}
 use Rattle.tables.specs.Refilling.{Moved, moved, refilled}
+use Rattle.tables.specs.Replugging.{pluggable}
 use Rattle.events.specs.declared.Event.{Event}
 use Rattle.events.specs.declared.EventAnswer.{EventAnswer}
 use Rattle.events.specs.declared.EventAnswer.the-variants.{Refused, Counts}
-use Rattle.events.specs.Events.{named, pluggable}
+use Rattle.events.specs.Events.{named}
 use Rattle.events.specs.EventFile.{fileEdited}
 
 -- 20, then 16 and 18, then the edited file is judged, on an accepted domain

@@ -1,4 +1,8 @@
 // Drives plugged and pulled: events that edit a domain file and its tables.
+mod calls;
+mod writing;
+
+pub use calls::apply_event;
 use tables::ExpanderNumber;
 use tables::PhyId;
 use tables::Refusal;

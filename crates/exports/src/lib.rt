@@ -4,6 +4,8 @@ mod packing;
 
 use benches::Joining;
 use cards::Made;
+use events::Event;
+use events::EventAnswer;
 use forms::FormMade;
 use shelves::Shelf;
 use tracing::DiscoverRead;
@@ -34,9 +36,11 @@ ghost use Rattle.forms.specs.Formed.{formCall, formTables, formTrace, formList}
 ghost use Rattle.forms.specs.Calls.{formCounts, formAfter, requestsIn};
 ghost use Rattle.cards.specs.Calls.{cardCall, fileCall, lengthOf, newAfter};
 ghost use Rattle.benches.specs.JoinCall.{joinCall, lengthOf as bytesJoined, joinedAfter};
+ghost use Rattle.events.specs.Calls.{eventCall};
 ghost use Rattle.exercises.specs.Call.{makeCall};
 ghost use Rattle.shelves.specs.Shelf.{shelfBytes, made, stepped, entryAt, disabledAt};
 ghost use Rattle.exports.specs.Shelves.{ShelfDone};
+ghost use Rattle.exports.specs.Events.{eventTold, EventPacked};
 ghost use Rattle.exports.specs.Packing.{version, settingOf, packed, number, counts, formPacked, entryPacked, endPacked, stepPacked, forty, general, generalSas2, discovered, ownAddress, attachedAddress, route, routeTold, routeAddress};
 
 // The version of this interface.
@@ -410,6 +414,34 @@ pub extern "C" fn metzurgo_file_of_card(setting: u32, card: &[u8], file: &mut [u
     match answer {
         Made::Refused(r) => packing::refusal(r),
         Made::Bytes(n) => n as u64,
+    }
+}
+
+// The event call: a drive with the address plugged into the phy, or its drive pulled where the address is 0. The number of tables touched,
+// times 2 to the power 32, and the number of words changed: 22, 1 to 12, 23 and 14 of the file, 20, 16, 18, then the edited file.
+#[no_mangle]
+pub extern "C" fn metzurgo_event(
+    setting: u32,
+    file: &mut [u8],
+    words: &mut [u64],
+    bits: &mut [u8],
+    expander: u8,
+    phy: u8,
+    address: u64,
+) -> u64
+    ensures { λ r. ⌜ EventPacked (eventCall (settingOf setting) (now (file .entry)) (eventTold expander phy address) (roomOf (entries (now (words .entry)) (now (bits .entry))))) (eventTold expander phy address) r
+        (now (file .entry)) (now (file .exit)) (entries (now (words .entry)) (now (bits .entry))) (entries (now (words .exit)) (now (bits .exit))) ⌝ }
+{
+    let course = packing::setting(setting);
+    let v = Event {
+        expander: ExpanderNumber(expander),
+        phy: PhyId(phy),
+        address: address,
+    };
+    let answer = events::apply_event(course, file, words, bits, v);
+    match answer {
+        EventAnswer::Refused(r) => packing::refusal(r),
+        EventAnswer::Counts(t, w) => packing::table_counts(t, w),
     }
 }
 

@@ -27,7 +27,7 @@ zeros-after l m n q =
 
 -- the own lists of its order, and zeros after them
 module _ (d : Domain) (x p : ℕ) {lists order : List ℕ} {room : ℕ} (f : FilledFrom d x p lists order room) where
-  from-order : flatMap (own d) order ≡ orderList d x p
+  pub from-order : flatMap (own d) order ≡ orderList d x p
   unfolding orderList
   from-order = ap (flatMap (own d)) (f .ordered)
 

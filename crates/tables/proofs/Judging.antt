@@ -39,23 +39,25 @@ pub judge-checked : (chain : ℕ) (d : Domain) (x : Result Domain) → checkedDo
 unfolding judgedDomain checkedDomain
 judge-checked chain d x e = then-then (wiredDomain d) (linkedDomain chain d) (firstOf 14 (overlong d) d) ∙ ap (λ y. then y (λ _. firstOf 14 (overlong d) d)) e
 
+-- past 14 by own lists, tables can be filled from them
+pub fillable-by : (d x : Domain) → firstOf 14 (overOwn d) d ≡ good x → Fillable d
+unfolding overOwn
+fillable-by d x j =
+    let c = firstOf-good 14 (overOwn d) d x within j in
+    λ i p t. by-cases (decLt (expanderAt d i .indexes) (length (orderList d i p))) (λ h. absurd (c .1 i p (search (tests, lt→ltb)))) (λ h. omega arith)
+  where
+    within : (i p : ℕ) → T (overOwn d i p) → p < length (expanderAt d i .phys)
+    within i p t = routes-range d 2 i p (search tests) (omega arith)
+
 -- the same by own lists, with room for so many entries
 module _ (chain first low : ℕ) (d : Domain) where
   pub own-checked : (x : Result Domain) → checkedIn chain first low d ≡ x → judgedIn chain first low d ≡ then x (λ _. firstOf 14 (overOwn d) d)
   unfolding judgedIn
   own-checked x e = ap (λ (y : Result Domain). then y (λ _. firstOf 14 (overOwn d) d)) e
 
-  over-range : (i p : ℕ) → T (overOwn d i p) → p < length (expanderAt d i .phys)
-  unfolding overOwn
-  over-range i p t = routes-range d 2 i p (search tests) (omega arith)
-
-  -- past them, tables can be filled from own lists
   pub fillable : judgedIn chain first low d ≡ good d → Fillable d
-  unfolding judgedIn overOwn
-  fillable j =
-      let a = then-good (checkedIn chain first low d) _ d j in
-      let c = firstOf-good 14 (overOwn d) d d over-range (a .2) in
-      λ i p t. by-cases (decLt (expanderAt d i .indexes) (length (orderList d i p))) (λ h. absurd (c .1 i p (search (tests, lt→ltb)))) (λ h. omega arith)
+  unfolding judgedIn
+  fillable j = fillable-by d d (then-good (checkedIn chain first low d) _ d j .2)
 
 -- and there was room for the entries
 pub judged-room : (chain : ℕ) (d : Domain) (first low : List ℕ) (x : Domain) → judgedIn chain (length first) (length low) d ≡ good x → IndexRoom d first low

@@ -11,6 +11,7 @@ pub mod CountedWords
 pub mod Growing
 pub mod Cells
 pub mod Owns
+pub mod Retests
 pub mod BelowLists
 pub mod Linked
 pub mod Collecting
@@ -23,6 +24,12 @@ pub mod WordsBack
 pub mod Over
 pub mod Judging
 pub mod Lawful
+pub mod Edited
+pub mod Replugs
 pub mod LongFrames
 pub mod Wider
+pub mod Changes
+pub mod BitSets
+pub mod Renewals
+pub mod Rewrites
 pub mod Worked

@@ -9,13 +9,11 @@ use lib.Dec.{T, eqb}
 use Rattle.wiring.specs.declared.Phy.{Phy}
 use Rattle.wiring.specs.Domain.{Domain, addressOf, toExpander, numberOf}
 use Rattle.wiring.specs.Rows.{domainIn}
-use Rattle.wiring.specs.Addresses.{farNumber}
+use Rattle.wiring.specs.Addresses.{farNumber, IndexedFirst}
 use Rattle.wiring.proofs.Members.{and-left, was-true}
-use Rattle.wiring.proofs.Wires.{phy-range}
-use Rattle.wiring.proofs.EndDevices.{short-in}
-use Rattle.wiring.proofs.Entries.{far-told}
+use Rattle.wiring.proofs.Entries.{far-in}
 use Rattle.tables.specs.Levels.{down}
-use Rattle.tables.specs.Prepared.{oneLink, PhyIndexed}
+use Rattle.tables.specs.Prepared.{oneLink, FarsKnown, PhyIndexed}
 
 pub linked-by : (d : Domain) (φ ψ : Phy) {a b e : Bool} → down d φ ≡ a → down d ψ ≡ b → eqb (addressOf φ) (addressOf ψ) ≡ e
     → oneLink d φ ψ ≡ (a && (b && e))
@@ -25,13 +23,17 @@ linked-by d φ ψ p q s = rw (p, q, s)
 pub linked-at : (d : Domain) {φ ψ φ' ψ' : Phy} {r : Bool} → φ ≡ φ' → ψ ≡ ψ' → r ≡ oneLink d φ ψ → r ≡ true → T (oneLink d φ' ψ')
 linked-at d {φ} {ψ} {φ'} {ψ'} p q e t = was-true (oneLink d φ' ψ') (sym (ap (λ (χ : Phy). oneLink d χ ψ) p ∙ ap (oneLink d φ') q) ∙ sym e ∙ t)
 
+-- entries of all slots tell it
+pub fars-known : (ws first : List ℕ) → IndexedFirst (domainIn ws) first → FarsKnown (domainIn ws) first
+fars-known ws first index i p far = far-in ws first i p index far
+
 -- the number of the expander to which φ is attached, as the entries tell it
 pub far-number-is : (ws : List ℕ) (first : List ℕ) (i p : ℕ) (φ : Phy) → PhyIndexed (domainIn ws) first i p φ → T (toExpander φ)
     → farNumber (domainIn ws) first i p ≡ numberOf (domainIn ws) (addressOf φ)
 far-number-is ws first i p φ x t =
     let d : Domain = domainIn ws in
     let far = subst (λ ψ. T (toExpander ψ)) (x .phy) t in
-    far-told d i p (omega (arith, phy-range d toExpander i p far (λ u. u), short-in ws i)) first (x .index) far
+    x .index i p far
     ∙ ap (λ ψ. numberOf d (addressOf ψ)) (sym (x .phy))
 
 -- the same where the levels go on at φ

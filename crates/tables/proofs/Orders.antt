@@ -1,7 +1,7 @@
 -- The order of a phy, made in a queue: past causes 1 to 12 it is the levels, level by level.
 use Prim.Native.Nat.{ℕ, zero, suc, _+_, _-_, _*_, _≤_, _<_}
 use mathlib.Core.Path.{_≡_, refl, sym, _∙_, ap, subst, subst₂}
-use mathlib.Core.Bool.{Bool, true, false, not, _||_}
+use mathlib.Core.Bool.{Bool, true, false, not, _||_, _&&_}
 use mathlib.Core.Logic.{inl, inr, ⊎-elim}
 use mathlib.Core.List.{List, [], _∷_, _++_, flatMap, append-nil, append-assoc}
 use native.Mathlib.Omega.{arith}
@@ -10,7 +10,8 @@ use lib.Seq.{take-all, getD-take, length-take-le}
 use lib.Dec.{T, eqb, eqb→eq, not-T}
 use Rattle.wiring.specs.declared.Phy.{Phy}
 use Rattle.wiring.specs.Lists.{any, keep, isIn, In, Distinct}
-use Rattle.wiring.specs.Domain.{Domain, phyAt, addressOf, numberOf}
+use Rattle.wiring.specs.Domain.{Domain, phyAt, addressOf, routes, toExpander, numberOf}
+use Rattle.wiring.specs.Causes.{farPhy}
 use Rattle.wiring.proofs.Members.{T?, is-true, is-false, keep-more, in-flatMap, of-isIn}
 use Rattle.wiring.proofs.Wires.{Wired, far-below, far-is}
 use Rattle.wiring.specs.Tested.{Linked}
@@ -48,6 +49,10 @@ module _ (d : Domain) where
       ∙ ap (λ (m : List ℕ). x ∷ m)
       (ap (queue (t + length xs) d) (append-assoc xs ys (belowOnce d x)) ∙ queue-all xs (ys ++ belowOnce d x) t
       ∙ ap (λ (m : List ℕ). xs ++ queue t d m) (append-assoc ys (belowOnce d x) (flatMap (belowOnce d) xs)))
+
+-- the levels go on from no phy that is attached to no expander
+pub not-down : (d : Domain) (φ : Phy) → toExpander φ ≡ false → down d φ ≡ false
+not-down d φ h = ap (λ b. b && (routes 2 φ && not (routes 2 (farPhy d φ)))) h
 
 -- a phy where the levels do not go on has no order
 pub order-none : (d : Domain) (φ : Phy) → down d φ ≡ false → orderOf d φ ≡ []

@@ -47,7 +47,7 @@ module _ (d : Domain) (i : ℕ) where
   from-last h = rw (drop-of-length-le d h)
 
 module _ (d : Domain) where
-  sizes-append : (qs rs : List Place) → sizes d (qs ++ rs) ≡ sizes d qs + sizes d rs
+  pub sizes-append : (qs rs : List Place) → sizes d (qs ++ rs) ≡ sizes d qs + sizes d rs
   unfolding sizes
   sizes-append [] rs = omega arith
   sizes-append (q ∷ qs) rs = omega (arith, sizes-append qs rs)

@@ -8,4 +8,7 @@ pub mod Judge
 pub mod Tested
 pub mod Filling
 pub mod Refilling
+pub mod Replugging
+pub mod Retests
+pub mod Rewriting
 pub mod Words

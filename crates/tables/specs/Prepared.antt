@@ -8,10 +8,10 @@ use lib.ListN.{length, getD, take, drop, replicate}
 use lib.Dec.{T, eqb, ltb}
 use Rattle.wiring.specs.Frames.{Result, refused, good, then}
 use Rattle.wiring.specs.declared.Phy.{Phy}
-use Rattle.wiring.specs.Domain.{Domain, expanderAt, phyAt, addressOf, routes, attached}
+use Rattle.wiring.specs.Domain.{Domain, expanderAt, phyAt, addressOf, routes, attached, toExpander, numberOf}
 use Rattle.wiring.specs.Causes.{Place, places, firstOf}
 use Rattle.wiring.specs.Checks.{checkedIn}
-use Rattle.wiring.specs.Addresses.{IndexedFirst, lowestPhy}
+use Rattle.wiring.specs.Addresses.{farNumber, lowestPhy}
 use Rattle.tables.specs.Levels.{once, down, belowPhys, below}
 use Rattle.tables.specs.Entries.{Entries, putBefore}
 use Rattle.tables.specs.Filling.{withTables}
@@ -99,9 +99,13 @@ pub record FillRoom (d : Domain) (words bytes numbers : List ℕ) : Type 0 where
   pub below : 66 * length d ≤ length bytes
   pub order : 65 * length d < length numbers
 
--- φ is phy p of expander i, and who has the addresses of all slots is known
+-- the entries tell which expander each phy is attached to that is attached to one
+abbrev pub FarsKnown : Domain → List ℕ → Type 0
+FarsKnown d first = (i p : ℕ) → T (toExpander (phyAt d i p)) → farNumber d first i p ≡ numberOf d (addressOf (phyAt d i p))
+
+-- φ is phy p of expander i, and which expanders the phys are attached to is known
 pub record PhyIndexed (d : Domain) (first : List ℕ) (i p : ℕ) (φ : Phy) : Type 0 where
-  pub index : IndexedFirst d first
+  pub index : FarsKnown d first
   pub phy : φ ≡ phyAt d i p
 
 -- φ, phy p of expander i, gives its word to the own list, by the lowest phy with its address

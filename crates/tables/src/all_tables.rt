@@ -15,8 +15,8 @@ ghost use Rattle.wiring.specs.Causes.{place, placesFrom};
 ghost use Rattle.wiring.specs.Rows.{domainIn};
 ghost use Rattle.tables.specs.Tables.{tablePlaces, size, sizes, needed};
 ghost use Rattle.tables.specs.Filling.{placesAt, withTables, Put};
-ghost use Rattle.tables.specs.Prepared.{OwnHeld, BelowHeld, orderOf, ownTablesOf, ownTables, FillRoom, Fillable};
-ghost use Rattle.wiring.specs.Addresses.{IndexedFirst, Indexed};
+ghost use Rattle.tables.specs.Prepared.{FarsKnown, OwnHeld, BelowHeld, orderOf, ownTablesOf, ownTables, FillRoom, Fillable};
+ghost use Rattle.wiring.specs.Addresses.{Indexed};
 
 // Is phy p of expander i a non-vacant table phy?
 pub(crate) fn is_table(rows: &[u64], i: ExpanderNumber, p: PhyId) -> bool
@@ -120,7 +120,7 @@ fn put_tables(
     words: &mut [u64],
     at: usize,
 ) -> usize
-    requires { ⌜ IndexedFirst (domainIn (now rows)) (now first) × (OwnHeld (domainIn (now rows)) (now lists) × (BelowHeld (domainIn (now rows)) (now below) × ((65 * length (domainIn (now rows)) < length (now order))
+    requires { ⌜ FarsKnown (domainIn (now rows)) (now first) × (OwnHeld (domainIn (now rows)) (now lists) × (BelowHeld (domainIn (now rows)) (now below) × ((65 * length (domainIn (now rows)) < length (now order))
         × (Fillable (domainIn (now rows)) × (at + sizes (domainIn (now rows)) (placesAt (domainIn (now rows)) (i .0)) ≤ length (now words)))))) ⌝ }
     ensures { λ r. ⌜ Put (now (words .entry)) (now (words .exit)) at r
         (ownTablesOf (domainIn (now (rows .entry))) (placesAt (domainIn (now (rows .entry))) (i .0))) ⌝ }

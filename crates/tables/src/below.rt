@@ -11,14 +11,13 @@ ghost use Prim.Native.Nat.{_*_, _≤_};
 ghost use lib.ListN.{length};
 ghost use Rattle.wiring.specs.Lists.{isIn};
 ghost use Rattle.wiring.specs.Domain.{phyAt};
-ghost use Rattle.wiring.specs.Addresses.{IndexedFirst};
 ghost use Rattle.wiring.specs.Rows.{domainIn};
 ghost use Rattle.tables.specs.Levels.{belowPhys};
 ghost use Rattle.tables.specs.Filling.{Grown, Added};
-ghost use Rattle.tables.specs.Prepared.{belowOnce, BelowHeld};
+ghost use Rattle.tables.specs.Prepared.{FarsKnown, belowOnce, BelowHeld};
 
 // Is the number among these?
-fn has_number(l: &[u8], j: ExpanderNumber) -> bool
+pub(crate) fn has_number(l: &[u8], j: ExpanderNumber) -> bool
     ensures { λ r. ⌜ r ≡ isIn (j .0) (now (l .entry)) ⌝ }
 {
     let mut i: usize = 0;
@@ -57,7 +56,7 @@ fn add_phy(
     part: &mut [u8],
     m: usize,
 ) -> usize
-    requires { ⌜ IndexedFirst (domainIn (now rows)) (now first) × ((f ≡ phyAt (domainIn (now rows)) (i .0) (p .0)) × (m ≤ length (now part))) ⌝ }
+    requires { ⌜ FarsKnown (domainIn (now rows)) (now first) × ((f ≡ phyAt (domainIn (now rows)) (i .0) (p .0)) × (m ≤ length (now part))) ⌝ }
     ensures { λ r. ⌜ Added (now (part .entry)) (now (part .exit)) m r (belowPhys (domainIn (now (rows .entry))) (f ∷ [])) ⌝ }
 {
     if !wide::is_down(rows, first, i, p, f) {
@@ -74,7 +73,7 @@ fn collect_below(
     i: ExpanderNumber,
     part: &mut [u8],
 ) -> usize
-    requires { ⌜ IndexedFirst (domainIn (now rows)) (now first) × (length (now part) ≡ 65) ⌝ }
+    requires { ⌜ FarsKnown (domainIn (now rows)) (now first) × (length (now part) ≡ 65) ⌝ }
     ensures { λ r. ⌜ Grown (now (part .entry)) (now (part .exit)) r (belowOnce (domainIn (now (rows .entry))) (i .0)) ⌝ }
 {
     let n = wiring::phy_count(rows, i);
@@ -93,7 +92,7 @@ fn collect_below(
 
 // Writes the list of each expander.
 pub(crate) fn put_below(rows: &[u64], first: &[u16], low: &[u8], below: &mut [u8])
-    requires { ⌜ IndexedFirst (domainIn (now rows)) (now first) × (66 * length (domainIn (now rows)) ≤ length (now below)) ⌝ }
+    requires { ⌜ FarsKnown (domainIn (now rows)) (now first) × (66 * length (domainIn (now rows)) ≤ length (now below)) ⌝ }
     ensures { λ _. ⌜ BelowHeld (domainIn (now (rows .entry))) (now (below .exit)) ⌝ }
 {
     let n = wiring::expander_count(rows);

@@ -6,6 +6,9 @@ mod filling;
 mod order;
 mod overlong;
 mod own;
+mod refilling;
+mod replugging;
+mod retesting;
 mod surveys;
 mod wide;
 mod word_places;
@@ -17,6 +20,7 @@ pub use calls::give_rows;
 pub use calls::give_tables;
 pub use calls::judge;
 pub use calls::judge_rows;
+pub use replugging::replug_rows;
 pub use surveys::needed;
 pub use surveys::word_place;
 
@@ -70,6 +74,12 @@ pub enum Judgement {
 
 // What the table call answers: the number of tables, and of words.
 pub enum TablesGiven {
+    Refused(Refusal),
+    Counts(u32, u32),
+}
+
+// What a drive plugged or pulled over rows answers: the number of tables touched, and of words changed.
+pub enum Replugged {
     Refused(Refusal),
     Counts(u32, u32),
 }

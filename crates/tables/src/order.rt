@@ -91,7 +91,7 @@ pub(crate) fn put_order(
 }
 
 // The same, where the first n numbers of `order` are the order of g, phy q of expander i, which is kept where f is
-// on g's link.
+// on g's link. Of a phy that is attached to no expander the order is empty.
 pub(crate) fn order_for(
     rows: &[u64],
     first: &[u16],
@@ -108,6 +108,9 @@ pub(crate) fn order_for(
         × (BelowHeld (domainIn (now rows)) (now below) × ((65 * length (domainIn (now rows)) < length (now order)) × Grown (now order) (now order) n (orderOf (domainIn (now rows)) g))) ⌝ }
     ensures { λ r. ⌜ Grown (now (order .entry)) (now (order .exit)) r (orderOf (domainIn (now (rows .entry))) f) ⌝ }
 {
+    if wiring::phy_type(f) < 2 {
+        return 0;
+    }
     if wide::are_one_link(rows, first, i, p, f, q, g) {
         return n;
     }

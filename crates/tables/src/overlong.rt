@@ -17,10 +17,10 @@ ghost use Rattle.wiring.specs.Causes.{firstIn, firstOf};
 ghost use Rattle.wiring.specs.Checks.{checkAnswer};
 ghost use Rattle.wiring.specs.Domain.{phyAt};
 ghost use Rattle.wiring.specs.Rows.{domainIn};
-ghost use Rattle.wiring.specs.Addresses.{IndexedFirst, Indexed};
+ghost use Rattle.wiring.specs.Addresses.{Indexed};
 ghost use Rattle.tables.specs.Filling.{placesAt};
 ghost use Rattle.tables.specs.Own.{own};
-ghost use Rattle.tables.specs.Prepared.{Counted, BelowHeld, overOwn, Told};
+ghost use Rattle.tables.specs.Prepared.{FarsKnown, Counted, BelowHeld, overOwn, Told};
 
 // How many words the own lists of these expanders have.
 fn count_words(rows: &[u64], counts: &[u8], order: &[u8]) -> usize
@@ -51,7 +51,7 @@ fn is_overlong(
     f: Phy,
     order: &mut [u8],
 ) -> bool
-    requires { ⌜ IndexedFirst (domainIn (now rows)) (now first) × (Counted (domainIn (now rows)) (now counts) × (BelowHeld (domainIn (now rows)) (now below) × (((65 * length (domainIn (now rows)) < length (now order)) × (length (now order) ≤ 4161))
+    requires { ⌜ FarsKnown (domainIn (now rows)) (now first) × (Counted (domainIn (now rows)) (now counts) × (BelowHeld (domainIn (now rows)) (now below) × (((65 * length (domainIn (now rows)) < length (now order)) × (length (now order) ≤ 4161))
         × ((f ≡ phyAt (domainIn (now rows)) (i .0) (p .0)) × (Told (domainIn (now rows)) (i .0) (p .0) (q .0) × ((k : ℕ) → k < p .0 → overOwn (domainIn (now rows)) (i .0) k ≡ false)))))) ⌝ }
     ensures { λ r. ⌜ r ≡ overOwn (domainIn (now (rows .entry))) (i .0) (p .0) ⌝ }
 {
@@ -75,7 +75,7 @@ fn overlong_phy(
     i: ExpanderNumber,
     order: &mut [u8],
 ) -> Check
-    requires { ⌜ IndexedFirst (domainIn (now rows)) (now first) × (Counted (domainIn (now rows)) (now counts) × (BelowHeld (domainIn (now rows)) (now below) × ((65 * length (domainIn (now rows)) < length (now order)) × (length (now order) ≤ 4161)))) ⌝ }
+    requires { ⌜ FarsKnown (domainIn (now rows)) (now first) × (Counted (domainIn (now rows)) (now counts) × (BelowHeld (domainIn (now rows)) (now below) × ((65 * length (domainIn (now rows)) < length (now order)) × (length (now order) ≤ 4161)))) ⌝ }
     ensures { λ r. ⌜ checkAnswer (domainIn (now (rows .entry))) r
         ≡ firstIn 14 (overOwn (domainIn (now (rows .entry)))) (placesAt (domainIn (now (rows .entry))) (i .0)) (domainIn (now (rows .entry))) ⌝ }
 {
@@ -96,28 +96,23 @@ fn overlong_phy(
     Check::Passed
 }
 
-// The lowest such phy, by expander and then phy, with room for the lists of the expanders below each, and
-// for the levels of one phy.
-fn overlong_in(rows: &[u64], first: &[u16], low: &[u8], below: &mut [u8], order: &mut [u8]) -> Check
-    requires { ⌜ Indexed (domainIn (now rows)) (now first) (now low) × ((66 * length (domainIn (now rows)) ≤ length (now below)) × ((65 * length (domainIn (now rows)) < length (now order)) × (length (now order) ≤ 4161))) ⌝ }
+// The lowest such phy, by expander and then phy.
+pub(crate) fn overlong_each(
+    rows: &[u64],
+    first: &[u16],
+    low: &[u8],
+    counts: &[u8],
+    below: &[u8],
+    order: &mut [u8],
+) -> Check
+    requires { ⌜ FarsKnown (domainIn (now rows)) (now first) × (Counted (domainIn (now rows)) (now counts) × (BelowHeld (domainIn (now rows)) (now below) × ((65 * length (domainIn (now rows)) < length (now order)) × (length (now order) ≤ 4161)))) ⌝ }
     ensures { λ r. ⌜ checkAnswer (domainIn (now (rows .entry))) r
         ≡ firstOf 14 (overOwn (domainIn (now (rows .entry)))) (domainIn (now (rows .entry))) ⌝ }
 {
-    let mut counts = [0u8; 64];
-    own::put_counts(rows, low, &mut counts[..]);
-    below::put_below(rows, first, low, below);
     let n = wiring::expander_count(rows);
     let mut i: u8 = 0;
     while i < n {
-        match overlong_phy(
-            rows,
-            first,
-            low,
-            &counts[..],
-            below,
-            ExpanderNumber(i),
-            order,
-        ) {
+        match overlong_phy(rows, first, low, counts, below, ExpanderNumber(i), order) {
             Check::Refused(r) => {
                 return Check::Refused(r);
             }
@@ -127,6 +122,18 @@ fn overlong_in(rows: &[u64], first: &[u16], low: &[u8], below: &mut [u8], order:
         }
     }
     Check::Passed
+}
+
+// The same, with room for the lists of the expanders below each, and for the levels of one phy.
+fn overlong_in(rows: &[u64], first: &[u16], low: &[u8], below: &mut [u8], order: &mut [u8]) -> Check
+    requires { ⌜ Indexed (domainIn (now rows)) (now first) (now low) × ((66 * length (domainIn (now rows)) ≤ length (now below)) × ((65 * length (domainIn (now rows)) < length (now order)) × (length (now order) ≤ 4161))) ⌝ }
+    ensures { λ r. ⌜ checkAnswer (domainIn (now (rows .entry))) r
+        ≡ firstOf 14 (overOwn (domainIn (now (rows .entry)))) (domainIn (now (rows .entry))) ⌝ }
+{
+    let mut counts = [0u8; 64];
+    own::put_counts(rows, low, &mut counts[..]);
+    below::put_below(rows, first, low, below);
+    overlong_each(rows, first, low, &counts[..], below, order)
 }
 
 // The lowest such phy, by expander and then phy. Few expanders need little room.

@@ -58,7 +58,7 @@ fn is_own(low: &[u8], i: ExpanderNumber, p: PhyId, f: Phy) -> bool
 
 // Writes a phy's word after the first m of `part`, where it belongs to the own list (`mine`), and yields
 // how many there are then.
-fn put_word(part: &mut [u64], m: usize, mine: bool, f: Phy) -> usize
+pub(crate) fn put_word(part: &mut [u64], m: usize, mine: bool, f: Phy) -> usize
     requires { ⌜ m < length (now part) ⌝ }
     ensures { λ r. ⌜ Grown (now (part .entry)) (now (part .exit)) r (take m (now (part .entry)) ++ cond mine (word f ∷ []) []) ⌝ }
 {

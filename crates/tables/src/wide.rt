@@ -61,6 +61,9 @@ pub(crate) fn lower_phy(
     requires { ⌜ PhyIndexed (domainIn (now rows)) (now first) (i .0) (p .0) f × (p .0 < length (expanderAt (domainIn (now rows)) (i .0) .phys)) ⌝ }
     ensures { λ r. ⌜ Told (domainIn (now (rows .entry))) (i .0) (p .0) (r .0) ⌝ }
 {
+    if wiring::phy_attribute(f) != 2 {
+        return PhyId(255);
+    }
     let q = wiring::lowest_phy(low, i, p);
     if q.0 >= p.0 {
         return PhyId(255);

@@ -20,7 +20,7 @@ enum Sought {
 }
 
 // How many words the table of phy p of expander i has; 0 where that is no table phy.
-fn size_at(rows: &[u64], i: ExpanderNumber, p: PhyId) -> u64
+pub(crate) fn size_at(rows: &[u64], i: ExpanderNumber, p: PhyId) -> u64
     ensures { λ r. ⌜ (r ≡ size (domainIn (now (rows .entry))) (place (i .0) (p .0))) × (r < 65536) ⌝ }
 {
     if !is_table(rows, i, p) {

@@ -13,6 +13,7 @@ use Rattle.tables.specs.Filling.{placesAt, overlay}
 use Rattle.tables.specs.Prepared.{ownTablesOf, ownTables}
 use Rattle.tables.proofs.Puts.{from-next, from-last, from-sizes, put-go, put-long, put-end, put-all}
 use borrow.Author.Needs.{needs}
+use Rattle.tables.proofs.Linked.{fars-known}
 use Rattle.tables.proofs.all_tables.put_all_in.Statement.{statement}
 use Rattle.tables.proofs.all_tables.put_all_in.Tie as tie
 
@@ -31,7 +32,7 @@ put-owns-requires : tie.Need-put-owns-requires Inv-loop μ-loop
 put-owns-requires c κs = ((c .before .before .before .before .before .before .before .before .pre) .0 .lows, (c .before .before .before .before .before .before .before .before .pre) .1 .0 .lists)
 
 put-below-requires : tie.Need-put-below-requires Inv-loop μ-loop
-put-below-requires c κs = ((c .before .before .before .before .before .before .before .before .before .before .before .before .pre) .0 .firsts, (c .before .before .before .before .before .before .before .before .before .before .before .before .pre) .1 .0 .below)
+put-below-requires c κs = (fars-known _ _ ((c .before .before .before .before .before .before .before .before .before .before .before .before .pre) .0 .firsts), (c .before .before .before .before .before .before .before .before .before .before .before .before .pre) .1 .0 .below)
 
 expander-count-requires : tie.Need-expander-count-requires Inv-loop μ-loop
 expander-count-requires c κs = search needs
@@ -43,7 +44,7 @@ put-tables-requires : tie.Need-put-tables-requires Inv-loop μ-loop
 put-tables-requires c κs =
     let f = (c .before .before .before .before .before .before .before .before .before .before .before .before .before .before .before .before .before .before .before .before .before .before .pre) .1 .1 in
     let s = from-sizes (domainIn ((c .before .before .before .before .before .before .before .before .before .before .before .before .before .before .before .before .before .before .before .before .before .before .args) .rows .now)) ((c .before .before .before .before .before .loop) .i) (omega arith) in
-    ((c .before .before .before .before .before .before .before .before .before .before .before .before .before .before .before .before .before .before .before .before .before .before .pre) .0 .firsts, ((c .before .before .before .before .before .before .before .before .before .before .before .before .before .put-owns) .ensures, ((c .before .before .before .before .before .before .before .before .before .put-below) .ensures, (omega (arith, (c .before .before .before .before .before .before .before .before .before .before .before .before .before .before .before .before .before .before .before .before .before .before .pre) .1 .0 .order, (c .before .before .before .before .before .loop) .inv .1 .0), (f .0, omega arith)))))
+    (fars-known _ _ ((c .before .before .before .before .before .before .before .before .before .before .before .before .before .before .before .before .before .before .before .before .before .before .pre) .0 .firsts), ((c .before .before .before .before .before .before .before .before .before .before .before .before .before .put-owns) .ensures, ((c .before .before .before .before .before .before .before .before .before .put-below) .ensures, (omega (arith, (c .before .before .before .before .before .before .before .before .before .before .before .before .before .before .before .before .before .before .before .before .before .before .pre) .1 .0 .order, (c .before .before .before .before .before .loop) .inv .1 .0), (f .0, omega arith)))))
 
 add-i : tie.Need-add-i Inv-loop μ-loop
 add-i c = omega arith

@@ -1,77 +1,32 @@
--- overlong_in meets its contract. The loop's invariant: no phy of the expanders below i has too long a list.
-use Prim.Native.Nat.{_-_, _≤_}
-use mathlib.Core.Path.{_≡_, refl, _∙_}
-use lib.ListN.{length, drop}
-use Rattle.wiring.specs.Domain.{Domain}
-use Rattle.wiring.specs.Causes.{placesFrom, firstIn, firstOf}
-use Rattle.wiring.specs.Rows.{domainIn}
-use Rattle.wiring.proofs.InRows.{domain-few}
-use Rattle.wiring.proofs.Searches.{from-next, from-end}
-use Rattle.tables.specs.Prepared.{overOwn}
+-- overlong_in meets its contract: the own lists are counted, the expanders below each collected, and then every phy is tested.
 use borrow.Author.Needs.{needs}
-use native.Mathlib.Omega.{arith}
+use Rattle.tables.proofs.Linked.{fars-known}
 use Rattle.tables.proofs.overlong.overlong_in.Statement.{statement}
 use Rattle.tables.proofs.overlong.overlong_in.Tie as tie
 
-abbrev Inv-loop : tie.InvT-loop
-Inv-loop rows first low below order₀ counts n i₀ order i = (i ≤ n) × ((length order ≡ length order₀) × (firstIn 14 (overOwn (domainIn rows)) (placesFrom i (drop i (domainIn rows))) (domainIn rows) ≡ firstOf 14 (overOwn (domainIn rows)) (domainIn rows)))
+slice-aggregate-put-counts : tie.Need-slice-aggregate-put-counts
+slice-aggregate-put-counts c = search needs
 
-abbrev μ-loop : tie.MeasureT-loop
-μ-loop rows first low below order₀ counts n i₀ order i = n - i
+put-counts-requires : tie.Need-put-counts-requires
+put-counts-requires c κs = search needs
 
-slice-aggregate-put-counts : tie.Need-slice-aggregate-put-counts Inv-loop μ-loop
-slice-aggregate-put-counts c = refl
+put-below-requires : tie.Need-put-below-requires
+put-below-requires c κs = (fars-known _ _ ((c .before .before .before .before .before .before .before .before .before .pre) .0 .firsts), (c .before .before .before .before .before .before .before .before .before .pre) .1 .0)
 
-put-counts-requires : tie.Need-put-counts-requires Inv-loop μ-loop
-put-counts-requires c κs = ((c .before .before .before .before .before .before .pre) .0 .lows, domain-few ((c .before .before .before .before .before .before .args) .rows .now))
+slice-aggregate-overlong-each : tie.Need-slice-aggregate-overlong-each
+slice-aggregate-overlong-each c = search needs
 
-put-below-requires : tie.Need-put-below-requires Inv-loop μ-loop
-put-below-requires c κs = ((c .before .before .before .before .before .before .before .before .before .pre) .0 .firsts, (c .before .before .before .before .before .before .before .before .before .pre) .1 .0)
+overlong-each-requires : tie.Need-overlong-each-requires
+overlong-each-requires c κs = (fars-known _ _ ((c .before .before .before .before .before .before .before .before .before .before .before .before .before .before .before .pre) .0 .firsts), ((c .before .before .before .before .before .before .before .before .put-counts) .ensures, ((c .before .before .before .before .before .put-below) .ensures, ((c .before .before .before .before .before .before .before .before .before .before .before .before .before .before .before .pre) .1 .1 .0, (c .before .before .before .before .before .before .before .before .before .before .before .before .before .before .before .pre) .1 .1 .1))))
 
-expander-count-requires : tie.Need-expander-count-requires Inv-loop μ-loop
-expander-count-requires c κs = search needs
+same-length : tie.Need-same-length
+same-length c = search needs
 
-loop-holds : tie.Need-loop-holds Inv-loop μ-loop
-loop-holds c = (omega arith, (refl, refl))
+same-length-2 : tie.Need-same-length-2
+same-length-2 c = search needs
 
-slice-aggregate-overlong-phy : tie.Need-slice-aggregate-overlong-phy Inv-loop μ-loop
-slice-aggregate-overlong-phy c = search needs
-
-overlong-phy-requires : tie.Need-overlong-phy-requires Inv-loop μ-loop
-overlong-phy-requires c κs = ((c .before .before .before .before .before .before .before .before .before .before .before .before .before .before .before .before .before .before .pre) .0 .firsts, ((c .before .before .before .before .before .before .before .before .before .before .before .put-counts) .ensures, ((c .before .before .before .before .before .before .before .before .put-below) .ensures, (omega (arith, (c .before .before .before .before .loop) .inv .1 .0, (c .before .before .before .before .before .before .before .before .before .before .before .before .before .before .before .before .before .before .pre) .1 .1 .0), omega (arith, (c .before .before .before .before .loop) .inv .1 .0, (c .before .before .before .before .before .before .before .before .before .before .before .before .before .before .before .before .before .before .pre) .1 .1 .1)))))
-
-enum-known-r : tie.Need-enum-known-r Inv-loop μ-loop
-enum-known-r c = search needs
-
-same-length : tie.Need-same-length Inv-loop μ-loop
-same-length c = (c .before .before .before .before .before .before .before .before .before .before .before .before .before .before .put-below) .kept .1 .1 .1 .0
-
-same-length-2 : tie.Need-same-length-2 Inv-loop μ-loop
-same-length-2 c = (c .before .before .before .before .before .overlong-phy) .kept .1 .1 .1 .1 .1 .1 .0 ∙ (c .before .before .before .before .before .before .before .before .before .before .loop) .inv .1 .0
-
-returns : tie.Need-returns Inv-loop μ-loop
-returns c = from-next 14 (overOwn (domainIn ((c .before .before .before .before .before .before .before .before .before .before .before .before .before .before .before .before .before .before .before .before .before .before .before .before .args) .rows .now))) (domainIn ((c .before .before .before .before .before .before .before .before .before .before .before .before .before .before .before .before .before .before .before .before .before .before .before .before .args) .rows .now)) ((c .before .before .before .before .before .before .before .before .before .before .loop) .i) ((c .before .before .before .before .before .before .before .before .before .before .loop) .inv .1 .1) ((c .before .before .before .before .before .overlong-phy) .ensures) ((c .before .r) .given .1) (omega arith)
-
-enum-told : tie.Need-enum-told Inv-loop μ-loop
-enum-told c = search needs
-
-add-i : tie.Need-add-i Inv-loop μ-loop
-add-i c = omega arith
-
-loop-less : tie.Need-loop-less Inv-loop μ-loop
-loop-less c = omega arith
-
-loop-again : tie.Need-loop-again Inv-loop μ-loop
-loop-again c = (omega arith, ((c .before .before .before .before .overlong-phy) .kept .1 .1 .1 .1 .1 .1 .0 ∙ (c .before .before .before .before .before .before .before .before .before .loop) .inv .1 .0, from-next 14 (overOwn (domainIn ((c .before .before .before .before .before .before .before .before .before .before .before .before .before .before .before .before .before .before .before .before .before .before .before .args) .rows .now))) (domainIn ((c .before .before .before .before .before .before .before .before .before .before .before .before .before .before .before .before .before .before .before .before .before .before .before .args) .rows .now)) ((c .before .before .before .before .before .before .before .before .before .loop) .i) ((c .before .before .before .before .before .before .before .before .before .loop) .inv .1 .1) ((c .before .before .before .before .overlong-phy) .ensures) ((c .enum-told) .given .1) (omega arith)))
-
-same-length-3 : tie.Need-same-length-3 Inv-loop μ-loop
-same-length-3 c = (c .before .before .before .before .before .put-below) .kept .1 .1 .1 .0
-
-same-length-4 : tie.Need-same-length-4 Inv-loop μ-loop
-same-length-4 c = (c .before .loop) .inv .1 .0
-
-returns-2 : tie.Need-returns-2 Inv-loop μ-loop
-returns-2 c = from-end 14 (overOwn (domainIn ((c .before .before .before .before .before .before .before .before .before .before .before .before .before .before .before .args) .rows .now))) (domainIn ((c .before .before .before .before .before .before .before .before .before .before .before .before .before .before .before .args) .rows .now)) ((c .before .loop) .i) ((c .before .loop) .inv .1 .1) (omega arith)
+returns : tie.Need-returns
+returns c = search needs
 
 pub overlong-in-spec : {M : Type 1} → statement M
-overlong-in-spec = tie.close (tie.spec Inv-loop μ-loop slice-aggregate-put-counts put-counts-requires put-below-requires expander-count-requires loop-holds slice-aggregate-overlong-phy overlong-phy-requires enum-known-r same-length same-length-2 returns enum-told add-i loop-less loop-again same-length-3 same-length-4 returns-2)
+overlong-in-spec = tie.close (tie.spec slice-aggregate-put-counts put-counts-requires put-below-requires slice-aggregate-overlong-each overlong-each-requires same-length same-length-2 returns)

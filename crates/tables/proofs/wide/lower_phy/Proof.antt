@@ -9,24 +9,30 @@ use native.Mathlib.Omega.{arith}
 use Rattle.tables.proofs.wide.lower_phy.Statement.{statement}
 use Rattle.tables.proofs.wide.lower_phy.Tie as tie
 
-lowest-phy-requires : tie.Need-lowest-phy-requires
-lowest-phy-requires c κs = search needs
+phy-attribute-requires : tie.Need-phy-attribute-requires
+phy-attribute-requires c κs = search needs
 
 returns : tie.Need-returns
 returns c = λ h. absurd (omega (arith, h))
+
+lowest-phy-requires : tie.Need-lowest-phy-requires
+lowest-phy-requires c κs = search needs
+
+returns-2 : tie.Need-returns-2
+returns-2 c = λ h. absurd (omega (arith, h))
 
 phy-below-requires : tie.Need-phy-below-requires
 phy-below-requires c κs = search needs
 
 are-one-link-requires : tie.Need-are-one-link-requires
-are-one-link-requires c κs = ((c .before .before .before .before .before .before .before .before .pre) .0, record { index = (c .before .before .before .before .before .before .before .before .pre) .0 .index; phy = (c .phy-below) .ensures ∙ phy-held _ _ _ (omega (arith, (c .before .before .before .before .before .before .before .before .pre) .1)) })
-
-returns-2 : tie.Need-returns-2
-returns-2 c =
-    λ h. linked-at (domainIn ((c .before .before .before .before .before .before .before .before .before .before .args) .rows .now)) ((c .before .before .before .before .before .before .before .before .before .before .pre) .0 .phy) ((c .before .before .phy-below) .ensures ∙ phy-held _ _ _ (omega (arith, (c .before .before .before .before .before .before .before .before .before .before .pre) .1))) ((c .before .are-one-link) .ensures) ((c .if2) .taken)
+are-one-link-requires c κs = ((c .before .before .before .before .before .before .before .before .before .before .pre) .0, record { index = (c .before .before .before .before .before .before .before .before .before .before .pre) .0 .index; phy = (c .phy-below) .ensures ∙ phy-held _ _ _ (omega (arith, (c .before .before .before .before .before .before .before .before .before .before .pre) .1)) })
 
 returns-3 : tie.Need-returns-3
-returns-3 c = λ h. absurd (omega (arith, h))
+returns-3 c =
+    λ h. linked-at (domainIn ((c .before .before .before .before .before .before .before .before .before .before .before .before .args) .rows .now)) ((c .before .before .before .before .before .before .before .before .before .before .before .before .pre) .0 .phy) ((c .before .before .phy-below) .ensures ∙ phy-held _ _ _ (omega (arith, (c .before .before .before .before .before .before .before .before .before .before .before .before .pre) .1))) ((c .before .are-one-link) .ensures) ((c .if3) .taken)
+
+returns-4 : tie.Need-returns-4
+returns-4 c = λ h. absurd (omega (arith, h))
 
 pub lower-phy-spec : {M : Type 1} → statement M
-lower-phy-spec = tie.close (tie.spec lowest-phy-requires returns phy-below-requires are-one-link-requires returns-2 returns-3)
+lower-phy-spec = tie.close (tie.spec phy-attribute-requires returns lowest-phy-requires returns-2 phy-below-requires are-one-link-requires returns-3 returns-4)

@@ -1,12 +1,11 @@
 -- An event leaves addresses, numbers of phys, R, attributes and cables as they are, and so all levels, and where tables stand.
-use mathlib.Core.Path.{_≡_, refl, sym, ap, ap₂, subst, _∙_}
+use mathlib.Core.Path.{_≡_, refl, sym, ap, ap₂, _∙_}
 use mathlib.Core.Logic.{inl, inr, _≢_, by-cases}
 use mathlib.Core.List.{List, [], _∷_, _++_, map, flatMap}
 use mathlib.Core.Bool.{Bool, true, false, cond, not, _&&_}
-use Prim.Native.Nat.{ℕ, zero, suc, _+_, _≤_, _<_}
-use native.Mathlib.Omega.{arith}
-use native.Mathlib.Decide.{ℕ-discrete, decLt}
-use lib.ListN.{length, getD, take, drop, set, length-set, List·getD-eq-default}
+use Prim.Native.Nat.{ℕ, zero, suc, _+_, _<_}
+use native.Mathlib.Decide.{ℕ-discrete}
+use lib.ListN.{length, getD, take, drop, set, length-set}
 use lib.Seq.{getD-set-same, getD-set-other}
 use lib.Dec.{T, eqb, leb, T-not}
 use Rattle.wiring.specs.declared.Phy.{Phy}
@@ -17,11 +16,12 @@ use Rattle.wiring.specs.Causes.{Place, phyPlaces, placesFrom, places, farPhy}
 use Rattle.wiring.specs.PhySet.{withPhy, setPhy}
 use Rattle.wiring.proofs.Members.{is-false, keep-same}
 use Rattle.wiring.proofs.Wires.{phy-range, expander-range}
+use Rattle.tables.proofs.Orders.{not-down}
 use Rattle.tables.specs.Levels.{once, down, belowPhys, below, nextLevel, levelsFrom, levels}
 use Rattle.tables.specs.Tables.{tablePlaces, size, sizes, needed, offsetIn, stretch}
 use Rattle.tables.specs.Own.{ownFrom, own}
 use Rattle.tables.specs.Refilling.{touched}
-use Rattle.events.specs.Events.{pluggable, replug}
+use Rattle.tables.specs.Replugging.{pluggable, replug}
 
 module _ {A B : Type 0} where
   pub flatMap-same : (f g : A → List B) (l : List A) → ((a : A) → In a l → f a ≡ g a) → flatMap f l ≡ flatMap g l
@@ -46,6 +46,11 @@ pub replug-routes : (a k : ℕ) (φ : Phy) → routes k (replug a φ) ≡ routes
 replug-routes a k (Vacant r) = refl
 replug-routes a k (Present f) = refl
 
+-- and then bears the event's address
+replug-address : (a : ℕ) (φ : Phy) → T (pluggable φ) → addressOf (replug a φ) ≡ a
+replug-address a (Vacant r) t = absurd t
+replug-address a (Present f) t = refl
+
 number-set : (d : Domain) (e : ℕ) (y : Expander) (s : ℕ) → y .address ≡ expanderAt d e .address → numberOf (set d e y) s ≡ numberOf d s
 unfolding numberOf
 number-set [] e y s h = refl
@@ -57,10 +62,6 @@ unfolding placesFrom
 placesFrom-set [] k e y h = refl
 placesFrom-set (x ∷ d) k zero y h = ap (λ v. phyPlaces k 0 v ++ placesFrom (k + 1) d) h
 placesFrom-set (x ∷ d) k (suc e) y h = ap (λ v. phyPlaces k 0 (length (x .phys)) ++ v) (placesFrom-set d (k + 1) e y h)
-
--- the levels go on from no phy that is attached to no expander
-not-down : (d : Domain) (φ : Phy) → toExpander φ ≡ false → down d φ ≡ false
-not-down d φ h = ap (λ b. b && (routes 2 φ && not (routes 2 (farPhy d φ)))) h
 
 belowPhys-same : (d d′ : Domain) (φs : List Phy) → ((s : ℕ) → numberOf d′ s ≡ numberOf d s) → ((φ : Phy) → down d′ φ ≡ down d φ) → belowPhys d′ φs ≡ belowPhys d φs
 unfolding belowPhys keep
@@ -122,12 +123,20 @@ module _ (d : Domain) (e q a : ℕ) (f : T (pluggable (phyAt d e q))) where
   places-same = placesFrom-set d 0 e (withPhy (expanderAt d e) q ψ) (length-set (expanderAt d e .phys) q ψ)
 
   -- every expander: as it was, or the one named
-  by-expander : {A : Type 0} (g : Expander → A) → g (withPhy (expanderAt d e) q ψ) ≡ g (expanderAt d e) → (i : ℕ) → g (expanderAt d′ i) ≡ g (expanderAt d i)
+  pub by-expander : {A : Type 0} (g : Expander → A) → g (withPhy (expanderAt d e) q ψ) ≡ g (expanderAt d e) → (i : ℕ) → g (expanderAt d′ i) ≡ g (expanderAt d i)
   by-expander g h i = by-cases (ℕ-discrete i e) (λ k. ap (λ v. g (expanderAt d′ v)) k ∙ ap g this ∙ h ∙ ap (λ v. g (expanderAt d v)) (sym k)) (λ k. ap g (other i k))
 
   pub indexes-same : (i : ℕ) → expanderAt d′ i .indexes ≡ expanderAt d i .indexes
   unfolding withPhy
   indexes-same = by-expander (λ x. x .indexes) refl
+
+  pub address-same : (i : ℕ) → expanderAt d′ i .address ≡ expanderAt d i .address
+  unfolding withPhy
+  address-same = by-expander (λ x. x .address) refl
+
+  pub configurable-same : (i : ℕ) → expanderAt d′ i .configurable ≡ expanderAt d i .configurable
+  unfolding withPhy
+  configurable-same = by-expander (λ x. x .configurable) refl
 
   -- every phy: as it was, or the one named
   pub by-phy : {A : Type 0} (g : Phy → A) → g ψ ≡ g (phyAt d e q) → (i p : ℕ) → g (phyAt d′ i p) ≡ g (phyAt d i p)
@@ -137,6 +146,17 @@ module _ (d : Domain) (e q a : ℕ) (f : T (pluggable (phyAt d e q))) where
       (by-cases (ℕ-discrete p q)
       (λ k. ap (λ v. g (getD (set (expanderAt d e .phys) q ψ) v (Vacant 0))) k ∙ ap g (getD-set-same (expanderAt d e .phys) q ψ (Vacant 0) phy-there) ∙ h ∙ ap (λ v. g (phyAt d e v)) (sym k))
       (λ k. ap g (getD-set-other (expanderAt d e .phys) q p ψ (Vacant 0) k))) i
+
+  -- a phy that does not bear the event's address is as it was
+  pub phy-kept : (i p : ℕ) → addressOf (phyAt d′ i p) ≢ a → phyAt d′ i p ≡ phyAt d i p
+  unfolding withPhy
+  phy-kept i p n =
+      by-cases (ℕ-discrete i e)
+      (λ k. by-cases (ℕ-discrete p q)
+      (λ l. absurd (n (ap₂ (λ x y. addressOf (phyAt d′ x y)) k l ∙ ap (λ x. addressOf (getD (x .phys) q (Vacant 0))) this
+      ∙ ap addressOf (getD-set-same (expanderAt d e .phys) q ψ (Vacant 0) phy-there) ∙ replug-address a (phyAt d e q) f)))
+      (λ l. ap (λ x. phyAt d′ x p) k ∙ ap (λ x. getD (x .phys) p (Vacant 0)) this ∙ getD-set-other (expanderAt d e .phys) q p ψ (Vacant 0) l ∙ ap (λ x. phyAt d x p) (sym k)))
+      (λ k. ap (λ x. getD (x .phys) p (Vacant 0)) (other i k))
 
   pub routes-same : (k i p : ℕ) → routes k (phyAt d′ i p) ≡ routes k (phyAt d i p)
   routes-same k = by-phy (routes k) (replug-routes a k (phyAt d e q))

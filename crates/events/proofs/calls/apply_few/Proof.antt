@@ -1,0 +1,71 @@
+-- apply_few meets its contract: the second byte states how many expanders there are, so the room is enough.
+use Prim.Native.Nat.{ℕ}
+use lib.ListN.{length-replicate}
+use Rattle.wiring.proofs.Read.{stated-expanders}
+use Rattle.wiring.proofs.Opening.{file-room}
+use native.Mathlib.Omega.{arith}
+use borrow.Author.Needs.{needs}
+use Rattle.events.proofs.calls.apply_few.Statement.{statement}
+use Rattle.events.proofs.calls.apply_few.Tie as tie
+
+stated-count-requires : tie.Need-stated-count-requires
+stated-count-requires c κs = search needs
+
+slice-aggregate-apply-in : tie.Need-slice-aggregate-apply-in
+slice-aggregate-apply-in c = search needs
+
+slice-aggregate-apply-in-2 : tie.Need-slice-aggregate-apply-in-2
+slice-aggregate-apply-in-2 c = search needs
+
+slice-aggregate-apply-in-3 : tie.Need-slice-aggregate-apply-in-3
+slice-aggregate-apply-in-3 c = search needs
+
+apply-in-requires : tie.Need-apply-in-requires
+apply-in-requires c κs =
+    let s = c .before .before .before .before .before .before .before .before .before .before .before .before in
+    let a = s .args in
+    let f = a .file .now in
+    file-room (a .setting) 2 f _ _ _ (λ d e. omega (arith, stated-expanders (a .setting) f d e, (c .before .before .before .before .before .before .before .stated-count) .ensures, (c .before .before .before .before .before .before .if1) .taken)) (omega (arith, length-replicate {A = ℕ} 516 0)) (omega (arith, length-replicate {A = ℕ} 320 0)) (omega (arith, length-replicate {A = ℕ} 256 0))
+
+same-length : tie.Need-same-length
+same-length c = search needs
+
+same-length-2 : tie.Need-same-length-2
+same-length-2 c = search needs
+
+same-length-3 : tie.Need-same-length-3
+same-length-3 c = search needs
+
+returns : tie.Need-returns
+returns c = search needs
+
+slice-aggregate-apply-in-4 : tie.Need-slice-aggregate-apply-in-4
+slice-aggregate-apply-in-4 c = search needs
+
+slice-aggregate-apply-in-5 : tie.Need-slice-aggregate-apply-in-5
+slice-aggregate-apply-in-5 c = search needs
+
+slice-aggregate-apply-in-6 : tie.Need-slice-aggregate-apply-in-6
+slice-aggregate-apply-in-6 c = search needs
+
+apply-in-requires-2 : tie.Need-apply-in-requires-2
+apply-in-requires-2 c κs =
+    let s = c .before .before .before .before .before .before .before .before .before .before .before .before in
+    let a = s .args in
+    let f = a .file .now in
+    file-room (a .setting) 8 f _ _ _ (λ d e. omega (arith, stated-expanders (a .setting) f d e, (s .pre))) (omega (arith, length-replicate {A = ℕ} 2064 0)) (omega (arith, length-replicate {A = ℕ} 1088 0)) (omega (arith, length-replicate {A = ℕ} 1024 0))
+
+same-length-4 : tie.Need-same-length-4
+same-length-4 c = search needs
+
+same-length-5 : tie.Need-same-length-5
+same-length-5 c = search needs
+
+same-length-6 : tie.Need-same-length-6
+same-length-6 c = search needs
+
+returns-2 : tie.Need-returns-2
+returns-2 c = search needs
+
+pub apply-few-spec : {M : Type 1} → statement M
+apply-few-spec = tie.close (tie.spec stated-count-requires slice-aggregate-apply-in slice-aggregate-apply-in-2 slice-aggregate-apply-in-3 apply-in-requires same-length same-length-2 same-length-3 returns slice-aggregate-apply-in-4 slice-aggregate-apply-in-5 slice-aggregate-apply-in-6 apply-in-requires-2 same-length-4 same-length-5 same-length-6 returns-2)

@@ -1,0 +1,34 @@
+-- replug_few meets its contract: the room is enough for 8 expanders.
+use Prim.Native.Nat.{ℕ}
+use native.Mathlib.Omega.{arith}
+use lib.ListN.{length-replicate}
+use borrow.Author.Needs.{needs}
+use Rattle.tables.proofs.replugging.replug_few.Statement.{statement}
+use Rattle.tables.proofs.replugging.replug_few.Tie as tie
+
+slice-aggregate-replug-in : tie.Need-slice-aggregate-replug-in
+slice-aggregate-replug-in c = search needs
+
+slice-aggregate-replug-in-2 : tie.Need-slice-aggregate-replug-in-2
+slice-aggregate-replug-in-2 c = search needs
+
+slice-aggregate-replug-in-3 : tie.Need-slice-aggregate-replug-in-3
+slice-aggregate-replug-in-3 c = search needs
+
+replug-in-requires : tie.Need-replug-in-requires
+replug-in-requires c κs = ((c .before .before .before .before .before .before .before .before .before .before .before .pre) .1 .0, ((record { lists = omega (arith, length-replicate {A = ℕ} 1032 0, (c .before .before .before .before .before .before .before .before .before .before .before .pre) .0); below = omega (arith, length-replicate {A = ℕ} 528 0, (c .before .before .before .before .before .before .before .before .before .before .before .pre) .0); order = omega (arith, length-replicate {A = ℕ} 521 0, (c .before .before .before .before .before .before .before .before .before .before .before .pre) .0) }, omega (arith, length-replicate {A = ℕ} 521 0)), (c .before .before .before .before .before .before .before .before .before .before .before .pre) .1 .1))
+
+same-length : tie.Need-same-length
+same-length c = search needs
+
+same-length-2 : tie.Need-same-length-2
+same-length-2 c = search needs
+
+same-length-3 : tie.Need-same-length-3
+same-length-3 c = search needs
+
+returns : tie.Need-returns
+returns c = search needs
+
+pub replug-few-spec : {M : Type 1} → statement M
+replug-few-spec = tie.close (tie.spec slice-aggregate-replug-in slice-aggregate-replug-in-2 slice-aggregate-replug-in-3 replug-in-requires same-length same-length-2 same-length-3 returns)

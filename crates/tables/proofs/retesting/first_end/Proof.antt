@@ -1,0 +1,62 @@
+-- first_end meets its contract. The loop's invariant: no phy below p is attached to such an end device.
+use Prim.Native.Nat.{ℕ, _-_, _≤_}
+use mathlib.Core.Path.{_≡_, sym, _∙_, ap}
+use native.Mathlib.Nat.{sub-zero}
+use Rattle.wiring.proofs.InRows.{phy-held}
+use Rattle.wiring.specs.Domain.{Domain}
+use Rattle.wiring.specs.Causes.{phyPlaces, firstIn}
+use Rattle.wiring.specs.Rows.{domainIn}
+use Rattle.wiring.proofs.Searches.{phy-stop, phy-go, phy-end}
+use Rattle.tables.specs.Filling.{placesAt}
+use Rattle.tables.specs.Retests.{isEnd, endsAt}
+use borrow.Author.Needs.{needs}
+use native.Mathlib.Omega.{arith}
+use Rattle.tables.proofs.retesting.first_end.Statement.{statement}
+use Rattle.tables.proofs.retesting.first_end.Tie as tie
+
+abbrev Inv-loop : tie.InvT-loop
+Inv-loop rows i s n p₀ p = (p ≤ n) × (firstIn 8 (endsAt s (domainIn rows)) (phyPlaces (i .0) p (n - p)) (domainIn rows) ≡ firstIn 8 (endsAt s (domainIn rows)) (placesAt (domainIn rows) (i .0)) (domainIn rows))
+
+abbrev μ-loop : tie.MeasureT-loop
+μ-loop rows i s n p₀ p = n - p
+
+phy-count-requires : tie.Need-phy-count-requires Inv-loop μ-loop
+phy-count-requires c κs = search needs
+
+loop-holds : tie.Need-loop-holds Inv-loop μ-loop
+loop-holds c =
+    let d : Domain = domainIn ((c .before .before .args) .rows .now) in
+    let e = sub-zero ((c .phy-count) .result) ∙ (c .phy-count) .ensures .0 in
+    (omega arith, ap (λ (k : ℕ). firstIn 8 (endsAt ((c .before .before .args) .s) d) (phyPlaces ((c .before .before .args) .i .0) 0 k) d) e)
+
+phy-below-requires : tie.Need-phy-below-requires Inv-loop μ-loop
+phy-below-requires c κs = search needs
+
+is-end-requires : tie.Need-is-end-requires Inv-loop μ-loop
+is-end-requires c κs = search needs
+
+returns : tie.Need-returns Inv-loop μ-loop
+unfolding endsAt
+returns c =
+    let d : Domain = domainIn ((c .before .before .before .before .before .before .before .args) .rows .now) in
+    phy-stop 8 (endsAt ((c .before .before .before .before .before .before .before .args) .s) d) d ((c .before .before .before .before .before .before .before .args) .i .0) ((c .before .before .before .before .before .phy-count) .result) ((c .before .before .before .before .loop) .p) ((c .before .before .before .before .loop) .inv .1) (ap (isEnd ((c .before .before .before .before .before .before .before .args) .s)) (sym ((c .before .before .phy-below) .ensures ∙ phy-held _ _ _ (omega (arith, (c .before .before .before .before .before .phy-count) .ensures .0)))) ∙ sym ((c .before .is-end) .ensures) ∙ (c .if1) .taken) (omega arith)
+
+add-p : tie.Need-add-p Inv-loop μ-loop
+add-p c = omega arith
+
+loop-less : tie.Need-loop-less Inv-loop μ-loop
+loop-less c = omega arith
+
+loop-again : tie.Need-loop-again Inv-loop μ-loop
+unfolding endsAt
+loop-again c =
+    let d : Domain = domainIn ((c .before .before .before .before .before .before .before .args) .rows .now) in
+    (omega arith, phy-go 8 (endsAt ((c .before .before .before .before .before .before .before .args) .s) d) d ((c .before .before .before .before .before .before .before .args) .i .0) ((c .before .before .before .before .before .phy-count) .result) ((c .before .before .before .before .loop) .p) ((c .before .before .before .before .loop) .inv .1) (ap (isEnd ((c .before .before .before .before .before .before .before .args) .s)) (sym ((c .before .before .phy-below) .ensures ∙ phy-held _ _ _ (omega (arith, (c .before .before .before .before .before .phy-count) .ensures .0)))) ∙ sym ((c .before .is-end) .ensures) ∙ (c .if1) .left) (omega arith))
+
+returns-2 : tie.Need-returns-2 Inv-loop μ-loop
+returns-2 c =
+    let d : Domain = domainIn ((c .before .before .before .before .args) .rows .now) in
+    phy-end 8 (endsAt ((c .before .before .before .before .args) .s) d) d ((c .before .before .before .before .args) .i .0) ((c .before .before .phy-count) .result) ((c .before .loop) .p) ((c .before .loop) .inv .1) (omega arith)
+
+pub first-end-spec : {M : Type 1} → statement M
+first-end-spec = tie.close (tie.spec Inv-loop μ-loop phy-count-requires loop-holds phy-below-requires is-end-requires returns add-p loop-less loop-again returns-2)

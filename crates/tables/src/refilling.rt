@@ -1,0 +1,301 @@
+// The tables with an expander in their order, written afresh among words and bits that hold tables already. The words that
+// change are counted before they are written.
+use crate::Replugged;
+use crate::below;
+use crate::filling;
+use crate::order;
+use crate::word_places;
+use wiring::ExpanderNumber;
+use wiring::Phy;
+use wiring::PhyId;
+ghost use mathlib.Core.Path.{_≡_};
+ghost use mathlib.Core.Bool.{cond};
+ghost use mathlib.Core.List.{[], _∷_, flatMap};
+ghost use Prim.Native.Nat.{_+_, _-_, _*_, _%_, _^_, _≤_, _<_};
+ghost use lib.ListN.{length, set, replicate};
+ghost use lib.Seq.{sets};
+ghost use lib.Dec.{eqb};
+ghost use Rattle.wiring.specs.Frames.{bitsOf, zeroBit, zeroBits, good};
+ghost use Rattle.wiring.specs.Domain.{phyAt};
+ghost use Rattle.wiring.specs.Causes.{place};
+ghost use Rattle.wiring.specs.Rows.{domainIn};
+ghost use Rattle.tables.specs.Entries.{entries, roomOf, Enough};
+ghost use Rattle.tables.specs.Tables.{size, sizes, needed};
+ghost use Rattle.tables.specs.Own.{own};
+ghost use Rattle.tables.specs.Filling.{placesAt, overlay};
+ghost use Rattle.tables.specs.Prepared.{FarsKnown, OwnHeld, BelowHeld, orderOf, orderList, filledTo, Fillable, FilledFrom};
+ghost use Rattle.tables.specs.Refilling.{changed, movedBy};
+ghost use Rattle.tables.specs.Replugging.{ownTouched, ownRefilled, replugAnswer};
+ghost use Rattle.tables.specs.Rewriting.{withBit, Near, Rewritten};
+
+// How far the tables gone through reach, how many of them were touched, and how many words changed.
+struct Tally {
+    at: usize,
+    tables: usize,
+    words: usize,
+}
+
+// 1 where two words differ, else 0.
+fn differ(v: u64, w: u64) -> usize
+    ensures { λ r. ⌜ (r ≡ cond (eqb v w) 0 1) × (r ≤ 1) ⌝ }
+{
+    if v == w {
+        return 0;
+    }
+    1
+}
+
+// At how many places the new words differ from the first words of `part`.
+fn count_changed(part: &[u64], new: &[u64]) -> usize
+    requires { ⌜ length (now new) ≤ length (now part) ⌝ }
+    ensures { λ r. ⌜ (r ≡ changed (now (part .entry)) (now (new .entry))) × (r ≤ length (now (new .entry))) ⌝ }
+{
+    let mut sum: usize = 0;
+    let mut k: usize = 0;
+    while k < new.len() {
+        sum += differ(part[k], new[k]);
+        k += 1;
+    }
+    sum
+}
+
+// How many words are not zero.
+fn count_nonzero(part: &[u64]) -> usize
+    ensures { λ r. ⌜ (r ≡ changed (now (part .entry)) (replicate (length (now (part .entry))) 0)) × (r ≤ length (now (part .entry))) ⌝ }
+{
+    let mut sum: usize = 0;
+    let mut k: usize = 0;
+    while k < part.len() {
+        sum += differ(part[k], 0);
+        k += 1;
+    }
+    sum
+}
+
+// The length of expander i's own list; 0 where there is no such expander.
+fn own_length(rows: &[u64], lists: &[u64], i: ExpanderNumber) -> usize
+    requires { ⌜ OwnHeld (domainIn (now rows)) (now lists) ⌝ }
+    ensures { λ r. ⌜ r ≡ length (own (domainIn (now (rows .entry))) (i .0)) ⌝ }
+{
+    if i.0 >= wiring::expander_count(rows) {
+        return 0;
+    }
+    lists[129 * (i.0 as usize)] as usize
+}
+
+// The same of expander i's own list, which has n words.
+fn count_own(rows: &[u64], lists: &[u64], i: ExpanderNumber, n: usize, part: &[u64]) -> usize
+    requires { ⌜ OwnHeld (domainIn (now rows)) (now lists) × ((n ≡ length (own (domainIn (now rows)) (i .0))) × (n ≤ length (now part))) ⌝ }
+    ensures { λ r. ⌜ (r ≡ changed (now (part .entry)) (own (domainIn (now (rows .entry))) (i .0))) × (r ≤ n) ⌝ }
+{
+    if n == 0 {
+        return 0;
+    }
+    let from = 129 * (i.0 as usize) + 1;
+    let to = from + n;
+    count_changed(part, &lists[from..to])
+}
+
+// The same of a table: the own lists of these expanders, one after the other, and zeros after them.
+fn count_table(rows: &[u64], lists: &[u64], order: &[u8], part: &[u64]) -> usize
+    requires { ⌜ OwnHeld (domainIn (now rows)) (now lists) × (length (flatMap (own (domainIn (now rows))) (now order)) ≤ length (now part)) ⌝ }
+    ensures { λ r. ⌜ (r ≡ changed (now (part .entry)) (filledTo (length (now (part .entry))) (flatMap (own (domainIn (now (rows .entry)))) (now (order .entry)))))
+        × (r ≤ length (now (part .entry))) ⌝ }
+{
+    let mut sum: usize = 0;
+    let mut m: usize = 0;
+    let mut k: usize = 0;
+    while k < order.len() {
+        let i = ExpanderNumber(order[k]);
+        let n = own_length(rows, lists, i);
+        sum += count_own(rows, lists, i, n, &part[m..]);
+        m += n;
+        k += 1;
+    }
+    sum + count_nonzero(&part[m..])
+}
+
+// The weight of bit r of a byte, from the most significant one on.
+fn weight(r: usize) -> u64
+    requires { ⌜ r < 8 ⌝ }
+    ensures { λ m. ⌜ (m ≡ 2 ^ (7 - r)) × ((0 < m) × (m ≤ 128)) ⌝ }
+{
+    1 << (7 - r)
+}
+
+// A byte with b as its bit r, from the most significant one on.
+fn with_bit(byte: u8, r: usize, b: u64) -> u8
+    requires { ⌜ (r < 8) × (b < 2) ⌝ }
+    ensures { λ x. ⌜ x ≡ withBit byte (7 - r) b ⌝ }
+{
+    let m = weight(r);
+    let v = byte as u64;
+    (v / (2 * m) * (2 * m) + (b * m + v % m)) as u8
+}
+
+// The disable bit of a word.
+fn zero_bit(w: u64) -> u64
+    ensures { λ r. ⌜ (r ≡ zeroBit w) × (r < 2) ⌝ }
+{
+    if w == 0 {
+        return 1;
+    }
+    0
+}
+
+// Sets bit k to b.
+fn set_bit(s: &mut [u8], k: usize, b: u64)
+    requires { ⌜ (k < 8 * length (now s)) × (b < 2) ⌝ }
+    ensures { λ _. ⌜ bitsOf (now (s .exit)) ≡ set (bitsOf (now (s .entry))) k b ⌝ }
+{
+    let j = k / 8;
+    let v = s[j];
+    s[j] = with_bit(v, k % 8, b);
+}
+
+// Sets the bits from `at` on, one for each word, exactly where the word is zero. All other bits stay.
+fn mark_from(part: &[u64], bits: &mut [u8], at: usize)
+    requires { ⌜ (at + length (now part) ≤ 8 * length (now bits)) × (at + length (now part) < 2 ^ 64) ⌝ }
+    ensures { λ _. ⌜ bitsOf (now (bits .exit)) ≡ sets (bitsOf (now (bits .entry))) at (zeroBits (now (part .entry))) ⌝ }
+{
+    let mut k: usize = 0;
+    while k < part.len() {
+        set_bit(bits, at + k, zero_bit(part[k]));
+        k += 1;
+    }
+}
+
+// Writes the table of phy p of expander i from word `at` to word `to`, and its bits; the answer is how many words changed.
+fn renew_table(
+    rows: &[u64],
+    lists: &[u64],
+    order: &[u8],
+    i: ExpanderNumber,
+    p: PhyId,
+    words: &mut [u64],
+    bits: &mut [u8],
+    at: usize,
+    to: usize,
+) -> usize
+    requires { ⌜ FilledFrom (domainIn (now rows)) (i .0) (p .0) (now lists) (now order) (to - at)
+        × ((at ≤ to) × ((to ≤ length (now words)) × (to ≤ 8 * length (now bits)))) ⌝ }
+    ensures { λ r. ⌜ (now (words .exit) ≡ overlay (now (words .entry)) at (filledTo (to - at) (orderList (domainIn (now (rows .entry))) (i .0) (p .0))))
+        × ((bitsOf (now (bits .exit)) ≡ overlay (bitsOf (now (bits .entry))) at (zeroBits (filledTo (to - at) (orderList (domainIn (now (rows .entry))) (i .0) (p .0)))))
+        × ((r ≡ changed (now (words .entry)) (now (words .exit))) × (r ≤ to - at))) ⌝ }
+{
+    let n = count_table(rows, lists, order, &words[at..to]);
+    filling::fill_table(rows, lists, order, i, p, &mut words[at..to]);
+    mark_from(&words[at..to], bits, at);
+    n
+}
+
+// The same where expander e is in the order; elsewhere the table is passed over. The answer is the tally after it.
+fn refill_table(
+    rows: &[u64],
+    lists: &[u64],
+    order: &[u8],
+    e: ExpanderNumber,
+    i: ExpanderNumber,
+    p: PhyId,
+    words: &mut [u64],
+    bits: &mut [u8],
+    s: Tally,
+) -> Tally
+    requires { ⌜ OwnHeld (domainIn (now rows)) (now lists) × ((now order ≡ orderOf (domainIn (now rows)) (phyAt (domainIn (now rows)) (i .0) (p .0)))
+        × (Fillable (domainIn (now rows)) × (((s .tables < 2 ^ 32) × (s .words ≤ s .at))
+        × ((s .at + size (domainIn (now rows)) (place (i .0) (p .0)) ≤ length (now words)) × (s .at + size (domainIn (now rows)) (place (i .0) (p .0)) ≤ 8 * length (now bits)))))) ⌝ }
+    ensures { λ r. ⌜ Rewritten (domainIn (now (rows .entry))) (e .0) (place (i .0) (p .0) ∷ []) s r
+        (entries (now (words .entry)) (now (bits .entry))) (entries (now (words .exit)) (now (bits .exit))) × Near 1 s r ⌝ }
+{
+    let to = s.at + word_places::size_at(rows, i, p) as usize;
+    if !below::has_number(order, e) {
+        return Tally {
+            at: to,
+            tables: s.tables,
+            words: s.words,
+        };
+    }
+    let n = renew_table(rows, lists, order, i, p, words, bits, s.at, to);
+    Tally {
+        at: to,
+        tables: s.tables + 1,
+        words: s.words + n,
+    }
+}
+
+// The same of all phys of expander i. `order` is room for the levels of one phy.
+fn refill_at(
+    rows: &[u64],
+    first: &[u16],
+    lists: &[u64],
+    below: &[u8],
+    order: &mut [u8],
+    e: ExpanderNumber,
+    i: ExpanderNumber,
+    words: &mut [u64],
+    bits: &mut [u8],
+    s: Tally,
+) -> Tally
+    requires { ⌜ FarsKnown (domainIn (now rows)) (now first) × (OwnHeld (domainIn (now rows)) (now lists) × (BelowHeld (domainIn (now rows)) (now below) × ((65 * length (domainIn (now rows)) < length (now order))
+        × (Fillable (domainIn (now rows)) × (((s .tables ≤ 16384) × (s .words ≤ s .at))
+        × ((s .at + sizes (domainIn (now rows)) (placesAt (domainIn (now rows)) (i .0)) ≤ length (now words)) × (s .at + sizes (domainIn (now rows)) (placesAt (domainIn (now rows)) (i .0)) ≤ 8 * length (now bits)))))))) ⌝ }
+    ensures { λ r. ⌜ Rewritten (domainIn (now (rows .entry))) (e .0) (placesAt (domainIn (now (rows .entry))) (i .0)) s r
+        (entries (now (words .entry)) (now (bits .entry))) (entries (now (words .exit)) (now (bits .exit))) × Near 128 s r ⌝ }
+{
+    let n = wiring::phy_count(rows, i);
+    let mut t = s;
+    let mut q = PhyId(255);
+    let mut g = Phy::Vacant(0);
+    let mut m: usize = 0;
+    let mut p: u8 = 0;
+    while p < n {
+        let f = wiring::phy_below(rows, i, PhyId(p));
+        m = order::order_for(rows, first, below, q, g, m, i, PhyId(p), f, order);
+        q = PhyId(p);
+        g = f;
+        t = refill_table(rows, lists, &order[..m], e, i, PhyId(p), words, bits, t);
+        p += 1;
+    }
+    t
+}
+
+// Writes afresh the tables with expander e in the order of their phy, words and bits, and counts them and the words changed.
+pub(crate) fn refill_all(
+    rows: &[u64],
+    first: &[u16],
+    lists: &[u64],
+    below: &[u8],
+    order: &mut [u8],
+    e: ExpanderNumber,
+    words: &mut [u64],
+    bits: &mut [u8],
+) -> Replugged
+    requires { ⌜ FarsKnown (domainIn (now rows)) (now first) × (OwnHeld (domainIn (now rows)) (now lists) × (BelowHeld (domainIn (now rows)) (now below) × ((65 * length (domainIn (now rows)) < length (now order))
+        × (Fillable (domainIn (now rows)) × Enough (needed (domainIn (now rows))) (roomOf (entries (now words) (now bits))))))) ⌝ }
+    ensures { λ r. ⌜ (entries (now (words .exit)) (now (bits .exit)) ≡ ownRefilled (domainIn (now (rows .entry))) (e .0) (entries (now (words .entry)) (now (bits .entry))))
+        × (replugAnswer r ≡ good (movedBy (domainIn (now (rows .entry))) (ownTouched (domainIn (now (rows .entry))) (e .0)) (entries (now (words .entry)) (now (bits .entry))) (entries (now (words .exit)) (now (bits .exit))))) ⌝ }
+{
+    let n = wiring::expander_count(rows);
+    let mut s = Tally {
+        at: 0,
+        tables: 0,
+        words: 0,
+    };
+    let mut i: u8 = 0;
+    while i < n {
+        s = refill_at(
+            rows,
+            first,
+            lists,
+            below,
+            order,
+            e,
+            ExpanderNumber(i),
+            words,
+            bits,
+            s,
+        );
+        i += 1;
+    }
+    Replugged::Counts(s.tables as u32, s.words as u32)
+}

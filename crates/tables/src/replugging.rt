@@ -1,0 +1,262 @@
+// A drive plugged into a phy or pulled from it, over rows: the domain as lent is judged, one phy is replaced, what can hold of
+// the edited domain is tested, and the touched tables are written afresh.
+use crate::Replugged;
+use crate::all_tables;
+use crate::below;
+use crate::calls;
+use crate::own;
+use crate::refilling;
+use crate::retesting;
+use wiring::Check;
+use wiring::ExpanderNumber;
+use wiring::Phy;
+use wiring::PhyFields;
+use wiring::PhyId;
+use wiring::Refusal;
+ghost use mathlib.Core.Path.{_≡_};
+ghost use Prim.Native.Nat.{_≤_};
+ghost use mathlib.Core.Bool.{cond};
+ghost use lib.Dec.{T, eqb};
+ghost use lib.ListN.{length};
+ghost use Rattle.wiring.specs.Frames.{refusal, unless, then};
+ghost use Rattle.wiring.specs.declared.Check.the-variants.{Refused};
+ghost use Rattle.wiring.specs.Checks.{checkAnswer};
+ghost use Rattle.wiring.specs.Domain.{phyAt};
+ghost use Rattle.wiring.specs.Rows.{domainIn};
+ghost use Rattle.wiring.specs.PhySet.{withWords};
+ghost use Rattle.wiring.specs.Addresses.{Indexed, IndexLeft};
+ghost use Rattle.tables.specs.Entries.{entries, roomOf, Enough};
+ghost use Rattle.tables.specs.Tables.{needed};
+ghost use Rattle.tables.specs.Judge.{tablesFor};
+ghost use Rattle.tables.specs.Prepared.{FillRoom};
+ghost use Rattle.tables.specs.Replugging.{pluggable, replug, replugged, retested, admitted, replugCall, rowsAfter, ReplugDone};
+ghost use Rattle.tables.specs.declared.Replugged.the-variants.{Refused as NotReplugged};
+
+// Whether a drive can be plugged into the phy or pulled from it: 20 does not hold.
+fn is_pluggable(f: Phy) -> bool
+    ensures { λ r. ⌜ r ≡ pluggable f ⌝ }
+{
+    match f {
+        Phy::Vacant(_) => false,
+        Phy::Present(x) => !(x.device >= 2),
+    }
+}
+
+// The attached device type of a phy with the drive of address a: 1, or 0 where a is zero.
+fn drive_type(a: u64) -> u8
+    ensures { λ r. ⌜ r ≡ cond (eqb a 0) 0 1 ⌝ }
+{
+    if a == 0 {
+        return 0;
+    }
+    1
+}
+
+// The phy with the drive of address a, or with none where a is zero.
+fn replug_phy(a: u64, f: Phy) -> Phy
+    ensures { λ r. ⌜ r ≡ replug a f ⌝ }
+{
+    match f {
+        Phy::Vacant(r) => Phy::Vacant(r),
+        Phy::Present(x) => Phy::Present(PhyFields {
+            device: drive_type(a),
+            attribute: x.attribute,
+            address: a,
+            far: PhyId(0),
+        }),
+    }
+}
+
+// A check's refusal with this number, at place 0, 0.
+fn refuse(number: u8) -> Check
+    ensures { λ r. ⌜ r ≡ Refused (refusal number 0 0) ⌝ }
+{
+    Check::Refused(Refusal {
+        number: number,
+        expander: ExpanderNumber(0),
+        phy: PhyId(0),
+    })
+}
+
+// 20 at phy p of expander e, then 16 and 18, where so many words and bytes are lent.
+fn admit(rows: &[u64], words: usize, bits: usize, e: ExpanderNumber, p: PhyId) -> Check
+    ensures { λ r. ⌜ checkAnswer (domainIn (now (rows .entry))) r
+        ≡ unless (pluggable (phyAt (domainIn (now (rows .entry))) (e .0) (p .0))) (refusal 20 0 0) (tablesFor (record { words = words; bits = bits }) (domainIn (now (rows .entry)))) ⌝ }
+{
+    if !is_pluggable(wiring::phy_at(rows, e, p)) {
+        return refuse(20);
+    }
+    let needed = all_tables::needed_words(rows);
+    if words < needed {
+        return refuse(16);
+    }
+    if bits < wiring::bytes_for(needed) {
+        return refuse(18);
+    }
+    Check::Passed
+}
+
+// Replaces the phy in rows, tests what can hold of the edited domain, and writes the touched tables afresh; with room for own
+// lists, for the expanders below each, and for the levels of one phy.
+fn replug_in(
+    rows: &mut [u64],
+    first: &[u16],
+    low: &[u8],
+    lists: &mut [u64],
+    below: &mut [u8],
+    order: &mut [u8],
+    words: &mut [u64],
+    bits: &mut [u8],
+    e: ExpanderNumber,
+    p: PhyId,
+    a: u64,
+) -> Replugged
+    requires { ⌜ Indexed (domainIn (now rows)) (now first) (now low) × ((FillRoom (domainIn (now rows)) (now lists) (now below) (now order) × (length (now order) ≤ 4161))
+        × (T (pluggable (phyAt (domainIn (now rows)) (e .0) (p .0))) × Enough (needed (domainIn (now rows))) (roomOf (entries (now words) (now bits))))) ⌝ }
+    ensures { λ r. ⌜ (now (rows .exit) ≡ withWords (now (rows .entry)) (e .0) (p .0) (replug a (phyAt (domainIn (now (rows .entry))) (e .0) (p .0))))
+        × ReplugDone (retested (e .0) a (replugged (domainIn (now (rows .entry))) (e .0) (p .0) a)) (e .0) r
+        (entries (now (words .entry)) (now (bits .entry))) (entries (now (words .exit)) (now (bits .exit))) ⌝ }
+{
+    own::put_owns(rows, low, lists);
+    let f = wiring::phy_at(rows, e, p);
+    wiring::set_phy(rows, e, p, replug_phy(a, f));
+    retesting::renew_own(rows, e, lists);
+    below::put_below(rows, first, low, below);
+    let verdict = retesting::retest(rows, first, low, lists, below, order, e, a);
+    match verdict {
+        Check::Refused(r) => Replugged::Refused(r),
+        Check::Passed => refilling::refill_all(rows, first, lists, below, order, e, words, bits),
+    }
+}
+
+// The same, with room for at most 8 expanders.
+fn replug_few(
+    rows: &mut [u64],
+    first: &[u16],
+    low: &[u8],
+    words: &mut [u64],
+    bits: &mut [u8],
+    e: ExpanderNumber,
+    p: PhyId,
+    a: u64,
+) -> Replugged
+    requires { ⌜ (length (domainIn (now rows)) ≤ 8) × (Indexed (domainIn (now rows)) (now first) (now low)
+        × (T (pluggable (phyAt (domainIn (now rows)) (e .0) (p .0))) × Enough (needed (domainIn (now rows))) (roomOf (entries (now words) (now bits))))) ⌝ }
+    ensures { λ r. ⌜ (now (rows .exit) ≡ withWords (now (rows .entry)) (e .0) (p .0) (replug a (phyAt (domainIn (now (rows .entry))) (e .0) (p .0))))
+        × ReplugDone (retested (e .0) a (replugged (domainIn (now (rows .entry))) (e .0) (p .0) a)) (e .0) r
+        (entries (now (words .entry)) (now (bits .entry))) (entries (now (words .exit)) (now (bits .exit))) ⌝ }
+{
+    let mut lists = [0u64; 1032];
+    let mut below = [0u8; 528];
+    let mut order = [0u8; 521];
+    replug_in(
+        rows,
+        first,
+        low,
+        &mut lists[..],
+        &mut below[..],
+        &mut order[..],
+        words,
+        bits,
+        e,
+        p,
+        a,
+    )
+}
+
+// The same, with room for the most expanders.
+fn replug_many(
+    rows: &mut [u64],
+    first: &[u16],
+    low: &[u8],
+    words: &mut [u64],
+    bits: &mut [u8],
+    e: ExpanderNumber,
+    p: PhyId,
+    a: u64,
+) -> Replugged
+    requires { ⌜ Indexed (domainIn (now rows)) (now first) (now low)
+        × (T (pluggable (phyAt (domainIn (now rows)) (e .0) (p .0))) × Enough (needed (domainIn (now rows))) (roomOf (entries (now words) (now bits)))) ⌝ }
+    ensures { λ r. ⌜ (now (rows .exit) ≡ withWords (now (rows .entry)) (e .0) (p .0) (replug a (phyAt (domainIn (now (rows .entry))) (e .0) (p .0))))
+        × ReplugDone (retested (e .0) a (replugged (domainIn (now (rows .entry))) (e .0) (p .0) a)) (e .0) r
+        (entries (now (words .entry)) (now (bits .entry))) (entries (now (words .exit)) (now (bits .exit))) ⌝ }
+{
+    let mut lists = [0u64; 8256];
+    let mut below = [0u8; 4224];
+    let mut order = [0u8; 4161];
+    replug_in(
+        rows,
+        first,
+        low,
+        &mut lists[..],
+        &mut below[..],
+        &mut order[..],
+        words,
+        bits,
+        e,
+        p,
+        a,
+    )
+}
+
+// The same. Few expanders need little room. No phy has a number above 127; that it calls itself there gives each room a
+// stack frame of its own (docs/DECISIONS.md, 17).
+fn replug_admitted(
+    rows: &mut [u64],
+    first: &[u16],
+    low: &[u8],
+    words: &mut [u64],
+    bits: &mut [u8],
+    e: ExpanderNumber,
+    p: PhyId,
+    a: u64,
+) -> Replugged
+    requires { ⌜ Indexed (domainIn (now rows)) (now first) (now low)
+        × (T (pluggable (phyAt (domainIn (now rows)) (e .0) (p .0))) × Enough (needed (domainIn (now rows))) (roomOf (entries (now words) (now bits)))) ⌝ }
+    ensures { λ r. ⌜ (now (rows .exit) ≡ withWords (now (rows .entry)) (e .0) (p .0) (replug a (phyAt (domainIn (now (rows .entry))) (e .0) (p .0))))
+        × ReplugDone (retested (e .0) a (replugged (domainIn (now (rows .entry))) (e .0) (p .0) a)) (e .0) r
+        (entries (now (words .entry)) (now (bits .entry))) (entries (now (words .exit)) (now (bits .exit))) ⌝ }
+{
+    if p.0 > 127 {
+        return replug_admitted(rows, first, low, words, bits, e, PhyId(0), a);
+    }
+    if wiring::expander_count(rows) <= 8 {
+        return replug_few(rows, first, low, words, bits, e, p, a);
+    }
+    replug_many(rows, first, low, words, bits, e, p, a)
+}
+
+// A drive of address a plugged into phy p of expander e, or pulled from it where a is zero, over rows: causes 7 to 12, 23
+// and 14 as `judge_rows` has them, then 20, 16 and 18, then what can hold of the edited domain. It writes afresh the tables with e
+// in the order of their phy, words and bits, and answers how many these are and how many words changed. All other words and bits stay,
+// and all of them where it is refused. The rows hold the edited domain once 18 is passed.
+pub fn replug_rows(
+    rows: &mut [u64],
+    first: &mut [u16],
+    low: &mut [u8],
+    words: &mut [u64],
+    bits: &mut [u8],
+    chain: u8,
+    e: ExpanderNumber,
+    p: PhyId,
+    a: u64,
+) -> Replugged
+    ensures { λ r. ⌜ now (rows .exit)
+        ≡ rowsAfter (admitted chain (length (now (first .entry))) (length (now (low .entry))) (roomOf (entries (now (words .entry)) (now (bits .entry)))) (e .0) (p .0) (domainIn (now (rows .entry))))
+        (now (rows .entry)) (e .0) (p .0) (replug a (phyAt (domainIn (now (rows .entry))) (e .0) (p .0))) ⌝ }
+    ensures { λ r. ⌜ ReplugDone (replugCall chain (length (now (first .entry))) (length (now (low .entry))) (roomOf (entries (now (words .entry)) (now (bits .entry)))) (e .0) (p .0) a (domainIn (now (rows .entry))))
+        (e .0) r (entries (now (words .entry)) (now (bits .entry))) (entries (now (words .exit)) (now (bits .exit))) ⌝ }
+    ensures { λ r. ⌜ IndexLeft (domainIn (now (rows .entry))) (now (first .entry)) (now (low .entry)) (now (first .exit)) (now (low .exit)) ⌝ }
+{
+    let verdict = calls::judge_rows(rows, first, low, chain);
+    match verdict {
+        Check::Refused(r) => Replugged::Refused(r),
+        Check::Passed => {
+            let admission = admit(rows, words.len(), bits.len(), e, p);
+            match admission {
+                Check::Refused(r) => Replugged::Refused(r),
+                Check::Passed => replug_admitted(rows, first, low, words, bits, e, p, a),
+            }
+        }
+    }
+}
