@@ -137,6 +137,8 @@ extern "C" {
           "and they are lent in whole bytes.")                                \
     X(19, "A card's version, one of its zero bits, a vacant phy's result "    \
           "or its length is wrong.")                                          \
+    X(20, "The phy of an event does not exist, is vacant or is attached to "  \
+          "an expander.")                                                     \
     X(21, "A phy of the cable that is to join two rigs does not exist, is "   \
           "vacant, is not subtractive or is attached; or its expander has "   \
           "an attached subtractive phy.")                                     \
@@ -425,6 +427,27 @@ uint64_t metzurgo_card_of_file(uint32_t setting, const uint8_t *file,
 uint64_t metzurgo_file_of_card(uint32_t setting, const uint8_t *card,
                                size_t card_len, uint8_t *file,
                                size_t file_len);
+
+/*
+ * A drive plugged or pulled. An event names an expander, a phy and an address; zero
+ * is a pull. A plug sets type 1, the address and attached phy 0 in the phy's DISCOVER
+ * response, where nothing or a drive is attached; a pull sets type 0. No other bit of
+ * the file changes. Its tables and disable bits are lent with it, as metzurgo_tables
+ * wrote them or altered, and edited with it: exactly the tables with the named expander
+ * in one of their levels are written afresh, each word and its bit (set where the word
+ * is 0), whatever was lent; all other words and bits stay, padding bits too. From words
+ * and bits of metzurgo_tables on, those left are what metzurgo_tables gives for the
+ * edited file.
+ * Tests the causes of judging on the file as lent; then 20, place 0, 0 (the expander or
+ * phy does not exist, or the phy is vacant or attached to an expander), 16 (fewer words
+ * than needed) and 18 (fewer disable bits); then judges the edited file, whose refusal,
+ * with its own number and place, is the answer. Nothing is edited then.
+ * Answer: tables touched * 2^32 + words whose value is another than the one lent.
+ */
+uint64_t metzurgo_event(uint32_t setting, uint8_t *file, size_t file_len,
+                        uint64_t *words, size_t words_len, uint8_t *bits,
+                        size_t bits_len, uint8_t expander, uint8_t phy,
+                        uint64_t address);
 
 /*
  * Joins two rigs by one cable between a subtractive phy of each, named by its own

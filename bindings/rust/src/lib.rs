@@ -1,5 +1,5 @@
 //! Calls of the Metzurgo SAS configurator: domain files, wiring, route tables,
-//! request tracing, rig cards, rigs joined, exercises, loading frames, and a software expander
+//! request tracing, drives plugged and pulled, rig cards, rigs joined, exercises, loading frames, and a software expander
 //! that obeys them.
 //!
 //! The functions at the top level take slices and give an answer with a type, or
@@ -33,6 +33,7 @@
 mod bits;
 mod cards;
 pub mod codes;
+mod events;
 mod exercises;
 mod files;
 mod forms;
@@ -46,6 +47,7 @@ mod shelves;
 
 pub use bits::{bit_bytes, is_disabled, set_disabled};
 pub use cards::{card_of_file, file_of_card, LONGEST_CARD, LONGEST_CARD_FILE};
+pub use events::{plug, pull, Moved};
 pub use exercises::{make, LONGEST_EXERCISE};
 pub use files::{
     judge, needed, step, tables, trace, wire, word_place, Outcome, Request, Rule, Step, Tables,

@@ -105,6 +105,18 @@ mod linked {
             file: *mut u8,
             file_len: usize,
         ) -> u64;
+        pub fn metzurgo_event(
+            setting: u32,
+            file: *mut u8,
+            file_len: usize,
+            words: *mut u64,
+            words_len: usize,
+            bits: *mut u8,
+            bits_len: usize,
+            expander: u8,
+            phy: u8,
+            address: u64,
+        ) -> u64;
         pub fn metzurgo_join(
             setting: u32,
             first: *const u8,
@@ -333,6 +345,31 @@ pub fn card_of_file(setting: u32, file: &[u8], card: &mut [u8]) -> u64 {
 pub fn file_of_card(setting: u32, card: &[u8], file: &mut [u8]) -> u64 {
     let (start, len) = (file.as_mut_ptr(), file.len());
     unsafe { linked::metzurgo_file_of_card(setting, card.as_ptr(), card.len(), start, len) }
+}
+
+/// The place is an expander and a phy of it; address 0 is a pull.
+pub fn event(
+    setting: u32,
+    file: &mut [u8],
+    words: &mut [u64],
+    bits: &mut [u8],
+    (expander, phy): (u8, u8),
+    address: u64,
+) -> u64 {
+    unsafe {
+        linked::metzurgo_event(
+            setting,
+            file.as_mut_ptr(),
+            file.len(),
+            words.as_mut_ptr(),
+            words.len(),
+            bits.as_mut_ptr(),
+            bits.len(),
+            expander,
+            phy,
+            address,
+        )
+    }
 }
 
 /// Each file with the expander and phy of its end of the cable.

@@ -74,6 +74,7 @@ causes! {
     AddressZero 17 "The requested address is zero."
     BitRoom 18 "The lent disable bits are too few: each table word has one, and they are lent in whole bytes."
     Card 19 "A card's version, one of its zero bits, a vacant phy's result or its length is wrong."
+    Event 20 "The phy of an event does not exist, is vacant or is attached to an expander."
     Join 21 "A phy of the cable that is to join two rigs does not exist, is vacant, is not subtractive or is attached; or its expander has an attached subtractive phy."
     Setting 22 "The course's setting is out of its range: 1 to 64 expanders, 1 to 128 phys, chains of 1 to 64 expanders."
     Chain 23 "A chain of cabled expanders is longer than the setting allows."
