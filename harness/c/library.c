@@ -1,7 +1,7 @@
 /*
  * The library as programs of a lab use it: judges a domain file, fills its tables,
  * follows requests step by step, and traces them again in one list over the file's
- * compact form.
+ * compact form; pulls each drive and plugs another in; makes an exercise of its tables.
  *
  *     cc library.c $(pkg-config --cflags --libs metzurgo) -o library
  *     library FILE        prints the tables and the way of each request
@@ -176,6 +176,84 @@ static void trace_list(void)
     free(bits);
 }
 
+/* The file, words and bits after an event are those of the file configured afresh. */
+static void compare_tables(void)
+{
+    uint64_t *words = calloc(rig.word_count + 1, sizeof *words);
+    uint8_t *bits = calloc(rig.bit_bytes + 1, 1);
+    if (!words || !bits)
+        fail("no memory");
+    accepted(metzurgo_tables(COURSE, rig.file, rig.size, words, rig.word_count,
+                             bits, rig.bit_bytes));
+    if (memcmp(words, rig.words, rig.word_count * sizeof *words)
+        || memcmp(bits, rig.bits, rig.bit_bytes))
+        fail("after an event the tables are others than those filled afresh");
+    free(words);
+    free(bits);
+}
+
+/* An event, over the file and its tables. */
+static uint64_t event(unsigned expander, unsigned phy, uint64_t address)
+{
+    return metzurgo_event(COURSE, rig.file, rig.size, rig.words,
+                          rig.word_count, rig.bits, rig.bit_bytes,
+                          (uint8_t)expander, (uint8_t)phy, address);
+}
+
+/* Pulls what is at each phy that can have a drive, and plugs another drive in. */
+static void plug_and_pull(void)
+{
+    const uint64_t drive = UINT64_C(0x7ffffffffffffff0);
+    const uint64_t no_such_phy = METZURGO_REFUSED + (20 << 16);
+    for (unsigned expander = 0; expander < rig.expanders; expander++) {
+        for (unsigned phy = 0; phy < 128; phy++) {
+            uint64_t pulled = event(expander, phy, 0);
+            if (pulled == no_such_phy)
+                continue;
+            accepted(pulled);
+            compare_tables();
+            uint64_t plugged = event(expander, phy, drive);
+            compare_tables();
+            if (plugged & METZURGO_REFUSED) {
+                printf("%u %u: refused %u\n", expander, phy,
+                       METZURGO_NUMBER(plugged));
+                continue;
+            }
+            printf("%u %u: %u tables touched, %u words changed, then %u\n",
+                   expander, phy, (unsigned)(plugged >> 32),
+                   (unsigned)(uint32_t)pulled, (unsigned)(uint32_t)plugged);
+            accepted(event(expander, phy, 0));
+        }
+    }
+    if (event(rig.expanders, 0, drive) != no_such_phy)
+        fail("a drive is plugged into an expander that is not there");
+}
+
+/* An exercise whose solution is the words of all tables has them as its table. */
+static void make_exercise(void)
+{
+    static uint8_t file[METZURGO_LONGEST_EXERCISE];
+    const uint64_t first = UINT64_C(0x7ffffffffffffffd), second = first + 1;
+    uint64_t made = metzurgo_make(first, second, rig.words, rig.word_count,
+                                  file, sizeof file);
+    if (made == METZURGO_REFUSED + (24 << 16)) {
+        printf("no exercise has these words\n");
+        return;
+    }
+    uint64_t *words = calloc(rig.word_count + 1, sizeof *words);
+    uint8_t *bits = calloc(rig.bit_bytes + 1, 1);
+    if (!words || !bits)
+        fail("no memory");
+    accepted(made);
+    accepted(metzurgo_tables(COURSE, file, (size_t)made, words, rig.word_count,
+                             bits, rig.bit_bytes));
+    if (memcmp(words, rig.words, rig.word_count * sizeof *words))
+        fail("an exercise has other words than its solution");
+    printf("%u bytes of exercise\n", (unsigned)made);
+    free(words);
+    free(bits);
+}
+
 int main(int count, char **arguments)
 {
     if (metzurgo_version() != METZURGO_VERSION)
@@ -197,6 +275,8 @@ int main(int count, char **arguments)
         follow((uint8_t)start, UINT64_C(0x7fffffffffffffff));
     }
     trace_list();
+    make_exercise();
+    plug_and_pull();
     free(rig.words);
     free(rig.bits);
     return 0;

@@ -1,8 +1,8 @@
 /*
  * Runs the pair rig of document 01 through the C interface: prints its route
  * table and some traces, with a route switched off and on among them, loads the
- * table into a shelf, and traces over its compact form. Exits with 1 where an answer
- * is not the expected one.
+ * table into a shelf, traces over its compact form, and plugs and pulls drives. Exits
+ * with 1 where an answer is not the expected one.
  *
  *     cc -o pair pair.c -L<archive directory> -lexports
  */
@@ -224,9 +224,56 @@ static void empty_slices(void)
     expect("tables of no words", UINT64_C(1) << 32,
            metzurgo_tables(WIDEST, wordless, sizeof wordless, NULL, 0, NULL,
                            0));
+    uint8_t lent[sizeof wordless];
+    memcpy(lent, wordless, sizeof lent);
+    expect("event over no words", 0,
+           metzurgo_event(WIDEST, lent, sizeof lent, NULL, 0, NULL, 0, 0, 0,
+                          A1));
+    expect("type after an event over no words", 0x10, lent[50]);
     expect("trace over no words", (1 << 24) + 255 * 256 + 1,
            metzurgo_trace(WIDEST, wordless, sizeof wordless, NULL, 0, NULL, 0,
                           0, 255, A1, passed, 1));
+}
+
+/* B1h is pulled and a drive plugged into phy 2, over a copy of the file. */
+static void plug_and_pull(void)
+{
+    const uint64_t drive = UINT64_C(0x50000000000000c1);
+    const uint64_t no_such_phy = METZURGO_REFUSED + 20 * 65536;
+    uint8_t file[sizeof pair_rig + 1], bits[2] = { 0x75, 0x5a };
+    uint64_t words[5] = { B1, 0, 0, 0, 7 };
+
+    memcpy(file, pair_rig, sizeof pair_rig);
+    file[sizeof pair_rig] = 9;
+#define EVENT(words_len, bits_len, expander, phy, address)                    \
+    metzurgo_event(WIDEST, file, sizeof pair_rig, words, words_len, bits,     \
+                   bits_len, expander, phy, address)
+    expect("event, no file", METZURGO_REFUSED + 1 * 65536,
+           metzurgo_event(WIDEST, NULL, 0, NULL, 0, NULL, 0, 0, 0, drive));
+    expect("event, no expander", no_such_phy, EVENT(0, 0, 2, 0, drive));
+    expect("event, no phy", no_such_phy, EVENT(0, 0, 1, 3, drive));
+    expect("event, at an expander", no_such_phy, EVENT(5, 2, 0, 0, drive));
+    expect("event, 3 words", METZURGO_REFUSED + 16 * 65536,
+           EVENT(3, 2, 0, 1, B1));
+    expect("event, 0 bytes of disable bits", METZURGO_REFUSED + 18 * 65536,
+           EVENT(5, 0, 0, 1, B1));
+    expect("event, B1h at both", METZURGO_REFUSED + 8 * 65536 + 256 + 1,
+           EVENT(5, 2, 0, 1, B1));
+    expect("file after refusals", 0, memcmp(file, pair_rig, sizeof pair_rig) != 0);
+    expect("event, pulled", (UINT64_C(1) << 32) + 1, EVENT(5, 2, 1, 1, 0));
+    expect("type at phy 1", 0, file[242]);
+    expect("address at phy 1", 0xb1, file[261]);
+    expect("event, plugged", (UINT64_C(1) << 32) + 1, EVENT(5, 2, 1, 2, drive));
+    expect("type at phy 2", 0x10, file[294]);
+    expect("address at phy 2", 0xc1, file[313]);
+    expect("byte after the file", 9, file[sizeof pair_rig]);
+    expect("entry 0 after events", 0, words[0]);
+    expect("entry 1 after events", drive, words[1]);
+    expect("word after the table", 7, words[4]);
+    expect("disable bits after events, padding as lent", 0xb5, bits[0]);
+    expect("byte after the disable bits", 0x5a, bits[1]);
+    expect("event, no table", 0, EVENT(5, 2, 0, 1, B1));
+#undef EVENT
 }
 
 /* Traces a request on the pair rig, over its four words, and prints its end. */
@@ -354,6 +401,7 @@ int main(void)
 
     load_shelf(words, bits);
     compact_form(words, bits);
+    plug_and_pull();
 
     /* Frames inside the file. */
     expect("read_general", 4 * 65536 + 2 * 256 + 1,

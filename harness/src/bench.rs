@@ -5,6 +5,7 @@ use std::hint::black_box;
 use std::time::{Duration, Instant};
 
 use crate::calls::{Archive, Calls};
+use crate::events::Event;
 use crate::fast::Fast;
 use crate::generate::WIDEST;
 use crate::layout::*;
@@ -169,6 +170,103 @@ pub fn run() {
     println!("The fast version takes working memory from the allocator in each call, besides.");
     println!();
     many(&cases[..3]);
+    println!();
+    events(&cases);
+}
+
+/// A drive plugged in another's place, beside one judging. Of the words that the event
+/// writes, the time to write as many is taken off: they are as many as the touched tables
+/// have.
+fn events(cases: &[Case]) {
+    println!(
+        "{:<36} {:>8} {:>8} {:>8} {:>14} {:>14} {:>8} {:>14} {:>8} {:>12}",
+        "input",
+        "touched",
+        "written",
+        "changed",
+        "judge",
+        "event",
+        "ratio",
+        "words",
+        "less",
+        "stack"
+    );
+    for case in cases {
+        let mut file = case.file.clone();
+        let mut words = vec![0; words_needed(case)];
+        let mut bits = vec![0; words.len().div_ceil(8)];
+        Archive.tables(WIDEST, &file, &mut words, &mut bits);
+        let place = last_drive(&file);
+        let written = written(&file, place.0);
+        let judge = measure(|| Archive.judge(WIDEST, black_box(&case.file)));
+        let mut drive = 0x7000_0000_0000_0000;
+        let mut answer = 0;
+        let event = measure(|| {
+            // Another drive each time, so that words change.
+            drive += 1;
+            let event = Event {
+                place,
+                address: drive,
+            };
+            answer = Archive.event(WIDEST, &mut file, &mut words, &mut bits, event);
+            answer
+        });
+        let mut afresh = (words.clone(), bits.clone());
+        Archive.tables(WIDEST, &file, &mut afresh.0, &mut afresh.1);
+        if answer >> 63 == 1 || afresh != (words.clone(), bits.clone()) {
+            fail(case, "event");
+        }
+        let mut value = 0;
+        let write = time(|| {
+            value += 1;
+            black_box(&mut words[..written]).fill(value);
+            black_box(&mut bits[..written / 8]).fill(value as u8);
+            value
+        });
+        let ratio = |time: Duration| time.as_secs_f64() / judge.time.as_secs_f64();
+        println!(
+            "{:<36} {:>8} {:>8} {:>8} {:>14} {:>14} {:>8.2} {:>14} {:>8.2} {:>12}",
+            case.name,
+            answer >> 32,
+            written,
+            answer & 0xffff_ffff,
+            show(judge.time),
+            show(event.time),
+            ratio(event.time),
+            show(write),
+            ratio(event.time.saturating_sub(write)),
+            event.stack
+        );
+    }
+    println!(
+        "An event plugs a drive into the last phy that has one, in its place. \"words\" is the time \
+         to write as many words and disable bits as the touched tables have, and \"less\" the ratio \
+         without it."
+    );
+}
+
+/// The last phy of a file that a drive is attached to.
+fn last_drive(file: &[u8]) -> reference::Place {
+    let judged = reference::judged(WIDEST, file).expect("accepted");
+    let mut found = (0, 0);
+    for (&number, expander) in &judged.domain.expanders {
+        for (&phy, fields) in &expander.phys {
+            if let Attached::EndDevice(_) = fields.attached {
+                found = (number, phy);
+            }
+        }
+    }
+    found
+}
+
+/// How many words the tables have that an event at an expander touches.
+fn written(file: &[u8], expander: u8) -> usize {
+    let judged = reference::judged(WIDEST, file).expect("accepted");
+    let tables = judged.tables_beyond(expander);
+    tables
+        .into_iter()
+        .map(|place| judged.stretch(place).len())
+        .sum()
 }
 
 /// Requests that are traced one by one over the file, and as one list over its form.

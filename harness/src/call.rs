@@ -14,6 +14,9 @@
 //!     file_of_card CARD [bytes BYTES]             bytes 334
 //!     join EXPANDER PHY FILE EXPANDER PHY [bytes BYTES] [then CALL]
 //!                                                 bytes 666
+//!     event EXPANDER PHY ADDRESS [words WORDS] [bits BYTES] [set ENTRY=ADDRESS]
+//!           [disable ENTRY] [enable ENTRY] [then CALL]
+//!                                                 touched 1 changed 1
 //!     make FIRST SECOND WORD.. [bytes BYTES]      bytes 230
 //!
 //! Before the call may stand `setting EXPANDERS PHYS CHAIN`; without it the
@@ -22,7 +25,9 @@
 //! words and bits that the table call gives for the file. An ENTRY is
 //! EXPANDER.PHY.INDEX; `disable` sets its bit before the trace, `enable` clears it,
 //! as often as they stand there and in that order. Without lengths the buffers are
-//! as long as needed, the bits of the table call as long as WORDS need. A CARD is in
+//! as long as needed, the bits of the table call as long as WORDS need. An `event` is over
+//! the words and bits that the table call gives, too, in which `set` replaces the word of an
+//! entry; address 0 is a pull; `then` makes a call on the edited file. A CARD is in
 //! hexadecimal; `file_of_card` reads it in place of the file. `join` joins the file with
 //! another, and `then` makes a call on what it wrote. `make` makes a file from the
 //! addresses of two expanders and table words, and reads none; COUNTxWORD is a word so
@@ -38,6 +43,7 @@
 
 use crate::calls::{Calls, Part};
 use crate::compare::{hex, Difference, Lent};
+use crate::events::Event;
 use crate::generate::WIDEST;
 use crate::reference;
 use metzurgo::{LONGEST_CARD, LONGEST_CARD_FILE, LONGEST_EXERCISE, LONGEST_FORM};
@@ -51,6 +57,8 @@ const USAGE: &str = "[setting EXPANDERS PHYS CHAIN] judge | wire WORDS | \
                      [enable EXPANDER.PHY.INDEX] | \
                      compact [words WORDS] | compact_tables FORM WORDS [bits BYTES] | \
                      compact_trace_many [START.ARRIVAL.ADDRESS ...] | \
+                     event EXPANDER PHY ADDRESS [words WORDS] [bits BYTES] [set EXPANDER.PHY.INDEX=ADDRESS] \
+                     [disable EXPANDER.PHY.INDEX] [enable EXPANDER.PHY.INDEX] [then CALL] | \
                      card_of_file [bytes BYTES] | \
                      file_of_card CARD [bytes BYTES] | join EXPANDER PHY FILE EXPANDER PHY \
                      [bytes BYTES] [then CALL] | make FIRST SECOND WORD.. [bytes BYTES]";
@@ -134,6 +142,13 @@ fn under(subject: &dyn Calls, setting: u32, file: &[u8], call: &[&str]) -> Resul
             let card = bytes(card)?;
             let call = |room: &mut [u8]| subject.file_of_card(setting, &card, room);
             made("file", room(rest, LONGEST_CARD_FILE)?, call)
+        }
+        ["event", expander, phy, address, ref rest @ ..] => {
+            let event = Event {
+                place: (number(expander)?, number(phy)?),
+                address: self::address(address)?,
+            };
+            self::event(subject, setting, file, event, rest)
         }
         ["join", expander, phy, other, far, far_phy, ref rest @ ..] => {
             let near = (number(expander)?, number(phy)?);
@@ -331,12 +346,7 @@ fn trace(
             ["bits", number] => bytes = self::number(number)?,
             ["bytes", number] => room = self::number(number)?,
             [switch @ ("disable" | "enable"), entry] => {
-                let word = word_of(setting, file, entry)?;
-                let byte = bits.get_mut(word / 8).ok_or_else(|| missing(entry))?;
-                match switch {
-                    "disable" => *byte |= 0x80 >> (word % 8),
-                    _ => *byte &= !(0x80 >> (word % 8)),
-                }
+                self::switch(&mut bits, switch, word_of(setting, file, entry)?, entry)?;
             }
             _ => return Err(usage()),
         }
@@ -374,6 +384,73 @@ fn trace(
         "{outcome} count {count}\npassed {}",
         numbers.join(" ")
     ))
+}
+
+/// An event over what the table call gives, with the lengths, words and bits that `rest`
+/// states, and the call on the edited file.
+fn event(
+    subject: &dyn Calls,
+    setting: u32,
+    file: &[u8],
+    event: Event,
+    rest: &[&str],
+) -> Result<String, Failed> {
+    let at = rest.iter().position(|&word| word == "then");
+    let (own, then) = rest.split_at(at.unwrap_or(rest.len()));
+    let (mut given, mut bits) = given(subject, setting, file);
+    let needed = given.len();
+    let (mut length, mut bytes) = (needed, bits.len());
+    for pair in own.chunks(2) {
+        match *pair {
+            ["words", number] => length = self::number(number)?,
+            ["bits", number] => bytes = self::number(number)?,
+            ["set", entry] => {
+                let (entry, word) = entry.split_once('=').ok_or_else(usage)?;
+                let place = word_of(setting, file, entry)?;
+                *given.get_mut(place).ok_or_else(|| missing(entry))? = address(word)?;
+            }
+            [switch @ ("disable" | "enable"), entry] => {
+                self::switch(&mut bits, switch, word_of(setting, file, entry)?, entry)?;
+            }
+            _ => return Err(usage()),
+        }
+    }
+    let mut lent = Lent::of(file);
+    let (mut words, mut bits) = (lent_of(&given, length), lent_of(&bits, bytes));
+    let before = (lent.after(&[]), words.after(&[]), bits.after(&[]));
+    let answer = subject.event(setting, lent.part(), words.part(), bits.part(), event);
+    let what = || "event".into();
+    if let Some(refused) = refusal(answer) {
+        lent.check(what, &before.0)?;
+        words.check(what, &before.1)?;
+        bits.check(what, &before.2)?;
+        return Ok(refused);
+    }
+    let file = lent.written(what, &before.0, file.len())?;
+    let words = words.written(what, &before.1, needed)?;
+    let bits = bits.written(what, &before.2, needed.div_ceil(8))?;
+    if let [_, call @ ..] = then {
+        return under(subject, setting, &file, call);
+    }
+    let bits: Vec<String> = bits.iter().map(|byte| format!(" {byte:02x}")).collect();
+    Ok(format!(
+        "touched {} changed {}\n{}\nbits{}\nfile {}",
+        answer >> 32,
+        answer & 0xffff_ffff,
+        list("words", &words),
+        bits.concat(),
+        hex(&file)
+    ))
+}
+
+/// Sets or clears the bit of a word.
+fn switch(bits: &mut [u8], switch: &str, word: usize, entry: &str) -> Result<(), Failed> {
+    let byte = bits.get_mut(word / 8).ok_or_else(|| missing(entry))?;
+    match switch {
+        "disable" => *byte |= 0x80 >> (word % 8),
+        _ => *byte &= !(0x80 >> (word % 8)),
+    }
+    Ok(())
 }
 
 /// A join, and the call on the joined file that `rest` states.

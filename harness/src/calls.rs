@@ -1,6 +1,7 @@
 //! The calls of include/metzurgo.h, so that the archive, the reference and the
 //! fast version can stand in for each other.
 
+use crate::events::Event;
 use crate::reference::Place;
 use crate::shelves::Words;
 
@@ -63,6 +64,14 @@ pub trait Calls: Sync {
     ) -> u64;
     fn card_of_file(&self, setting: u32, file: &[u8], card: &mut [u8]) -> u64;
     fn file_of_card(&self, setting: u32, card: &[u8], file: &mut [u8]) -> u64;
+    fn event(
+        &self,
+        setting: u32,
+        file: &mut [u8],
+        words: &mut [u64],
+        bits: &mut [u8],
+        event: Event,
+    ) -> u64;
     fn join(&self, setting: u32, first: Part, second: Part, out: &mut [u8]) -> u64;
     fn make(&self, first: u64, second: u64, words: &[u64], out: &mut [u8]) -> u64;
     fn write_route(
@@ -188,6 +197,17 @@ impl Calls for Archive {
 
     fn file_of_card(&self, setting: u32, card: &[u8], file: &mut [u8]) -> u64 {
         metzurgo::raw::file_of_card(setting, card, file)
+    }
+
+    fn event(
+        &self,
+        setting: u32,
+        file: &mut [u8],
+        words: &mut [u64],
+        bits: &mut [u8],
+        event: Event,
+    ) -> u64 {
+        metzurgo::raw::event(setting, file, words, bits, event.place, event.address)
     }
 
     fn join(&self, setting: u32, first: Part, second: Part, out: &mut [u8]) -> u64 {

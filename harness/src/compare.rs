@@ -4,6 +4,7 @@
 use std::fmt::{Debug, Write};
 
 use crate::calls::Calls;
+use crate::events;
 use crate::generate;
 use crate::joins;
 use crate::random::Random;
@@ -71,6 +72,7 @@ pub struct Counts {
     /// Files that have a card, and cards that were spoiled.
     pub cards: u64,
     pub spoiled_cards: u64,
+    pub events: events::Reached,
     pub joins: joins::Reached,
     /// Solutions of which a file was made, and tables of accepted rigs among them.
     pub solutions: u64,
@@ -101,6 +103,7 @@ impl Counts {
         self.switched += other.switched;
         self.shelves += other.shelves;
         self.cards += other.cards;
+        self.events.add(&other.events);
         self.joins.add(&other.joins);
         self.spoiled_cards += other.spoiled_cards;
         self.solutions += other.solutions;

@@ -3,6 +3,7 @@
 
 use crate::calls::{Calls, Part};
 use crate::cards;
+use crate::events::{self, Event};
 use crate::exercises;
 use crate::joins;
 use crate::reference::Reference;
@@ -838,6 +839,17 @@ impl Calls for Fast {
 
     fn file_of_card(&self, setting: u32, card: &[u8], file: &mut [u8]) -> u64 {
         cards::put(cards::file_of_card(setting, card), file)
+    }
+
+    fn event(
+        &self,
+        setting: u32,
+        file: &mut [u8],
+        words: &mut [u64],
+        bits: &mut [u8],
+        event: Event,
+    ) -> u64 {
+        events::put(setting, file, words, bits, event)
     }
 
     fn join(&self, setting: u32, first: Part, second: Part, out: &mut [u8]) -> u64 {

@@ -23,7 +23,7 @@ pub struct End {
 }
 
 /// Where the DISCOVER response of a phy starts in a file that causes 1 to 6 leave.
-fn start_of(file: &[u8], (expander, phy): Place) -> usize {
+pub fn start_of(file: &[u8], (expander, phy): Place) -> usize {
     let mut at = 2;
     for number in 0..=expander {
         let general = &file[at + 8..];

@@ -15,6 +15,7 @@ mod call;
 mod calls;
 mod cards;
 mod compare;
+mod events;
 mod exercises;
 mod fast;
 mod forms;
@@ -166,6 +167,8 @@ fn check(subject: &dyn Calls, seed: u64, counts: &mut Counts) -> Result<&'static
             cards::check(subject, setting, &made.file, &mut random, counts)
                 .map_err(|difference| difference.under(setting))?;
             joins::check(subject, &made.file, &mut random, counts)?;
+            events::check(subject, setting, &made.file, &mut random.aside(), counts)
+                .map_err(|difference| difference.under(setting))?;
             exercises::check(subject, &mut random, counts)
         })
         .map_err(|difference| Failure {
@@ -313,6 +316,7 @@ fn run(subject: &dyn Calls, files: u64, seed: u64) {
         "  cards: {} of files, {} spoiled",
         counts.cards, counts.spoiled_cards
     );
+    counts.events.print();
     counts.joins.print();
     println!(
         "  exercises: {} solutions with a rig, {} of them tables of accepted rigs",
@@ -324,7 +328,7 @@ fn run(subject: &dyn Calls, files: u64, seed: u64) {
     );
     let mut missing = false;
     // 13 is withdrawn.
-    for number in (1..=12).chain(14..=19).chain(21..=24) {
+    for number in (1..=12).chain(14..=24) {
         let calls = counts.refusals[number];
         let files = counts.refused_files[number];
         match number {
@@ -357,6 +361,10 @@ fn run(subject: &dyn Calls, files: u64, seed: u64) {
     }
     if counts.rules.contains(&0) || counts.bad_steps == 0 || counts.walks == 0 {
         println!("a rule of a step was never reached");
+        exit(1);
+    }
+    if !counts.events.whole() {
+        println!("a kind of event was never reached");
         exit(1);
     }
     if !counts.joins.whole() {

@@ -9,6 +9,7 @@ use std::ops::Range;
 
 use crate::calls::{Calls, Part};
 use crate::cards;
+use crate::events::{self, Event};
 use crate::exercises;
 use crate::forms;
 use crate::joins;
@@ -675,6 +676,35 @@ impl Domain {
         self.take_levels(next, list);
     }
 
+    /// The expanders in the levels of a table phy; none where it is attached to no
+    /// expander, or to a table phy.
+    pub fn beyond(&self, place: Place) -> BTreeSet<u8> {
+        let mut found = BTreeSet::new();
+        if let Some(next) = self.phy_at(place).and_then(|phy| self.downward(phy)) {
+            self.find_beyond(next, place.0, &mut found);
+        }
+        found
+    }
+
+    /// Adds an expander of a level that was come to from another, and those beyond it.
+    fn find_beyond(&self, at: u8, from: u8, found: &mut BTreeSet<u8>) {
+        if found.insert(at) {
+            let phys = self.expanders[&at].phys.values();
+            for next in phys.filter_map(|phy| self.downward(phy)) {
+                if next != from {
+                    self.find_beyond(next, at, found);
+                }
+            }
+        }
+    }
+
+    /// The expander that a table phy leads to, which is in a level.
+    fn downward(&self, phy: &Phy) -> Option<u8> {
+        let leads = phy.attribute == Attribute::Table && !self.is_table_to_table(phy);
+        let far = self.far_end(phy).filter(|_| leads);
+        far.map(|(expander, _)| expander)
+    }
+
     /// Causes 11, 12, 23 and 14 on a domain that passed 1 to 10.
     pub fn judge(self, setting: Setting) -> Result<Judged, Refusal> {
         self.test_shape()?;
@@ -918,6 +948,32 @@ impl Judged {
             None => Refusal::of(15, NOWHERE).answer(),
             Some(((expander, phy), index)) => number(&[expander, phy]) * 65536 + u64::from(index),
         }
+    }
+
+    /// The non-vacant table phys, each of which has a table.
+    pub fn table_phys(&self) -> Vec<Place> {
+        self.stretches.keys().copied().collect()
+    }
+
+    /// The words of a table among those of all tables.
+    pub fn stretch(&self, place: Place) -> Range<usize> {
+        self.stretches[&place].clone()
+    }
+
+    /// The tables that have an expander in one of their levels.
+    pub fn tables_beyond(&self, expander: u8) -> Vec<Place> {
+        // The tables of a wide link have the same levels.
+        let mut levels = HashMap::new();
+        let mut tables = self.table_phys();
+        tables.retain(|&place| {
+            let phy = self.domain.phy_at(place).expect("a table phy");
+            let link = (place.0, self.domain.far_end(phy).map(|far| far.0));
+            let beyond = levels.entry(link);
+            beyond
+                .or_insert_with(|| self.domain.beyond(place))
+                .contains(&expander)
+        });
+        tables
     }
 
     /// The words at which tables begin.
@@ -1321,6 +1377,17 @@ impl Calls for Reference {
 
     fn file_of_card(&self, setting: u32, card: &[u8], file: &mut [u8]) -> u64 {
         cards::put(cards::file_of_card(setting, card), file)
+    }
+
+    fn event(
+        &self,
+        setting: u32,
+        file: &mut [u8],
+        words: &mut [u64],
+        bits: &mut [u8],
+        event: Event,
+    ) -> u64 {
+        events::put(setting, file, words, bits, event)
     }
 
     fn join(&self, setting: u32, first: Part, second: Part, out: &mut [u8]) -> u64 {

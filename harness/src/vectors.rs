@@ -3,6 +3,7 @@
 
 use crate::calls::Calls;
 use crate::compare::{hex, same, Difference, Lent};
+use crate::events;
 use crate::generate::WIDEST;
 use crate::joins;
 use crate::layout::*;
@@ -346,6 +347,7 @@ pub fn run(subject: &dyn Calls) -> Result<usize, Difference> {
     test.shelf_entries()?;
     test.shelf_of_any_bytes()?;
     test.smp_utils()?;
+    test.count += events::vectors(test.subject)?;
     test.count += joins::vectors(test.subject)?;
     Ok(test.count)
 }
