@@ -25,7 +25,7 @@ ROOT = Path(__file__).resolve().parent.parent
 sys.path.insert(0, str(ROOT / "bindings/python"))
 from metzurgo import rigtext  # noqa: E402
 
-NUMBERS = [*range(1, 13), *range(14, 20), *range(21, 25)]  # 13 is withdrawn
+NUMBERS = [*range(1, 13), *range(14, 25)]  # 13 is withdrawn
 WRITTEN = ("words", "bits", "passed", "card", "form", "answers")
 KEYS = ("shows", "call", "answer", *WRITTEN, "repair", "repaired call", "repaired answer")
 
@@ -362,7 +362,7 @@ def check_refusal_table(samples):
     """docs/FILE-FORMAT.md: a row for each number, with a sample and its repair."""
     rows = table_rows(ROOT / "docs/FILE-FORMAT.md", "## Refusals")
     if [row[0] for row in rows] != [str(number) for number in NUMBERS]:
-        raise Wrong("the table of refusals does not have the rows 1 to 12, 14 to 19 and 21 to 24")
+        raise Wrong("the table of refusals does not have the rows 1 to 12 and 14 to 24")
     for number, _, name, repair in rows:
         sample = samples.get(name.strip("`"))
         if not sample or sample.number != int(number):
