@@ -33,6 +33,8 @@ SUBCOMMANDS = (
     "build",
     "print",
     "card",
+    "plug",
+    "pull",
     "join",
     "exercise",
     "collect",
@@ -130,7 +132,7 @@ class Check:
     def __init__(self, unpacked, archive, folder):
         self.unpacked, self.archive = unpacked, archive
         self.file, self.folder = folder / "rig.bin", folder
-        self.traces = self.requests = self.pictures = self.shelves = self.joined = 0
+        self.traces = self.requests = self.pictures = self.shelves = self.joined = self.events = 0
 
     def sample(self, path):
         """Every subcommand on one sample, as a text and as a domain file."""
@@ -147,6 +149,7 @@ class Check:
         self.judge(answer)
         self.tables()
         self.join()
+        self.plug_and_pull()
         self.all_traces()
         self.matrix()
         self.picture()
@@ -292,6 +295,39 @@ class Check:
         same("a join", answer, f"bytes {told['bytes']}")
         same("the file of a join", written["file"], [out.read_bytes().hex()])
         self.joined += 1
+
+    def plug_and_pull(self):
+        """A drive is plugged into the last phy that is no expander's, and pulled at the first."""
+        places = [
+            (number, phy)
+            for number, (_, phys) in enumerate(expanders(self.bytes))
+            for phy, frame in enumerate(phys)
+            if not frame[2] and frame[12] >> 4 & 7 < 2
+        ]
+        if places:
+            listed = self.unpacked.answer("tables", "tables", self.rig, "--stored")
+            self.event(listed, places[-1], "plug", NOBODY)
+            self.event(listed, places[0], "pull")
+
+    def event(self, listed, place, name, address=None):
+        """An event edits the file and stored tables as the archive does, or neither."""
+        answer, written = self.archive.call(self.file, "event", *place, address or "0")
+        file, stored = self.folder / "edited.bin", self.folder / "stored"
+        file.write_bytes(self.bytes)
+        stored.write_bytes(listed)
+        words = [name, file, "{}.{}".format(*place), *filter(None, [address])]
+        told = self.json(*words, "--tables", stored, status=int(answer.startswith("refused")))
+        if "refused" in told:
+            numbers = [told["refused"][key] for key in ("number", "expander", "phy")]
+            same("the refusal of an event", answer, "refused {} {} {}".format(*numbers))
+            same("the file after a refusal", self.bytes, file.read_bytes())
+            same("the tables after a refusal", listed, stored.read_bytes())
+            return
+        same("an event", answer, f"touched {told['tables']} changed {told['words']}")
+        same("the file of an event", written["file"], [file.read_bytes().hex()])
+        left = [line.split()[3] for line in stored.read_text().splitlines()[:-1]]
+        same("the tables of an event", written["words"], left)
+        self.events += 1
 
     # Requests.
 
@@ -561,12 +597,13 @@ def main():
     for line in wrong:
         print(line)
     joined = sum(check.joined for check, _ in done)
-    if wrong or not all((traces, requests, pictures, shelves, joined)):
+    events = sum(check.events for check, _ in done)
+    if wrong or not all((traces, requests, pictures, shelves, joined, events)):
         print(f"tarball: {len(wrong)} samples differ")
         return 1
     print(
         f"tarball: {len(samples)} samples, {traces} traces, {requests} requests in lists,"
-        f" {shelves} shelves, {joined} joins, {pictures} pictures;"
+        f" {shelves} shelves, {joined} joins, {events} events, {pictures} pictures;"
         f" the command answers as the archive does in {archive.calls} calls"
     )
     return 0

@@ -89,6 +89,21 @@ class Needed(NamedTuple):
         return cls(answer >> 32, answer & 0xFFFFFFFF)
 
 
+class Moved(NamedTuple):
+    """How many tables an event touched, and how many words it changed."""
+
+    tables: int
+    words: int
+
+    @classmethod
+    def of(cls, answer: int) -> "Moved":
+        """
+        >>> Moved.of(3 << 32 | 2)
+        Moved(tables=3, words=2)
+        """
+        return cls(answer >> 32, answer & 0xFFFFFFFF)
+
+
 class Place(NamedTuple):
     """The expander, phy and route index that a table word belongs to."""
 

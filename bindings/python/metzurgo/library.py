@@ -13,7 +13,18 @@ from ctypes import POINTER, c_char_p, c_size_t, c_uint8, c_uint16, c_uint32, c_u
 from pathlib import Path
 from typing import Any, List, Optional, Sequence, Tuple
 
-from .answers import Discovered, General, Needed, Place, Route, Setting, Step, Traced, checked
+from .answers import (
+    Discovered,
+    General,
+    Moved,
+    Needed,
+    Place,
+    Route,
+    Setting,
+    Step,
+    Traced,
+    checked,
+)
 
 FILE_NAME = "libmetzurgo.so"
 FRAME = 40  # the bytes of a CONFIGURE ROUTE INFORMATION request
@@ -27,6 +38,7 @@ _BYTES = [c_char_p, c_size_t]  # read only
 _LENT = [POINTER(c_uint8), c_size_t]
 _WORDS = [POINTER(c_uint64), c_size_t]
 _REQUEST = [c_uint8, c_uint8, c_uint64]  # start, arrival phy, address
+_EVENT = [c_uint8, c_uint8, c_uint64]  # expander, phy, address
 _END = _BYTES + [c_uint8, c_uint8]  # a file, and an expander and phy of it
 
 # Each call and its parameters. Every answer is a 64-bit number.
@@ -43,6 +55,7 @@ CALLS = {
     "metzurgo_compact_tables": _SETTING + _WORDS + _WORDS + _LENT,
     "metzurgo_compact_trace": _SETTING + _WORDS + _WORDS + _LENT + _REQUEST + _LENT,
     "metzurgo_compact_trace_many": _SETTING + _WORDS + _WORDS + _LENT + _WORDS + _WORDS,
+    "metzurgo_event": _SETTING + _LENT + _WORDS + _LENT + _EVENT,
     "metzurgo_card_of_file": _SETTING + _BYTES + _LENT,
     "metzurgo_file_of_card": _SETTING + _BYTES + _LENT,
     "metzurgo_join": _SETTING + _END + _END + _LENT,
@@ -204,6 +217,26 @@ class Library:
                 )
             )
         )
+
+    # Drives plugged and pulled.
+
+    def event(
+        self,
+        setting: Setting,
+        file: bytes,
+        words: Any,
+        bits: Any,
+        place: Tuple[int, int],
+        address: int,
+    ) -> Tuple[bytes, Moved]:
+        """The file with a drive plugged into a phy, or pulled (address 0), and what that moved.
+
+        Words and bits are edited where they are.
+        """
+        edited = (c_uint8 * len(file)).from_buffer_copy(file)
+        lent = (edited, len(edited), words, len(words), bits, len(bits))
+        answer = checked(self._calls.metzurgo_event(setting.packed(), *lent, *place, address))
+        return bytes(edited), Moved.of(answer)
 
     # Compact forms. Forms and requests are words, as words_of takes them.
 

@@ -6,6 +6,7 @@ import errno
 import os
 import re
 import sys
+from array import array
 from typing import (
     Any,
     Callable,
@@ -21,12 +22,14 @@ from typing import (
 )
 
 from . import rigtext
-from .answers import NO_PHY, WIDEST, Discovered, Needed, Refusal, Setting, Step, Traced
-from .library import Library, counted, library
+from .answers import NO_PHY, WIDEST, Discovered, Moved, Needed, Refusal, Setting, Step, Traced
+from .library import Library, counted, library, words_of
 
 ATTRIBUTES = ("direct", "subtractive", "table")
 NOTHING, END_DEVICE, EDGE_EXPANDER, FANOUT_EXPANDER = 0, 1, 2, 3
 COUNTS = 3  # the refusal of more expanders or phys than the setting allows
+LENT = (16, 18)  # the refusals of too few words and disable bits
+EVENT = 20  # the refusal of a phy that no drive can be plugged into or pulled from
 JOIN = 21  # the refusal of a phy that cannot join two rigs
 FORMS = ("text", "file", "card")  # what a rig is loaded from
 
@@ -49,6 +52,14 @@ class CardRefused(Refusal):
 
 class JoinRefused(Refusal):
     """A join was refused. The rig is the one that the refusal is about."""
+
+    def __init__(self, rig: "Rig", refusal: Refusal) -> None:
+        super().__init__(refusal.number, refusal.expander, refusal.phy)
+        self.rig = rig
+
+
+class EventRefused(Refusal):
+    """An event was refused. The rig is the one that the refusal is about, edited or not."""
 
     def __init__(self, rig: "Rig", refusal: Refusal) -> None:
         super().__init__(refusal.number, refusal.expander, refusal.phy)
@@ -129,6 +140,13 @@ class Tables(NamedTuple):
 
     words: Any
     bits: Any
+    tables: List[Table]
+
+
+class Event(NamedTuple):
+    """What an event did: its counts, and the tables that it touched; those of R 0 are left out."""
+
+    moved: Moved
     tables: List[Table]
 
 
@@ -451,6 +469,99 @@ class Rig:
             last = first + self.expanders[place.expander].indexes
             tables.append(Table(place.expander, place.phy, first, view[first:last], bits))
         return Tables(words, bits, tables)
+
+    # Drives plugged and pulled. The rig and its tables are edited.
+
+    def plug(self, tables: Tables, place: Tuple[int, int], address: int) -> Event:
+        """Plugs a drive into a phy, in place of one that is there.
+
+        The place is an expander and a phy. The tables that the event touches are written afresh,
+        and the others stay as they are. EventRefused where nothing can be plugged in there, or
+        where the rig would then be refused; neither rig nor tables change then.
+
+        >>> from metzurgo import PAIR
+        >>> rig = Rig.of_text(PAIR)
+        >>> tables = rig.tables()
+        >>> rig.plug(tables, (1, 2), 0x50000000000000C1).moved
+        Moved(tables=1, words=1)
+        >>> hex(tables.words[1]), rig.expanders[1].phys[2].at_drive
+        ('0x50000000000000c1', True)
+        >>> rig.plug(tables, (1, 0), 0x50000000000000C2)
+        Traceback (most recent call last):
+        ...
+        metzurgo.rig.EventRefused: refused 20 0 0
+        """
+        if address == 0:
+            raise ValueError("no drive has address zero")
+        return self._event(tables, place, address)
+
+    def pull(self, tables: Tables, place: Tuple[int, int]) -> Event:
+        """Pulls the drive at a phy, where there is one, as plug plugs one in.
+
+        >>> from metzurgo import PAIR
+        >>> rig = Rig.of_text(PAIR)
+        >>> tables = rig.tables()
+        >>> event = rig.pull(tables, (1, 1))
+        >>> [(table.expander, table.phy) for table in event.tables], list(tables.words)
+        ([(0, 0)], [0, 0, 0, 0])
+        """
+        return self._event(tables, place, 0)
+
+    def _event(self, tables: Tables, place: Tuple[int, int], address: int) -> Event:
+        lent = (self.setting, self.file, tables.words, tables.bits)
+        try:
+            touched = self._touched(tables, place, address)
+            self.file, moved = library().event(*lent, place, address)
+        except Refusal as refusal:
+            raise self._event_refused(refusal, place, address) from None
+        self.card = self._expanders = self._names = self._labels = None
+        self._starts = {}
+        return Event(moved, touched)
+
+    def _touched(self, tables: Tables, place: Tuple[int, int], address: int) -> List[Table]:
+        """The tables that the library writes, where it is lent words that no table can have."""
+        nobody = self._nobody(address)
+        words = words_of(array("Q", [nobody]) * len(tables.words))
+        bits = type(tables.bits)()
+        library().event(self.setting, self.file, words, bits, place, address)
+        return [table for table in tables.tables if words[table.first] != nobody]
+
+    def _nobody(self, address: int) -> int:
+        """An address that no device has, nor the one of an event."""
+        devices = {address}
+        for expander in self.expanders:
+            devices.add(expander.address)
+            devices.update(phy.attached for phy in expander.phys)
+        return next(other for other in range(1, len(devices) + 2) if other not in devices)
+
+    def _event_refused(
+        self, refusal: Refusal, place: Tuple[int, int], address: int
+    ) -> EventRefused:
+        """The refusal with the rig that it is about, in the order of the tests."""
+        found = EventRefused(self, refusal)
+        try:
+            self.judge()
+        except Refusal:
+            return found
+        if refusal.number == EVENT:
+            found.named = place
+        elif refusal.number not in LENT:
+            found.rig = self._edited(place, address)
+        return found
+
+    def _edited(self, place: Tuple[int, int], address: int) -> "Rig":
+        """The edited rig that the library judged, for its sentence."""
+        file = bytearray(self.file)
+        start = self.start(*place) or 0
+        file[start + 12] &= 0x8F
+        if address:
+            file[start + 12] |= END_DEVICE << 4
+            file[start + 24 : start + 33] = address.to_bytes(8, "big") + bytes(1)
+        rig = Rig(bytes(file), f"{self.source} after the event", self.setting)
+        rig.text, rig._called = self.text, self._called
+        return rig
+
+    # Two rigs.
 
     def join(self, place: Tuple[int, int], other: "Rig", far: Tuple[int, int]) -> "Rig":
         """The rig of this one and another, joined by a cable between a phy of each.

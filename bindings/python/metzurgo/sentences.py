@@ -570,6 +570,21 @@ def least_indexes(rig: Rig, expander: int) -> Optional[int]:
     return low
 
 
+def tell_event(rig: Rig, expander: int, phy: int) -> Optional[Told]:
+    """Why no drive can be plugged into a phy or pulled from it."""
+    missing = missing_phy(rig, expander, phy)
+    if missing:
+        return missing
+    found = rig.expanders[expander].phys[phy]
+    name, change = rig.phy_name(expander, phy), GENERAL[20].change
+    if found.vacant:
+        return Told(f"{name} is vacant", change, found.line)
+    if found.at_expander:
+        cabled = f"{name} is cabled to the expander {rig.label(found.attached)}"
+        return Told(cabled, change, found.line)
+    return None
+
+
 def tell_join(rig: Rig, expander: int, phy: int) -> Optional[Told]:
     """Why a phy cannot be cabled to another rig; None where it can."""
     missing = missing_phy(rig, expander, phy)
@@ -701,6 +716,7 @@ TELLERS: Dict[int, Callable[[Rig, int, int], Optional[Told]]] = {
     11: tell_loop,
     12: tell_island,
     14: tell_list,
+    20: tell_event,
     21: tell_join,
     22: tell_setting,
     23: tell_chain,

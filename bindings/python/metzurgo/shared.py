@@ -8,7 +8,7 @@ import time
 from typing import Any, Dict, Iterable, Iterator, NoReturn, Optional, TypeVar
 
 from .answers import WIDEST, Refusal, Setting
-from .rig import FORMS, CardRefused, JoinRefused, Rig, Tables
+from .rig import FORMS, CardRefused, EventRefused, JoinRefused, Rig, Tables
 
 ACCEPTED, REFUSED, USAGE, UNREADABLE = 0, 1, 2, 3
 
@@ -160,19 +160,36 @@ def answered(rig: Rig, act: Any, *arguments: Any) -> Any:
     """What a call answers; a refusal ends the command."""
     try:
         return act(*arguments)
-    except JoinRefused as refusal:
+    except (JoinRefused, EventRefused) as refusal:
         raise Refused(refusal.rig, refusal) from None
     except Refusal as refusal:
         raise Refused(rig, refusal) from None
 
 
-def tables_of(rig: Rig) -> Tables:
-    """The tables of a rig, with a progress line; a refusal ends the command."""
+def add_tables(made: Parser, what: str) -> None:
+    made.add_argument(
+        "--tables",
+        metavar="FILE",
+        help=f"{what} stored tables, as tables --stored prints them, in place of those that the"
+        " library fills",
+    )
+
+
+def tables_of(rig: Rig, path: Optional[str] = None) -> Tables:
+    """The tables of a rig, or those that a file has, with a progress line.
+
+    A refusal ends the command.
+    """
+    from . import stored
+
     try:
         total = rig.needed().tables
-        return rig.tables(lambda firsts: progress(firsts, total, "tables"))
+        tables = rig.tables(lambda firsts: progress(firsts, total, "tables"))
     except Refusal as refusal:
         raise Refused(rig, refusal) from None
+    if path is not None:
+        stored.load(rig, tables, path)
+    return tables
 
 
 def progress(items: Iterable[Item], total: int, what: str) -> Iterator[Item]:

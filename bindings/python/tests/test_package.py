@@ -182,6 +182,13 @@ def answers(rig, call):
         near, far = tuple(map(int, match.groups()[:2])), tuple(map(int, match.groups()[3:5]))
         bench = rig.join(near, Rig.load(SAMPLES / f"{match[3]}.rig", rig.setting), far)
         return answers(bench, match[6]) if match[6] else (f"bytes {len(bench.file)}", [])
+    match = re.fullmatch(r"event ([0-9]+) ([0-9]+) ([0-9a-f]{16})(?: then (.*))?", call)
+    if match:
+        tables, place, address = rig.tables(), (int(match[1]), int(match[2])), int(match[3], 16)
+        event = rig.plug(tables, place, address) if address else rig.pull(tables, place)
+        words = [f"{word:016x}" for word in tables.words]
+        told = f"touched {event.moved.tables} changed {event.moved.words}"
+        return answers(rig, match[4]) if match[4] else (told, words)
     match = re.fullmatch(r"make ([0-9a-f]+) ([0-9a-f]+)((?: [0-9a-f]+)*)", call)
     if match:
         words = [int(word, 16) for word in match[3].split()]

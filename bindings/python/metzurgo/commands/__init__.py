@@ -14,6 +14,8 @@ ORDER = (
     "build",
     "print",
     "card",
+    "plug",
+    "pull",
     "join",
     "exercise",
     "collect",

@@ -1,9 +1,10 @@
 """metzurgo tables: the routing tables of a rig."""
 
 import argparse
+import sys
 from typing import Any, Dict, List, Tuple
 
-from .. import shared
+from .. import shared, stored
 from ..answers import Needed
 from ..rig import Rig, Table, address_text
 from ..sentences import phys_text, plural
@@ -24,17 +25,31 @@ def add_parser(subparsers: Any) -> None:
         "print the routing tables of a rig",
         "Prints each routing table with its entries: index, address, name. Phys of one wide"
         " link whose tables are equal stand together, and the zeros at the end of a table"
-        " are counted.",
+        " are counted. With --stored they are printed as lines that are kept in a file, for the"
+        " subcommands plug, pull and trace.",
         EXAMPLE,
     )
     shared.add_rig(parser)
     parser.add_argument("--all", action="store_true", help="print every table and every entry")
+    shared.add_tables(parser, "print")
+    parser.add_argument(
+        "--stored",
+        action="store_true",
+        help="print the tables to be stored: a line for each entry, with expander, phy, index and"
+        " address, as the program routes lists them",
+    )
     parser.set_defaults(run=run)
 
 
 def run(args: argparse.Namespace) -> int:
     rig = shared.load(args)
-    tables = shared.tables_of(rig).tables
+    every = shared.tables_of(rig, args.tables)
+    tables = every.tables
+    if args.stored:
+        if args.json:
+            raise shared.CommandError("--stored is a form of its own, and --json another")
+        sys.stdout.writelines(stored.lines(every, rig.needed()))
+        return shared.ACCEPTED
     if args.json:
         shared.print_json({"tables": [table_json(rig, table) for table in tables]})
         return shared.ACCEPTED

@@ -9,6 +9,7 @@ from ..answers import NO_PHY, OUTCOMES, RULES, Traced
 from ..requests import address_of, start_of
 from ..rig import Passed, Rig, Table, Tables, address_text
 from ..sentences import plural
+from ..stored import set_disabled
 
 EXAMPLE = """\
   $ metzurgo trace samples/pair.rig top B1
@@ -83,6 +84,7 @@ def add_parser(subparsers: Any) -> None:
         "--disable", action=Alter, metavar="E.P.I", help="disable that entry; its address stays"
     )
     parser.add_argument("--enable", action=Alter, metavar="E.P.I", help="enable that entry")
+    shared.add_tables(parser, "trace over")
     parser.set_defaults(run=run, alter=[])
 
 
@@ -90,7 +92,7 @@ def run(args: argparse.Namespace) -> int:
     if args.all and args.FROM is not None:
         raise shared.CommandError("with --all there is no FROM and no TO")
     rig = shared.load(args)
-    tables = shared.tables_of(rig)
+    tables = shared.tables_of(rig, args.tables)
     for option, value in args.alter:
         alter(rig, tables, option, value)
     if args.all:
@@ -124,18 +126,9 @@ def alter(rig: Rig, tables: Tables, option: str, value: str) -> None:
     if option == "set":
         address = 0 if re.fullmatch("0+", text) else address_of(rig, text)
         tables.words[word] = address
-        disable(tables, word, address == 0)
+        set_disabled(tables, word, address == 0)
     else:
-        disable(tables, word, option == "disable")
-
-
-def disable(tables: Tables, word: int, disabled: bool) -> None:
-    """Sets or clears the bit of a word: most significant bit first."""
-    bit = 0x80 >> word % 8
-    if disabled:
-        tables.bits[word // 8] |= bit
-    else:
-        tables.bits[word // 8] &= ~bit & 0xFF
+        set_disabled(tables, word, option == "disable")
 
 
 def entry_of(rig: Rig, tables: Tables, place: str) -> Tuple[Table, int]:
