@@ -442,7 +442,10 @@ uint64_t metzurgo_file_of_card(uint32_t setting, const uint8_t *card,
  * phy does not exist, or the phy is vacant or attached to an expander), 16 (fewer words
  * than needed) and 18 (fewer disable bits); then judges the edited file, whose refusal,
  * with its own number and place, is the answer. Nothing is edited then.
- * Answer: tables touched * 2^32 + words whose value is another than the one lent.
+ * Answer: tables touched * 2^32 + words whose value is another than the one lent. For an
+ * event on a direct phy, over tables that nothing else has altered, each table changes
+ * at no more than one index, and the words changed are at most as many as the table phys
+ * attached to expanders.
  */
 uint64_t metzurgo_event(uint32_t setting, uint8_t *file, size_t file_len,
                         uint64_t *words, size_t words_len, uint8_t *bits,

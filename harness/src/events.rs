@@ -1,5 +1,7 @@
-//! Drives plugged and pulled as document 02 has it (paper 9), and lists of events
+//! Drives plugged and pulled as document 02 has it (papers 9 and 10), and lists of events
 //! compared with it, over tables as the table call gave them and over altered ones.
+
+use std::collections::BTreeMap;
 
 use crate::calls::Calls;
 use crate::compare::{hex, same, Counts, Difference, Lent};
@@ -428,6 +430,11 @@ pub struct Reached {
     /// Events over altered tables, and those that left an altered table as it was.
     altered: u64,
     left: u64,
+    /// Events on direct phys over unaltered tables, and those that changed as many words as
+    /// the bound allows; events on other phys that changed a list's length.
+    direct: u64,
+    most: u64,
+    lengths: u64,
 }
 
 impl Reached {
@@ -443,6 +450,9 @@ impl Reached {
             (&mut self.lists, other.lists),
             (&mut self.altered, other.altered),
             (&mut self.left, other.left),
+            (&mut self.direct, other.direct),
+            (&mut self.most, other.most),
+            (&mut self.lengths, other.lengths),
         ] {
             *sum += more;
         }
@@ -458,6 +468,10 @@ impl Reached {
         println!(
             "  events: {}; {} plugs ({} in a drive's place) and {} pulls accepted, {} over altered tables, of which {} left one; {} lists compared with the tables afresh",
             self.events, self.plugs, self.replaced, self.pulls, self.altered, self.left, self.lists
+        );
+        println!(
+            "  events on a direct phy over unaltered tables: {}, all within the bound, {} at it; on other phys {} changed a list's length",
+            self.direct, self.most, self.lengths
         );
         let [no_expander, no_phy, vacant, at_expander] = self.phy;
         println!(
@@ -485,6 +499,9 @@ impl Reached {
             self.lists,
             self.altered,
             self.left,
+            self.direct,
+            self.most,
+            self.lengths,
         ];
         let edited = [8, 9, 14].map(|number| self.edited[number]);
         !kinds.contains(&0)
@@ -609,9 +626,11 @@ impl List<'_> {
         lab.bits.extend(random.bytes(random.aside().below(4)));
         for _ in 0..events {
             let judged = self.judged(&lab.file);
+            let before = lab.clone();
             let event = any_event(&judged, random);
             if self.happen(event, &mut lab, random, counts)?.is_some() {
                 self.afresh(&lab, counts)?;
+                self.bound(event, &judged, &before, &lab, counts)?;
             }
         }
         counts.events.lists += 1;
@@ -757,6 +776,50 @@ impl List<'_> {
         let left = (&lab.words[..words.len()], &lab.bits[..bits.len()]);
         let alike = left == (&words, &bits) && left == (&filled.0, &filled.1);
         same(what, 1, alike as u64)
+    }
+
+    /// Paper 10: an event on a direct phy changes each table at no more than one index
+    /// and no list's length, and at most as many words as table phys are attached to
+    /// expanders.
+    fn bound(
+        &self,
+        event: Event,
+        judged: &Judged,
+        before: &Lab,
+        lab: &Lab,
+        counts: &mut Counts,
+    ) -> Result<(), Difference> {
+        let after = self.judged(&lab.file);
+        let phy = |place: Place| judged.domain.expanders[&place.0].phys[&place.1];
+        let tables = judged.table_phys();
+        let length = |judged: &Judged, place| judged.list_of(place).map(Vec::len);
+        let kept = |&place: &Place| length(judged, place) == length(&after, place);
+        let lengths_stay = tables.iter().all(kept);
+        if phy(event.place).attribute != Attribute::Direct {
+            counts.events.lengths += !lengths_stay as u64;
+            return Ok(());
+        }
+        // How many words of each table changed.
+        let mut changes = BTreeMap::new();
+        for (word, (old, new)) in before.words.iter().zip(&lab.words).enumerate() {
+            if old != new {
+                let (table, _) = judged.place_of(word as u64).expect("a word of a table");
+                *changes.entry(table).or_insert(0) += 1;
+            }
+        }
+        let linked = |place: &&Place| matches!(phy(**place).attached, Attached::Expander(..));
+        let most = tables.iter().filter(linked).count();
+        let changed: usize = changes.values().sum();
+        let one_each = changes.values().all(|&count| count == 1);
+        let what = || format!("the bound of {event:x?}, file {}", hex(&before.file));
+        same(
+            what,
+            1,
+            (lengths_stay && one_each && changed <= most) as u64,
+        )?;
+        counts.events.direct += 1;
+        counts.events.most += (changed == most && most > 0) as u64;
+        Ok(())
     }
 }
 

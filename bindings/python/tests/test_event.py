@@ -107,6 +107,44 @@ class Events(unittest.TestCase):
                 self.assertEqual(event.moved.tables, len(event.tables))
         self.assertGreater(accepted, 80)
 
+    def test_the_bound(self):
+        """On a direct phy each table changes at one index at most, and so many tables as can."""
+        reached = 0
+        for path in samples():
+            rig = Rig.load(path)
+            try:
+                tables = rig.tables()
+            except Refusal:
+                continue
+            if len(tables.words) > 1000:
+                continue
+            phys = [phy for expander in rig.expanders for phy in expander.phys if not phy.vacant]
+            most = sum(phy.kind == "table" and phy.at_expander for phy in phys)
+            for expander in rig.expanders:
+                for phy in expander.phys:
+                    if phy.vacant or phy.kind != "direct" or phy.at_expander:
+                        continue
+                    place = (expander.number, phy.number)
+                    for event in (
+                        lambda: rig.plug(tables, place, 0x5FFFFFFFFFFFFFFF),
+                        lambda: rig.pull(tables, place),
+                    ):
+                        before = list(tables.words)
+                        moved = event().moved
+                        self.assertLessEqual(moved.words, most)
+                        for table in tables.tables:
+                            old = before[table.first : table.first + len(table.words)]
+                            changed = [a != b for a, b in zip(old, table.words)]
+                            self.assertLessEqual(sum(changed), 1)
+                        reached += moved.words == most > 1
+        self.assertGreater(reached, 0)
+
+    def test_a_table_phy_is_not_bound(self):
+        rig = Rig.load(SAMPLES / "plug-table-phy.rig")
+        tables = rig.tables()
+        self.assertEqual((1, 3), rig.plug(tables, (1, 1), C1).moved)
+        self.assertEqual([C1, B1, B2, 0, 0], list(tables.words))
+
     def test_tables_without_words(self):
         """They are counted, and not listed."""
         text = (

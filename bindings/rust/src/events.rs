@@ -13,7 +13,9 @@ pub struct Moved {
     /// The tables with the named expander in one of their levels: these were written
     /// afresh, words and disable bits.
     pub tables: u32,
-    /// The words whose value is another than the one lent.
+    /// The words whose value is another than the one lent. For an event on a direct phy,
+    /// over tables that nothing else has altered, these are at most one of each table, and
+    /// at most as many as there are table phys attached to expanders.
     pub words: u32,
 }
 
