@@ -8,16 +8,16 @@ use native.Mathlib.Omega.{arith}
 use lib.ListN.{length, set, length-set}
 use lib.Seq.{map-set-same}
 use Rattle.frames.specs.Refusals.{good}
-use Rattle.wiring.specs.declared.Setting.{Setting}
-use Rattle.wiring.specs.declared.Phy.{Phy}
-use Rattle.wiring.specs.Lists.{In, Distinct}
-use Rattle.wiring.specs.Domain.{Expander, Domain, noExpander, expanderAt}
-use Rattle.wiring.specs.PhySet.{withPhy, setPhy}
-use Rattle.wiring.specs.Read.{ReadPhy, ReadExpander, addresses, Read}
+use Rattle.files.specs.declared.Setting.{Setting}
+use Rattle.files.specs.declared.Phy.{Phy}
+use Rattle.files.specs.Lists.{In, Distinct}
+use Rattle.files.specs.Domain.{Expander, Domain, noExpander, expanderAt}
+use Rattle.files.specs.PhySet.{withPhy, setPhy}
+use Rattle.files.specs.Read.{ReadPhy, ReadExpander, addresses, Read}
 use Rattle.wiring.specs.Devices.{Borne}
 use Rattle.wiring.specs.Chains.{ShortChains}
-use Rattle.wiring.proofs.Members.{in-map, getD-in, in-append, distinct-append}
-use Rattle.wiring.proofs.Wires.{routes-range}
+use Rattle.files.proofs.Members.{in-map, getD-in, in-append, distinct-append}
+use Rattle.files.proofs.Domains.{routes-range}
 use Rattle.wiring.proofs.Accepted.{read-expander}
 use Rattle.wiring.proofs.LongChains.{never-long}
 use Rattle.tables.specs.Tables.{tables}

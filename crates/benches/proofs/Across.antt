@@ -7,9 +7,9 @@ use Prim.Native.Nat.{ℕ, _+_, _<_}
 use native.Mathlib.Omega.{arith}
 use lib.ListN.{length}
 use Rattle.frames.specs.Refusals.{good}
-use Rattle.wiring.specs.declared.Setting.{Setting}
-use Rattle.wiring.specs.Domain.{Domain}
-use Rattle.wiring.specs.Read.{Read}
+use Rattle.files.specs.declared.Setting.{Setting}
+use Rattle.files.specs.Domain.{Domain}
+use Rattle.files.specs.Read.{Read}
 use Rattle.wiring.specs.Devices.{Borne, NoTableToTable}
 use Rattle.tables.specs.Tables.{tables}
 use Rattle.tables.specs.Judge.{judgedDomain}

@@ -7,11 +7,12 @@ use native.Mathlib.Decide.{decLt}
 use native.Mathlib.Omega.{arith}
 use lib.ListN.{length}
 use lib.Dec.{T, ltb, lt→ltb, ltb→lt}
-use Rattle.wiring.specs.Domain.{Domain, expanderAt, phyAt, addressOf, attached, toEnd}
+use Rattle.files.specs.Domain.{Domain, expanderAt, phyAt, addressOf, attached, toEnd}
 use Rattle.wiring.specs.Devices.{Home, Borne, NoTableToTable}
 use Rattle.wiring.specs.Tested.{Linked}
-use Rattle.wiring.proofs.Members.{is-true, is-false}
-use Rattle.wiring.proofs.Wires.{Wired, end-attached}
+use Rattle.files.proofs.Members.{is-true, is-false}
+use Rattle.wiring.proofs.Wires.{Wired}
+use Rattle.files.proofs.Domains.{end-attached}
 use Rattle.tracing.proofs.Arrives.{home-once}
 use Rattle.benches.specs.Bench.{Free, Joinable}
 use Rattle.benches.specs.Joined.{joined}

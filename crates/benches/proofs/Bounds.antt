@@ -12,20 +12,20 @@ use Rattle.frames.specs.ReportGeneral.{generalRead}
 use Rattle.frames.specs.Discovery.{Discovered, vacant, fields, discoverRead}
 use Rattle.frames.specs.declared.Refusal.{Refusal}
 use Rattle.frames.specs.declared.Response.the-variants.{ReportGeneral, Discover}
-use Rattle.wiring.specs.declared.Setting.{Setting}
-use Rattle.wiring.specs.Lists.{numbers, upTo, isIn}
-use Rattle.wiring.specs.Settings.{within, inRange}
-use Rattle.wiring.specs.Domain.{Domain}
-use Rattle.wiring.specs.File.{placed, frameAt, fieldsOf, ranged, phyOf, phyUnit, phyUnits, unitOf, unitTested, expanderUnit, expanders, headerUnit, domainRead}
+use Rattle.files.specs.declared.Setting.{Setting}
+use Rattle.files.specs.Lists.{numbers, upTo, isIn}
+use Rattle.files.specs.Settings.{within, inRange}
+use Rattle.files.specs.Domain.{Domain}
+use Rattle.files.specs.File.{placed, frameAt, fieldsOf, ranged, phyOf, phyUnit, phyUnits, unitOf, unitTested, expanderUnit, expanders, headerUnit, domainRead}
 use Rattle.wiring.specs.Causes.{Place, phyPlaces, placesFrom, places, firstIn, firstOf, unanswered, claimed, clashing, fixed, wiredDomain}
 use Rattle.wiring.specs.Chains.{unlong, chainsWithin}
 use Rattle.wiring.specs.Neighbours.{neighbours}
 use Rattle.wiring.specs.Graph.{loopfree}
 use Rattle.wiring.specs.Links.{unlooped, joined, joinedIn, linkedDomain}
-use Rattle.wiring.proofs.Read.{read-good}
-use Rattle.wiring.proofs.Members.{tests}
-use Rattle.wiring.proofs.Ranges.{range-iff}
-use Rattle.wiring.proofs.Results.{unless-good, good-one}
+use Rattle.files.proofs.Read.{read-good}
+use Rattle.files.proofs.Members.{tests}
+use Rattle.files.proofs.Ranges.{range-iff}
+use Rattle.files.proofs.Results.{unless-good, good-one}
 use Rattle.tables.specs.Judge.{overlong, judgedDomain, judged}
 
 -- a refusal names an expander up to n

@@ -5,9 +5,9 @@ use mathlib.Core.List.{List, [], _∷_, map}
 use mathlib.Core.Bool.{Bool, Bool-discrete}
 use Prim.Native.Nat.{ℕ, _<_}
 use lib.Dec.{T}
-use Rattle.wiring.specs.Lists.{In, Distinct, Below, last}
+use Rattle.files.specs.Lists.{In, Distinct, Below, last}
 use Rattle.wiring.specs.Graph.{Steps, Loop, self, ring, Tail}
-use Rattle.wiring.proofs.Members.{in-cast, last-in, all-cons}
+use Rattle.files.proofs.Members.{in-cast, last-in, all-cons}
 
 -- all members have the property
 abbrev pub All : (ℕ → Type 0) → List ℕ → Type 0

@@ -8,18 +8,18 @@ use native.Mathlib.Omega.{arith}
 use lib.ListN.{length}
 use lib.Dec.{T, leb, not-T, T-not, le→leb}
 use Rattle.frames.specs.Refusals.{Result, refused, good, then, refusal}
-use Rattle.wiring.specs.declared.Setting.{Setting}
-use Rattle.wiring.specs.declared.Phy.{Phy}
-use Rattle.wiring.specs.declared.Phy.the-variants.{Vacant}
-use Rattle.wiring.specs.Lists.{In, any}
-use Rattle.wiring.specs.Settings.{widest}
-use Rattle.wiring.specs.Domain.{Domain, expanderAt, phyAt, routes, attached}
-use Rattle.wiring.specs.Read.{Bytes}
+use Rattle.files.specs.declared.Setting.{Setting}
+use Rattle.files.specs.declared.Phy.{Phy}
+use Rattle.files.specs.declared.Phy.the-variants.{Vacant}
+use Rattle.files.specs.Lists.{In, any}
+use Rattle.files.specs.Settings.{widest}
+use Rattle.files.specs.Domain.{Domain, expanderAt, phyAt, routes, attached}
+use Rattle.files.specs.Read.{Bytes}
 use Rattle.wiring.specs.Devices.{Borne}
 use Rattle.wiring.specs.Chains.{ShortChains}
-use Rattle.wiring.proofs.Members.{and-left, and-right, and-both, any-of, of-any, getD-in, in-getD}
-use Rattle.wiring.proofs.Results.{never, unless-good, good-unless, then-good, good-then}
-use Rattle.wiring.proofs.Wires.{in-range}
+use Rattle.files.proofs.Members.{and-left, and-right, and-both, any-of, of-any, getD-in, in-getD}
+use Rattle.files.proofs.Results.{never, unless-good, good-unless, then-good, good-then}
+use Rattle.files.proofs.Domains.{in-range}
 use Rattle.wiring.proofs.LongChains.{never-long}
 use Rattle.tables.specs.Judge.{judged}
 use Rattle.tables.proofs.Given.{judged-file}

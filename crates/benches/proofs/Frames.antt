@@ -18,13 +18,13 @@ use Rattle.frames.specs.declared.Response.{Response}
 use Rattle.frames.specs.declared.Response.the-variants.{Discover as DiscoverResponse}
 use Rattle.frames.proofs.LongFrames.{size-least}
 use Rattle.frames.proofs.Numbers.{number-back}
-use Rattle.wiring.specs.declared.Phy.{Phy}
-use Rattle.wiring.specs.declared.Phy.the-variants.{Vacant, Present}
-use Rattle.wiring.specs.Domain.{attributeOf}
-use Rattle.wiring.specs.File.{Parsed, parsed, sizeAt, fieldsOf, ranged, phyOf, phyUnit}
-use Rattle.wiring.proofs.Members.{is-true}
-use Rattle.wiring.proofs.Results.{good-one, unless-good, good-unless, then-good}
-use Rattle.wiring.proofs.Reading.{size-whole, size-by, phy-unit-by}
+use Rattle.files.specs.declared.Phy.{Phy}
+use Rattle.files.specs.declared.Phy.the-variants.{Vacant, Present}
+use Rattle.files.specs.Domain.{attributeOf}
+use Rattle.files.specs.File.{Parsed, parsed, sizeAt, fieldsOf, ranged, phyOf, phyUnit}
+use Rattle.files.proofs.Members.{is-true}
+use Rattle.files.proofs.Results.{good-one, unless-good, good-unless, then-good}
+use Rattle.files.proofs.Reading.{size-whole, size-by, phy-unit-by}
 use Rattle.benches.specs.Bytes.{typedTwo, cabledFrame}
 use Rattle.benches.specs.Joined.{cabledTo}
 use Rattle.offsets.proofs.Offsets.{Found}

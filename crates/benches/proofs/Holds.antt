@@ -10,12 +10,12 @@ use native.Mathlib.Omega.{arith}
 use lib.ListN.{length, getD, set, length-append, length-set, List·getD-append}
 use lib.Seq.{getD-append-add, getD-set-same, getD-set-other}
 use lib.Dec.{T, eqb}
-use Rattle.wiring.specs.declared.Phy.{Phy}
-use Rattle.wiring.specs.declared.Phy.the-variants.{Vacant}
-use Rattle.wiring.specs.Domain.{Expander, Domain, noExpander, expanderAt, phyAt, routes, numberOf}
-use Rattle.wiring.specs.PhySet.{withPhy, setPhy}
+use Rattle.files.specs.declared.Phy.{Phy}
+use Rattle.files.specs.declared.Phy.the-variants.{Vacant}
+use Rattle.files.specs.Domain.{Expander, Domain, noExpander, expanderAt, phyAt, routes, numberOf}
+use Rattle.files.specs.PhySet.{withPhy, setPhy}
 use Rattle.wiring.specs.Devices.{Borne}
-use Rattle.wiring.proofs.Wires.{numberOf-is, routes-range, expander-range}
+use Rattle.files.proofs.Domains.{numberOf-is, routes-range, expander-range}
 use Rattle.benches.specs.Bench.{Free, Joinable}
 use Rattle.benches.specs.Joined.{cabledTo, joined}
 

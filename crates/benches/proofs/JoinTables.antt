@@ -7,10 +7,10 @@ use native.Mathlib.Nat.{zero-add}
 use native.Mathlib.Omega.{arith}
 use lib.ListN.{length, set, length-set}
 use lib.Dec.{T}
-use Rattle.wiring.specs.declared.Phy.{Phy}
-use Rattle.wiring.specs.Lists.{keep}
-use Rattle.wiring.specs.Domain.{Expander, Domain, expanderAt, phyAt, routes}
-use Rattle.wiring.specs.PhySet.{withPhy, setPhy}
+use Rattle.files.specs.declared.Phy.{Phy}
+use Rattle.files.specs.Lists.{keep}
+use Rattle.files.specs.Domain.{Expander, Domain, expanderAt, phyAt, routes}
+use Rattle.files.specs.PhySet.{withPhy, setPhy}
 use Rattle.wiring.specs.Causes.{Place, place, phyPlaces, placesFrom, places}
 use Rattle.wiring.specs.Tested.{Linked}
 use Rattle.wiring.proofs.Wires.{Wired}

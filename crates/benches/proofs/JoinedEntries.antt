@@ -8,11 +8,11 @@ use lib.ListN.{length, getD, drop, length-append, List·getD-append}
 use lib.Seq.{getD-append-add}
 use Rattle.frames.specs.Refusals.{Result, good, then}
 use Rattle.frames.specs.Bits.{bitsOf, zeroBit}
-use Rattle.wiring.specs.declared.Setting.{Setting}
-use Rattle.wiring.specs.Domain.{Domain}
-use Rattle.wiring.specs.Read.{Bytes}
-use Rattle.wiring.proofs.Read.{read-good}
-use Rattle.wiring.proofs.Results.{good-one}
+use Rattle.files.specs.declared.Setting.{Setting}
+use Rattle.files.specs.Domain.{Domain}
+use Rattle.files.specs.Read.{Bytes}
+use Rattle.files.proofs.Read.{read-good}
+use Rattle.files.proofs.Results.{good-one}
 use Rattle.tables.specs.Tables.{tables, needed}
 use Rattle.tables.specs.Entries.{Entries, roomOf}
 use Rattle.tables.specs.Judge.{judged, judgedTables, tableCall, Counted, countsIn, TablesDone}

@@ -11,22 +11,22 @@ use lib.Dec.{T, leb, eqb→eq}
 use borrow.Author.Tests.{le-leb}
 use Rattle.frames.specs.Bytes.{byte, numberAt}
 use Rattle.frames.specs.Refusals.{Result, refused, good, unless, then, refusal}
-use Rattle.wiring.specs.declared.Setting.{Setting}
-use Rattle.wiring.specs.Settings.{inRange}
-use Rattle.wiring.specs.Domain.{Expander, Domain, expanderAt, phyAt, attributeOf, routes}
-use Rattle.wiring.specs.PhySet.{setPhy}
-use Rattle.wiring.specs.Read.{Bytes, ReadExpander, Read}
-use Rattle.wiring.specs.Lists.{In}
+use Rattle.files.specs.declared.Setting.{Setting}
+use Rattle.files.specs.Settings.{inRange}
+use Rattle.files.specs.Domain.{Expander, Domain, expanderAt, phyAt, attributeOf, routes}
+use Rattle.files.specs.PhySet.{setPhy}
+use Rattle.files.specs.Read.{Bytes, ReadExpander, Read}
+use Rattle.files.specs.Lists.{In}
 use Rattle.wiring.specs.Addresses.{IndexRoom}
-use Rattle.wiring.specs.File.{headerUnit, domainRead, expanders}
+use Rattle.files.specs.File.{headerUnit, domainRead, expanders}
 use Rattle.wiring.specs.Devices.{Borne}
 use Rattle.wiring.specs.Chains.{ShortChains}
-use Rattle.wiring.proofs.Members.{is-true}
-use Rattle.wiring.proofs.Ranges.{range-iff}
-use Rattle.wiring.proofs.Results.{unless-good}
-use Rattle.wiring.proofs.Read.{read-good, stated-expanders}
+use Rattle.files.proofs.Members.{is-true}
+use Rattle.files.proofs.Ranges.{range-iff}
+use Rattle.files.proofs.Results.{unless-good}
+use Rattle.files.proofs.Read.{read-good, stated-expanders}
 use Rattle.wiring.proofs.Accepted.{read-expander}
-use Rattle.wiring.proofs.Wires.{routes-range}
+use Rattle.files.proofs.Domains.{routes-range}
 use Rattle.tables.specs.Judge.{judgedDomain, judged}
 use Rattle.tables.specs.Prepared.{judgedIn}
 use Rattle.tables.proofs.Given.{judged-file}

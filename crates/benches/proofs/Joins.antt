@@ -11,22 +11,22 @@ use borrow.Author.Tests.{le-leb, lt-leb, leb-false}
 use Rattle.frames.specs.Bytes.{byte}
 use Rattle.frames.specs.Refusals.{Result, refused, good, unless, then, refusal}
 use Rattle.frames.specs.declared.Refusal.{Refusal}
-use Rattle.wiring.specs.declared.Setting.{Setting}
+use Rattle.files.specs.declared.Setting.{Setting}
 use Rattle.wiring.specs.declared.Check.the-variants.{Refused as NotPassed, Passed}
-use Rattle.wiring.specs.declared.Phy.{Phy}
-use Rattle.wiring.specs.declared.Phy.the-variants.{Vacant}
-use Rattle.wiring.specs.Lists.{any}
-use Rattle.wiring.specs.Settings.{within, inRange}
-use Rattle.wiring.specs.Domain.{Domain, expanderAt, phyAt, routes, attached}
+use Rattle.files.specs.declared.Phy.{Phy}
+use Rattle.files.specs.declared.Phy.the-variants.{Vacant}
+use Rattle.files.specs.Lists.{any}
+use Rattle.files.specs.Settings.{within, inRange}
+use Rattle.files.specs.Domain.{Domain, expanderAt, phyAt, routes, attached}
 use Rattle.wiring.specs.Checks.{FileRoom}
-use Rattle.wiring.specs.File.{headerUnit, domainRead, expanders}
-use Rattle.wiring.proofs.Members.{tests, is-true, and-left, and-right}
-use Rattle.wiring.proofs.Ranges.{range-iff}
-use Rattle.wiring.proofs.Read.{read-good, stated-expanders}
-use Rattle.wiring.proofs.Results.{never, good-one, unless-good, then-good}
-use Rattle.wiring.proofs.Excess.{header-cut}
+use Rattle.files.specs.File.{headerUnit, domainRead, expanders}
+use Rattle.files.proofs.Members.{tests, is-true, and-left, and-right}
+use Rattle.files.proofs.Ranges.{range-iff}
+use Rattle.files.proofs.Read.{read-good, stated-expanders}
+use Rattle.files.proofs.Results.{never, good-one, unless-good, then-good}
+use Rattle.files.proofs.Excess.{header-cut}
 use Rattle.wiring.proofs.Opening.{file-room}
-use Rattle.wiring.proofs.Wires.{routes-range}
+use Rattle.files.proofs.Domains.{routes-range}
 use Rattle.tables.specs.Judge.{judgedDomain, judged}
 use Rattle.tables.proofs.Given.{judged-file}
 use Rattle.benches.specs.declared.Joining.{Joining}

@@ -8,15 +8,16 @@ use native.Mathlib.Decide.{ℕ-discrete}
 use native.Mathlib.Omega.{arith}
 use lib.ListN.{length, take, replicate}
 use lib.Dec.{T, eqb, eqb→eq}
-use Rattle.wiring.specs.declared.Phy.{Phy}
-use Rattle.wiring.specs.declared.Phy.the-variants.{Vacant}
-use Rattle.wiring.specs.Lists.{In, any, keep, isIn}
-use Rattle.wiring.specs.Domain.{Domain, expanderAt, phyAt, addressOf, farOf, routes, attached, toExpander, numberOf}
+use Rattle.files.specs.declared.Phy.{Phy}
+use Rattle.files.specs.declared.Phy.the-variants.{Vacant}
+use Rattle.files.specs.Lists.{In, any, keep, isIn}
+use Rattle.files.specs.Domain.{Domain, expanderAt, phyAt, addressOf, farOf, routes, attached, toExpander, numberOf}
 use Rattle.wiring.specs.Causes.{farPhy}
 use Rattle.wiring.specs.Devices.{Borne}
 use Rattle.wiring.specs.Tested.{Linked}
-use Rattle.wiring.proofs.Members.{tests, is-false, eq→eqb, in-append, getD-in, in-flatMap, same-test}
-use Rattle.wiring.proofs.Wires.{Wired, expander-attached, attached-cases, in-range, far-below, far-is, routes-one}
+use Rattle.files.proofs.Members.{tests, is-false, eq→eqb, in-append, getD-in, in-flatMap, same-test}
+use Rattle.wiring.proofs.Wires.{Wired, far-below, far-is}
+use Rattle.files.proofs.Domains.{expander-attached, attached-cases, in-range, routes-one}
 use Rattle.tables.specs.Levels.{once, down, belowPhys, below, nextLevel, levelsFrom, levels}
 use Rattle.tables.specs.Tables.{heldBy, gives, give, giveAll, levelList, table}
 use Rattle.tables.proofs.Beyond.{Table, Sub, table-back, in-next, levels-enough, levels-none, down-leads}

@@ -9,19 +9,19 @@ use lib.ListN.{length, take, drop, set, length-append, length-drop, length-set, 
 use lib.Seq.{length-take-le, take-at, take-append-le, take-append-add, drop-append-le, getD-append-add, set-append-left}
 use borrow.Author.Tests.{le-leb, ne-eqb}
 use Rattle.frames.specs.Refusals.{Result, good}
-use Rattle.wiring.specs.declared.Setting.{Setting}
-use Rattle.wiring.specs.declared.DomainRead.{DomainRead}
+use Rattle.files.specs.declared.Setting.{Setting}
+use Rattle.files.specs.declared.DomainRead.{DomainRead}
 use Rattle.wiring.specs.declared.Check.{Check}
 use Rattle.wiring.specs.declared.Check.the-variants.{Refused, Passed}
-use Rattle.wiring.specs.Domain.{Expander, Domain, noExpander, expanderAt}
-use Rattle.wiring.specs.Read.{Bytes}
+use Rattle.files.specs.Domain.{Expander, Domain, noExpander, expanderAt}
+use Rattle.files.specs.Read.{Bytes}
 use Rattle.wiring.specs.Addresses.{slotsBefore, IndexRoom}
 use Rattle.wiring.specs.Checks.{checkAnswer}
-use Rattle.wiring.specs.File.{domainRead}
-use Rattle.wiring.specs.Rows.{phyIn, physIn, rowIn, rowsIn, domainIn, rowsRead, RowsRead}
-use Rattle.wiring.specs.PhySet.{withPhy, setPhy, heldAs, PhySet}
-use Rattle.wiring.specs.declared.Phy.{Phy}
-use Rattle.wiring.proofs.Read.{read-good}
+use Rattle.files.specs.File.{domainRead}
+use Rattle.files.specs.Rows.{phyIn, physIn, rowIn, rowsIn, domainIn, rowsRead, RowsRead}
+use Rattle.files.specs.PhySet.{withPhy, setPhy, heldAs, PhySet}
+use Rattle.files.specs.declared.Phy.{Phy}
+use Rattle.files.proofs.Read.{read-good}
 use Rattle.tables.specs.Judge.{judged}
 use Rattle.benches.specs.Bench.{Free}
 use Rattle.benches.specs.Bytes.{joinedFile}

@@ -12,15 +12,15 @@ use lib.Dec.{eqb, leb, eqb→eq}
 use borrow.Author.Tests.{eq-eqb, ne-eqb, le-leb, lt-leb}
 use Rattle.frames.specs.declared.Refusal.{Refusal}
 use Rattle.frames.specs.Refusals.{good, unless, then, refusal}
-use Rattle.wiring.specs.declared.Setting.{Setting}
+use Rattle.files.specs.declared.Setting.{Setting}
 use Rattle.wiring.specs.declared.Check.{Check}
 use Rattle.wiring.specs.declared.Check.the-variants.{Refused}
-use Rattle.wiring.specs.Lists.{any, In, isIn}
-use Rattle.wiring.specs.Read.{ReadExpander, addresses}
-use Rattle.wiring.specs.Domain.{Expander, Domain, noExpander, expanderAt, numberOf}
+use Rattle.files.specs.Lists.{any, In, isIn}
+use Rattle.files.specs.Read.{ReadExpander, addresses}
+use Rattle.files.specs.Domain.{Expander, Domain, noExpander, expanderAt, numberOf}
 use Rattle.wiring.specs.Checks.{checkAnswer}
-use Rattle.wiring.specs.File.{expanderOf}
-use Rattle.wiring.proofs.Members.{was-true, by-test}
+use Rattle.files.specs.File.{expanderOf}
+use Rattle.files.proofs.Members.{was-true, by-test}
 use Rattle.tables.specs.Prepared.{judgedIn}
 use Rattle.benches.specs.BenchRows.{repeatedFrom, repeated, differing, apartIn}
 use Rattle.benches.proofs.Units.{UnitBytes, UnitOf, UnitsOf, physAll, expandersAll, testedAll, length-phys}

@@ -17,19 +17,19 @@ use Rattle.frames.specs.declared.General.{General}
 use Rattle.frames.specs.declared.Response.the-variants.{ReportGeneral, Discover}
 use Rattle.frames.proofs.LongFrames.{size-least}
 use Rattle.frames.proofs.Numbers.{number-left}
-use Rattle.wiring.specs.declared.Setting.{Setting}
-use Rattle.wiring.specs.declared.ExpanderUnit.{ExpanderUnit}
-use Rattle.wiring.specs.declared.Phy.{Phy}
-use Rattle.wiring.specs.declared.Phy.the-variants.{Vacant}
-use Rattle.wiring.specs.Lists.{In, Distinct, isIn}
-use Rattle.wiring.specs.Read.{ReadExpander, addresses}
-use Rattle.wiring.proofs.Members.{is-false, of-isIn, in-cast, in-append}
-use Rattle.wiring.specs.Domain.{Expander, Domain, expanderAt, phyAt, attributeOf}
-use Rattle.wiring.specs.PhySet.{withPhy, setPhy}
-use Rattle.wiring.specs.File.{Parsed, parsed, phyUnit, phyUnits, unitOf, unitTested, expanderUnit, expanderOf, expanders}
-use Rattle.wiring.specs.Units.{endsAt}
-use Rattle.wiring.proofs.Results.{good-one, unless-good, then-good}
-use Rattle.wiring.proofs.Reading.{size-whole, expander-unit-by}
+use Rattle.files.specs.declared.Setting.{Setting}
+use Rattle.files.specs.declared.ExpanderUnit.{ExpanderUnit}
+use Rattle.files.specs.declared.Phy.{Phy}
+use Rattle.files.specs.declared.Phy.the-variants.{Vacant}
+use Rattle.files.specs.Lists.{In, Distinct, isIn}
+use Rattle.files.specs.Read.{ReadExpander, addresses}
+use Rattle.files.proofs.Members.{is-false, of-isIn, in-cast, in-append}
+use Rattle.files.specs.Domain.{Expander, Domain, expanderAt, phyAt, attributeOf}
+use Rattle.files.specs.PhySet.{withPhy, setPhy}
+use Rattle.files.specs.File.{Parsed, parsed, phyUnit, phyUnits, unitOf, unitTested, expanderUnit, expanderOf, expanders}
+use Rattle.files.specs.Units.{endsAt}
+use Rattle.files.proofs.Results.{good-one, unless-good, then-good}
+use Rattle.files.proofs.Reading.{size-whole, expander-unit-by}
 use Rattle.benches.specs.Bytes.{cabledFrame, cabledAt}
 use Rattle.offsets.specs.Offsets.{sizeFrom, physAfter, physFrom, expandersAfter}
 use Rattle.benches.specs.Joined.{cabledTo}

@@ -8,15 +8,16 @@ use native.Mathlib.Decide.{ℕ-discrete, decLt}
 use native.Mathlib.Omega.{arith}
 use lib.ListN.{length, getD, List·getD-eq-default}
 use lib.Dec.{T, eqb}
-use Rattle.wiring.specs.declared.Phy.the-variants.{Vacant}
-use Rattle.wiring.specs.Domain.{Expander, Domain, noExpander, expanderAt, phyAt, addressOf, farOf, attributeOf, routes, attached, toEnd, toExpander, numberOf}
-use Rattle.wiring.specs.Lists.{any}
+use Rattle.files.specs.declared.Phy.the-variants.{Vacant}
+use Rattle.files.specs.Domain.{Expander, Domain, noExpander, expanderAt, phyAt, addressOf, farOf, attributeOf, routes, attached, toEnd, toExpander, numberOf}
+use Rattle.files.specs.Lists.{any}
 use Rattle.wiring.specs.Causes.{farPhy}
 use Rattle.wiring.specs.Neighbours.{cabled, neighbours}
 use Rattle.wiring.specs.Devices.{LoopIn, To, Borne, TableToTable, NoTableToTable}
 use Rattle.wiring.specs.Tested.{Linked}
-use Rattle.wiring.proofs.Members.{or-cases}
-use Rattle.wiring.proofs.Wires.{Way, Plain, Wired, end-attached, expander-attached, in-range, far-below, far-is, adj-to, to-adj, adj-symmetric}
+use Rattle.files.proofs.Members.{or-cases}
+use Rattle.wiring.proofs.Wires.{Way, Plain, Wired, far-below, far-is, adj-to, to-adj, adj-symmetric}
+use Rattle.files.proofs.Domains.{end-attached, expander-attached, in-range}
 use Rattle.wiring.proofs.Walks.{rest-of}
 use Rattle.wiring.proofs.Reach.{Joined, prepend}
 use Rattle.wiring.proofs.LongChains.{all-joined}

@@ -1,7 +1,7 @@
 -- The conditions of paper 12 on two domains: phys that can take the cable, and no address that is a device's in both.
 use Prim.Native.Nat.{ℕ}
 use lib.Dec.{T}
-use Rattle.wiring.specs.Domain.{Domain, phyAt, routes, attached}
+use Rattle.files.specs.Domain.{Domain, phyAt, routes, attached}
 use Rattle.wiring.specs.Devices.{Borne}
 
 -- "non-vacant, subtractive and unattached", and its expander has no attached subtractive phy

@@ -5,12 +5,12 @@ use mathlib.Core.List.{List, [], _++_}
 use lib.ListN.{length}
 use lib.Dec.{eqb, leb}
 use Rattle.frames.specs.Refusals.{Result, refused, good, unless, then, refusal}
-use Rattle.wiring.specs.declared.Setting.{Setting}
+use Rattle.files.specs.declared.Setting.{Setting}
 use Rattle.wiring.specs.declared.Check.{Check}
 use Rattle.wiring.specs.declared.Check.the-variants.{Refused, Passed}
-use Rattle.wiring.specs.Domain.{Domain, expanderAt, numberOf}
-use Rattle.wiring.specs.File.{domainRead}
-use Rattle.wiring.specs.PhySet.{setPhy}
+use Rattle.files.specs.Domain.{Domain, expanderAt, numberOf}
+use Rattle.files.specs.File.{domainRead}
+use Rattle.files.specs.PhySet.{setPhy}
 use Rattle.tables.specs.Judge.{judgedDomain}
 use Rattle.tables.specs.Prepared.{judgedIn}
 use Rattle.benches.specs.Joined.{cabledTo}

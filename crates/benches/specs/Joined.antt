@@ -1,10 +1,10 @@
 -- Two domains on one bench (document 02, paper 12): the first's expanders, then the second's, and one cable between two subtractive phys.
 use Prim.Native.Nat.{ℕ}
 use mathlib.Core.List.{_++_}
-use Rattle.wiring.specs.declared.Phy.{Phy}
-use Rattle.wiring.specs.declared.Phy.the-variants.{Present}
-use Rattle.wiring.specs.Domain.{Domain, expanderAt}
-use Rattle.wiring.specs.PhySet.{setPhy}
+use Rattle.files.specs.declared.Phy.{Phy}
+use Rattle.files.specs.declared.Phy.the-variants.{Present}
+use Rattle.files.specs.Domain.{Domain, expanderAt}
+use Rattle.files.specs.PhySet.{setPhy}
 
 -- a subtractive phy cabled to phy q of the expander with address s: type 2, far address, far phy
 abbrev pub cabledTo : ℕ → ℕ → Phy

@@ -7,8 +7,8 @@ use lib.ListN.{length}
 use lib.Dec.{T, leb}
 use Rattle.frames.specs.Bytes.{byte}
 use Rattle.frames.specs.Refusals.{Result, refused, good, unless, then, refusal}
-use Rattle.wiring.specs.declared.Setting.{Setting}
-use Rattle.wiring.specs.Domain.{Domain}
+use Rattle.files.specs.declared.Setting.{Setting}
+use Rattle.files.specs.Domain.{Domain}
 use Rattle.wiring.specs.Addresses.{slotsBefore}
 use Rattle.tables.specs.Judge.{judged}
 use Rattle.benches.specs.declared.Side.{Side}

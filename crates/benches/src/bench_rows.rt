@@ -11,7 +11,7 @@ ghost use mathlib.Core.Path.{_≡_};
 ghost use Prim.Native.Nat.{_+_, _*_, _≤_, _<_};
 ghost use lib.ListN.{length, take};
 ghost use Rattle.wiring.specs.Checks.{checkAnswer};
-ghost use Rattle.wiring.specs.Rows.{domainIn};
+ghost use Rattle.files.specs.Rows.{domainIn};
 ghost use Rattle.tables.specs.Judge.{judged};
 ghost use Rattle.benches.specs.Bytes.{joinedFile};
 ghost use Rattle.benches.specs.BenchRows.{bothRead, cabled, apartIn, checkOf};

@@ -4,9 +4,9 @@ use wiring::Phy;
 use wiring::PhyId;
 ghost use mathlib.Core.Path.{_≡_};
 ghost use mathlib.Core.Bool.{not};
-ghost use Rattle.wiring.specs.Lists.{any};
-ghost use Rattle.wiring.specs.Domain.{expanderAt};
-ghost use Rattle.wiring.specs.Rows.{domainIn};
+ghost use Rattle.files.specs.Lists.{any};
+ghost use Rattle.files.specs.Domain.{expanderAt};
+ghost use Rattle.files.specs.Rows.{domainIn};
 ghost use Rattle.benches.specs.JoinCall.{upward, free};
 
 // Whether a phy is attached and subtractive.

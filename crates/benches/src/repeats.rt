@@ -1,8 +1,8 @@
 // 4 of a domain in rows: an expander that has the address of one before it.
 use wiring::ExpanderNumber;
 ghost use mathlib.Core.Path.{_≡_};
-ghost use Rattle.wiring.specs.Domain.{numberOf};
-ghost use Rattle.wiring.specs.Rows.{domainIn};
+ghost use Rattle.files.specs.Domain.{numberOf};
+ghost use Rattle.files.specs.Rows.{domainIn};
 ghost use Rattle.benches.specs.BenchRows.{repeated};
 
 // The first expander with this address; the count of expanders where there is none.

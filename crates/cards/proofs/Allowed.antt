@@ -9,17 +9,17 @@ use lib.ListN.{length}
 use lib.Dec.{T, eqb, leb}
 use borrow.Author.Tests.{eqb-false, ne-eqb, le-leb}
 use Rattle.frames.specs.Refusals.{Result, good, unless, then, refusal}
-use Rattle.wiring.specs.declared.Setting.{Setting}
-use Rattle.wiring.specs.declared.PhyFields.{PhyFields}
-use Rattle.wiring.specs.declared.Phy.{Phy}
-use Rattle.wiring.specs.declared.Phy.the-variants.{Vacant, Present}
-use Rattle.wiring.specs.Lists.{In, isIn, Distinct}
-use Rattle.wiring.specs.Settings.{within}
-use Rattle.wiring.specs.Domain.{Expander, Domain}
-use Rattle.wiring.specs.Read.{ReadFields, ReadPhy, ReadExpander, addresses, Read, FitsPhy, FitsExpander, FitsDomain}
-use Rattle.wiring.specs.File.{ranged, unitTested, domainRead}
-use Rattle.wiring.proofs.Members.{was-true, was-false, is-false, of-isIn, in-append, T?}
-use Rattle.wiring.proofs.Read.{read-good}
+use Rattle.files.specs.declared.Setting.{Setting}
+use Rattle.files.specs.declared.PhyFields.{PhyFields}
+use Rattle.files.specs.declared.Phy.{Phy}
+use Rattle.files.specs.declared.Phy.the-variants.{Vacant, Present}
+use Rattle.files.specs.Lists.{In, isIn, Distinct}
+use Rattle.files.specs.Settings.{within}
+use Rattle.files.specs.Domain.{Expander, Domain}
+use Rattle.files.specs.Read.{ReadFields, ReadPhy, ReadExpander, addresses, Read, FitsPhy, FitsExpander, FitsDomain}
+use Rattle.files.specs.File.{ranged, unitTested, domainRead}
+use Rattle.files.proofs.Members.{was-true, was-false, is-false, of-isIn, in-append, T?}
+use Rattle.files.proofs.Read.{read-good}
 use Rattle.cards.specs.CardRead.{phyRanged, physTested, unitFields, unitsTested}
 use Rattle.cards.specs.FileOf.{fileOf}
 use Rattle.cards.proofs.Legal.{FieldsRange, PhyRange, PhysRange, ExpanderRange, ExpandersRange, Legal}

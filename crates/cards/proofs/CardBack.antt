@@ -14,14 +14,14 @@ use Rattle.frames.proofs.PackedBits.{Bits, length-numberBits, length-packedIn}
 use Rattle.frames.proofs.NumberBits.{bits-numberBits, bits-append, field-back}
 use Rattle.frames.proofs.Packing.{unpacked, drop-past, field-zeros}
 use Rattle.frames.specs.Refusals.{good}
-use Rattle.wiring.specs.declared.Setting.{Setting}
-use Rattle.wiring.specs.declared.Phy.{Phy}
-use Rattle.wiring.specs.declared.Phy.the-variants.{Vacant, Present}
-use Rattle.wiring.specs.declared.PhyFields.{PhyFields}
-use Rattle.wiring.specs.Settings.{within, inRange}
-use Rattle.wiring.specs.Domain.{Expander, Domain}
-use Rattle.wiring.proofs.Members.{is-true}
-use Rattle.wiring.proofs.Ranges.{range-iff}
+use Rattle.files.specs.declared.Setting.{Setting}
+use Rattle.files.specs.declared.Phy.{Phy}
+use Rattle.files.specs.declared.Phy.the-variants.{Vacant, Present}
+use Rattle.files.specs.declared.PhyFields.{PhyFields}
+use Rattle.files.specs.Settings.{within, inRange}
+use Rattle.files.specs.Domain.{Expander, Domain}
+use Rattle.files.proofs.Members.{is-true}
+use Rattle.files.proofs.Ranges.{range-iff}
 use Rattle.cards.specs.Card.{endBits, phyBits, physBits, headBits, expandersBits, cardBits, cardOf, presentSize, phySize, physSize, expandersSize, cardSize, presentOn, phyBy, phyOn, physOn, expanderOn, expandersOn, domainOn}
 use Rattle.cards.specs.CardRead.{resultFine, resultsFine, allFine, formed, cardRead}
 use Rattle.cards.proofs.Legal.{FieldsRange, PhyRange, PhysRange, ExpanderRange, ExpandersRange, Legal}

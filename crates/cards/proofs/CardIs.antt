@@ -15,16 +15,16 @@ use Rattle.frames.proofs.PackedBits.{Bits, length-bitsOf, bits-drop}
 use Rattle.frames.proofs.NumberBits.{bits-back, field-lt}
 use Rattle.frames.proofs.Packing.{Bytes, bits-bitsOf, unpacked, bytes-packedIn, same-bits}
 use Rattle.frames.specs.Refusals.{Result, good, unless, then, refusal}
-use Rattle.wiring.specs.declared.Setting.{Setting}
-use Rattle.wiring.specs.declared.ExpanderUnit.{ExpanderUnit}
-use Rattle.wiring.specs.declared.Phy.{Phy}
-use Rattle.wiring.specs.declared.Phy.the-variants.{Vacant, Present}
-use Rattle.wiring.specs.Settings.{within, inRange}
-use Rattle.wiring.specs.Domain.{Expander, Domain}
-use Rattle.wiring.specs.File.{unitTested}
-use Rattle.wiring.proofs.Members.{and-right, is-true}
-use Rattle.wiring.proofs.Ranges.{range-iff}
-use Rattle.wiring.proofs.Results.{unless-good, good-unless, then-good, good-one, both}
+use Rattle.files.specs.declared.Setting.{Setting}
+use Rattle.files.specs.declared.ExpanderUnit.{ExpanderUnit}
+use Rattle.files.specs.declared.Phy.{Phy}
+use Rattle.files.specs.declared.Phy.the-variants.{Vacant, Present}
+use Rattle.files.specs.Settings.{within, inRange}
+use Rattle.files.specs.Domain.{Expander, Domain}
+use Rattle.files.specs.File.{unitTested}
+use Rattle.files.proofs.Members.{and-right, is-true}
+use Rattle.files.proofs.Ranges.{range-iff}
+use Rattle.files.proofs.Results.{unless-good, good-unless, then-good, good-one, both}
 use Rattle.cards.specs.Card.{endBits, phyBits, physBits, headBits, expandersBits, cardBits, cardOf, presentSize, phySize, physSize, expandersSize, cardSize, presentOn, phyOn, physOn, expanderOn, expandersOn, domainOn}
 use Rattle.cards.specs.CardRead.{resultFine, resultsFine, allFine, formed, phyRanged, physTested, unitFields, unitsTested, cardReadBy, cardRead}
 use Rattle.cards.proofs.Legal.{FieldsRange, PhyRange, PhysRange, ExpanderRange, ExpandersRange, Legal}

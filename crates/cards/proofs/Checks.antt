@@ -13,14 +13,14 @@ use borrow.Author.Tests.{eq-eqb, ne-eqb, eqb-true, eqb-false, le-leb, lt-leb}
 use Rattle.frames.specs.Bits.{field}
 use Rattle.frames.specs.Refusals.{Result, refused, good, unless, then, refusal}
 use Rattle.frames.specs.declared.Refusal.{Refusal}
-use Rattle.wiring.specs.declared.Setting.{Setting}
-use Rattle.wiring.specs.declared.ExpanderUnit.{ExpanderUnit}
-use Rattle.wiring.specs.declared.Phy.{Phy}
+use Rattle.files.specs.declared.Setting.{Setting}
+use Rattle.files.specs.declared.ExpanderUnit.{ExpanderUnit}
+use Rattle.files.specs.declared.Phy.{Phy}
 use Rattle.wiring.specs.declared.Check.{Check}
-use Rattle.wiring.specs.Domain.{Expander, Domain}
-use Rattle.wiring.specs.File.{Parsed, parsed, unitTested}
-use Rattle.wiring.specs.Units.{endsAt}
-use Rattle.wiring.proofs.Results.{never, good-one}
+use Rattle.files.specs.Domain.{Expander, Domain}
+use Rattle.files.specs.File.{Parsed, parsed, unitTested}
+use Rattle.files.specs.Units.{endsAt}
+use Rattle.files.proofs.Results.{never, good-one}
 use Rattle.cards.specs.Card.{unitOn, expanderOn}
 use Rattle.cards.specs.CardRead.{phyRanged, physTested, unitFields, unitsTested}
 use Rattle.cards.specs.Walks.{rangedCount, afterCheck}

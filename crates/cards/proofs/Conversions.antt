@@ -8,12 +8,12 @@ use lib.Dec.{leb}
 use Rattle.frames.specs.Bits.{bytesFor}
 use Rattle.frames.specs.Refusals.{Result, refused, good, unless, then, refusal}
 use Rattle.frames.proofs.Packing.{bytes-packedIn}
-use Rattle.wiring.specs.declared.Setting.{Setting}
-use Rattle.wiring.specs.Domain.{Domain}
-use Rattle.wiring.specs.Read.{Bytes, Read, FitsDomain}
-use Rattle.wiring.specs.File.{domainRead}
-use Rattle.wiring.proofs.Read.{read-good, read-fits}
-use Rattle.wiring.proofs.Results.{never, good-one, unless-good, then-good}
+use Rattle.files.specs.declared.Setting.{Setting}
+use Rattle.files.specs.Domain.{Domain}
+use Rattle.files.specs.Read.{Bytes, Read, FitsDomain}
+use Rattle.files.specs.File.{domainRead}
+use Rattle.files.proofs.Read.{read-good, read-fits}
+use Rattle.files.proofs.Results.{never, good-one, unless-good, then-good}
 use Rattle.cards.specs.declared.Made.{Made}
 use Rattle.cards.specs.declared.Made.the-variants.{Refused, Bytes as MadeBytes}
 use Rattle.cards.specs.Card.{cardBits, cardOf}

@@ -18,19 +18,19 @@ use Rattle.frames.specs.declared.Response.the-variants.{ReportGeneral, Discover
 use Rattle.cards.specs.ShortFrames.{shortGeneral, shortVacant, shortDiscover}
 use Rattle.frames.proofs.Numbers.{number-back, number-left, length-bytesOf}
 use Rattle.cards.proofs.ShortFrames.{length-general, length-vacant, length-discover, size-general, size-vacant, size-discover, general-back, vacant-back, discover-back}
-use Rattle.wiring.specs.declared.Setting.{Setting}
-use Rattle.wiring.specs.declared.ExpanderUnit.{ExpanderUnit}
-use Rattle.wiring.specs.declared.Phy.{Phy}
-use Rattle.wiring.specs.declared.Phy.the-variants.{Vacant, Present}
-use Rattle.wiring.specs.declared.PhyFields.{PhyFields}
-use Rattle.wiring.specs.Lists.{isIn}
-use Rattle.wiring.specs.Settings.{within, inRange}
-use Rattle.wiring.specs.Domain.{Expander, Domain}
-use Rattle.wiring.specs.File.{Parsed, parsed, sizeAt, fieldsOf, ranged, phyOf, phyUnit, phyUnits, unitTested, expanderUnit, expanders, headerUnit, domainRead}
-use Rattle.wiring.proofs.Members.{is-true}
-use Rattle.wiring.proofs.Ranges.{range-iff}
-use Rattle.wiring.proofs.Reading.{size-by, phy-unit-by, expander-unit-by}
-use Rattle.wiring.proofs.Results.{unless-good, then-good, good-one}
+use Rattle.files.specs.declared.Setting.{Setting}
+use Rattle.files.specs.declared.ExpanderUnit.{ExpanderUnit}
+use Rattle.files.specs.declared.Phy.{Phy}
+use Rattle.files.specs.declared.Phy.the-variants.{Vacant, Present}
+use Rattle.files.specs.declared.PhyFields.{PhyFields}
+use Rattle.files.specs.Lists.{isIn}
+use Rattle.files.specs.Settings.{within, inRange}
+use Rattle.files.specs.Domain.{Expander, Domain}
+use Rattle.files.specs.File.{Parsed, parsed, sizeAt, fieldsOf, ranged, phyOf, phyUnit, phyUnits, unitTested, expanderUnit, expanders, headerUnit, domainRead}
+use Rattle.files.proofs.Members.{is-true}
+use Rattle.files.proofs.Ranges.{range-iff}
+use Rattle.files.proofs.Reading.{size-by, phy-unit-by, expander-unit-by}
+use Rattle.files.proofs.Results.{unless-good, then-good, good-one}
 use Rattle.cards.specs.CardRead.{phyRanged, physTested, unitFields, unitsTested}
 use Rattle.cards.specs.FileOf.{generalOf, discoverOf, phyFrame, physFrames, unitHead, unitsOf, fileOf}
 use Rattle.cards.proofs.Legal.{FieldsRange, PhyRange, PhysRange, ExpanderRange, ExpandersRange, Legal}

@@ -12,9 +12,9 @@ use Rattle.cards.specs.ShortFrames.{shortGeneral}
 use Rattle.frames.specs.declared.General.{General}
 use Rattle.frames.proofs.Numbers.{length-bytesOf, front-room}
 use Rattle.cards.proofs.ShortFrames.{length-general}
-use Rattle.wiring.specs.declared.Phy.{Phy}
-use Rattle.wiring.specs.declared.Phy.the-variants.{Vacant}
-use Rattle.wiring.specs.Domain.{Expander, Domain, noExpander, expanderAt}
+use Rattle.files.specs.declared.Phy.{Phy}
+use Rattle.files.specs.declared.Phy.the-variants.{Vacant}
+use Rattle.files.specs.Domain.{Expander, Domain, noExpander, expanderAt}
 use Rattle.cards.specs.FileOf.{generalOf, phyFrame, physFrames, unitHead, unitsOf, fileOf}
 use Rattle.cards.proofs.FileBack.{length-phy, length-frames, length-head}
 use Rattle.cards.proofs.Puts.{puts}

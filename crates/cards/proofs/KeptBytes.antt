@@ -18,18 +18,18 @@ use Rattle.frames.specs.declared.General.{General}
 use Rattle.frames.specs.declared.Discover.{Discover}
 use Rattle.frames.specs.declared.Response.{Response}
 use Rattle.frames.specs.declared.Response.the-variants.{ReportGeneral, Discover as DiscoverResponse}
-use Rattle.wiring.specs.declared.Setting.{Setting}
-use Rattle.wiring.specs.declared.ExpanderUnit.{ExpanderUnit}
-use Rattle.wiring.specs.declared.Phy.{Phy}
-use Rattle.wiring.specs.declared.Phy.the-variants.{Vacant, Present}
-use Rattle.wiring.specs.declared.PhyFields.{PhyFields}
-use Rattle.wiring.specs.Settings.{within, inRange}
-use Rattle.wiring.specs.Domain.{Expander, Domain}
-use Rattle.wiring.specs.Read.{Bytes}
-use Rattle.wiring.specs.File.{Parsed, parsed, placed, sizeAt, frameAt, fieldsOf, ranged, phyOf, phyUnit, phyUnits, unitOf, unitTested, expanderUnit, expanderOf, expanders, headerUnit, domainRead}
-use Rattle.wiring.specs.ShortFile.{orStay}
-use Rattle.wiring.proofs.Members.{and-left, and-right, is-true}
-use Rattle.wiring.proofs.Results.{never, good-one, unless-good, then-good}
+use Rattle.files.specs.declared.Setting.{Setting}
+use Rattle.files.specs.declared.ExpanderUnit.{ExpanderUnit}
+use Rattle.files.specs.declared.Phy.{Phy}
+use Rattle.files.specs.declared.Phy.the-variants.{Vacant, Present}
+use Rattle.files.specs.declared.PhyFields.{PhyFields}
+use Rattle.files.specs.Settings.{within, inRange}
+use Rattle.files.specs.Domain.{Expander, Domain}
+use Rattle.files.specs.Read.{Bytes}
+use Rattle.files.specs.File.{Parsed, parsed, placed, sizeAt, frameAt, fieldsOf, ranged, phyOf, phyUnit, phyUnits, unitOf, unitTested, expanderUnit, expanderOf, expanders, headerUnit, domainRead}
+use Rattle.files.specs.ShortFile.{orStay}
+use Rattle.files.proofs.Members.{and-left, and-right, is-true}
+use Rattle.files.proofs.Results.{never, good-one, unless-good, then-good}
 use Rattle.cards.specs.FileOf.{generalOf, discoverOf, phyFrame, physFrames, unitHead, unitsOf, fileOf}
 use Rattle.cards.specs.KeptBytes.{eight, keptGeneral, keptEnd, keptBy, keptDiscover, keptPhys, keptExpanders, keptFile}
 use Rattle.cards.proofs.FileBack.{tested-same}

@@ -10,13 +10,13 @@ use Rattle.frames.specs.ReportGeneral.{generalFixed, generalRead}
 use Rattle.frames.specs.Discovery.{discoverFixed, discoverRead}
 use Rattle.cards.specs.ShortFrames.{shortGeneral, shortVacant, shortDiscover}
 use Rattle.frames.specs.Refusals.{refused, good, refusal}
-use Rattle.wiring.specs.declared.Setting.{Setting}
-use Rattle.wiring.specs.declared.Phy.{Phy}
-use Rattle.wiring.specs.declared.Phy.the-variants.{Vacant, Present}
-use Rattle.wiring.specs.Lists.{any, isIn}
-use Rattle.wiring.specs.Settings.{inRange, widest}
-use Rattle.wiring.specs.Domain.{Expander, Domain}
-use Rattle.wiring.specs.File.{sizeAt, domainRead, headerUnit, expanders, expanderUnit, phyUnits, phyUnit}
+use Rattle.files.specs.declared.Setting.{Setting}
+use Rattle.files.specs.declared.Phy.{Phy}
+use Rattle.files.specs.declared.Phy.the-variants.{Vacant, Present}
+use Rattle.files.specs.Lists.{any, isIn}
+use Rattle.files.specs.Settings.{inRange, widest}
+use Rattle.files.specs.Domain.{Expander, Domain}
+use Rattle.files.specs.File.{sizeAt, domainRead, headerUnit, expanders, expanderUnit, phyUnits, phyUnit}
 use Rattle.cards.specs.Card.{physBits, expandersBits, cardBits, cardOf, physSize, expandersSize, cardSize, phyOn, physOn, expanderOn, expandersOn, domainOn}
 use Rattle.cards.specs.CardRead.{resultsFine, allFine, formed, physTested, unitsTested, cardRead}
 use Rattle.cards.specs.FileOf.{physFrames, unitHead, unitsOf, fileOf}

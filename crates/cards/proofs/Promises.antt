@@ -13,17 +13,17 @@ use Rattle.frames.specs.Refusals.{Result, refused, good, unless, then, refusal}
 use Rattle.frames.specs.declared.Refusal.{Refusal}
 use Rattle.frames.proofs.PackedBits.{length-packedIn}
 use Rattle.frames.proofs.Packing.{Bytes}
-use Rattle.wiring.specs.declared.Setting.{Setting}
+use Rattle.files.specs.declared.Setting.{Setting}
 use Rattle.wiring.specs.declared.Check.{Check}
 use Rattle.wiring.specs.declared.Check.the-variants.{Refused as NotPassed, Passed as AllPassed}
-use Rattle.wiring.specs.Settings.{within, inRange}
-use Rattle.wiring.specs.Domain.{Domain}
-use Rattle.wiring.specs.Read.{Read, FitsDomain}
-use Rattle.wiring.specs.File.{domainRead}
-use Rattle.wiring.specs.Rows.{rowsOf, domainIn}
+use Rattle.files.specs.Settings.{within, inRange}
+use Rattle.files.specs.Domain.{Domain}
+use Rattle.files.specs.Read.{Read, FitsDomain}
+use Rattle.files.specs.File.{domainRead}
+use Rattle.files.specs.Rows.{rowsOf, domainIn}
 use Rattle.wiring.proofs.Opening.{Roomy}
-use Rattle.wiring.proofs.Read.{read-good}
-use Rattle.wiring.proofs.Back.{length-rowsOf, domain-back}
+use Rattle.files.proofs.Read.{read-good}
+use Rattle.files.proofs.Back.{length-rowsOf, domain-back}
 use Rattle.cards.specs.declared.Made.{Made}
 use Rattle.cards.specs.declared.Made.the-variants.{Refused, Bytes as MadeBytes}
 use Rattle.cards.specs.Card.{cardBits, cardOf, cardSize, domainOn}

@@ -10,15 +10,15 @@ use lib.Dec.{eqb, leb}
 use Rattle.frames.specs.Bits.{field}
 use Rattle.frames.specs.Refusals.{Result, unless, then, refusal}
 use Rattle.frames.proofs.PackedBits.{Bits, bits-drop}
-use Rattle.wiring.specs.declared.Setting.{Setting}
-use Rattle.wiring.specs.declared.ExpanderUnit.{ExpanderUnit}
-use Rattle.wiring.specs.declared.Phy.{Phy}
+use Rattle.files.specs.declared.Setting.{Setting}
+use Rattle.files.specs.declared.ExpanderUnit.{ExpanderUnit}
+use Rattle.files.specs.declared.Phy.{Phy}
 use Rattle.wiring.specs.declared.Check.{Check}
 use Rattle.wiring.specs.declared.Check.the-variants.{Passed as AllPassed}
-use Rattle.wiring.specs.Domain.{Expander, Domain, addressOf}
-use Rattle.wiring.specs.File.{unitTested}
-use Rattle.wiring.specs.Rows.{phyWord, phyWords, headWord, rowOf, rowsOf}
-use Rattle.wiring.proofs.Filling.{length-phyWords, length-rowOf}
+use Rattle.files.specs.Domain.{Expander, Domain, addressOf}
+use Rattle.files.specs.File.{unitTested}
+use Rattle.files.specs.Rows.{phyWord, phyWords, headWord, rowOf, rowsOf}
+use Rattle.files.proofs.Filling.{length-phyWords, length-rowOf}
 use Rattle.cards.specs.declared.PhysWalk.{PhysWalk}
 use Rattle.cards.specs.declared.CardWalk.{CardWalk}
 use Rattle.cards.specs.Card.{phySize, physSize, expandersSize, cardSize, phyOn, physOn, unitOn, expanderOn, expandersOn, domainOn}

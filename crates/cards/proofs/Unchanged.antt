@@ -4,10 +4,10 @@ use mathlib.Core.Path.{_≡_, sym, _∙_, ap}
 use mathlib.Core.List.{List}
 use lib.ListN.{length, take}
 use Rattle.frames.specs.Refusals.{good}
-use Rattle.wiring.specs.declared.Setting.{Setting}
-use Rattle.wiring.specs.Domain.{Domain}
-use Rattle.wiring.specs.Read.{Bytes}
-use Rattle.wiring.specs.File.{domainRead}
+use Rattle.files.specs.declared.Setting.{Setting}
+use Rattle.files.specs.Domain.{Domain}
+use Rattle.files.specs.Read.{Bytes}
+use Rattle.files.specs.File.{domainRead}
 use Rattle.wiring.specs.Neighbours.{wiringCall}
 use Rattle.tables.specs.Entries.{Room, Entries}
 use Rattle.tables.specs.Judge.{judged, tableCall}

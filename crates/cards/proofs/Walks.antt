@@ -12,9 +12,9 @@ use lib.Pow.{pow-pos}
 use borrow.Author.Tests.{eq-eqb, ne-eqb, eqb-true, eqb-false}
 use Rattle.frames.specs.Bits.{field, bitsOf, bytesFor}
 use Rattle.frames.proofs.PackedBits.{Bits, length-bitsOf, bits-drop}
-use Rattle.wiring.specs.declared.Phy.{Phy}
-use Rattle.wiring.specs.declared.Phy.the-variants.{Vacant, Present}
-use Rattle.wiring.specs.Domain.{Domain}
+use Rattle.files.specs.declared.Phy.{Phy}
+use Rattle.files.specs.declared.Phy.the-variants.{Vacant, Present}
+use Rattle.files.specs.Domain.{Domain}
 use Rattle.cards.specs.Card.{phySize, physSize, cardSize, presentOn, phyOn, physOn, unitOn, expanderOn, expandersOn, domainOn}
 use Rattle.cards.specs.CardRead.{allFine, formed}
 use Rattle.frames.proofs.NumberBits.{field-lt, field-split}

@@ -6,13 +6,13 @@ use lib.ListN.{length, drop}
 use lib.Dec.{eqb}
 use Rattle.frames.specs.Bits.{field, bitsOf, bytesFor}
 use Rattle.frames.specs.Refusals.{Result, good, unless, then, refusal}
-use Rattle.wiring.specs.declared.Setting.{Setting}
-use Rattle.wiring.specs.declared.ExpanderUnit.{ExpanderUnit}
-use Rattle.wiring.specs.declared.Phy.{Phy}
-use Rattle.wiring.specs.declared.Phy.the-variants.{Vacant, Present}
-use Rattle.wiring.specs.Settings.{within, inRange}
-use Rattle.wiring.specs.Domain.{Expander, Domain}
-use Rattle.wiring.specs.File.{ranged, unitTested}
+use Rattle.files.specs.declared.Setting.{Setting}
+use Rattle.files.specs.declared.ExpanderUnit.{ExpanderUnit}
+use Rattle.files.specs.declared.Phy.{Phy}
+use Rattle.files.specs.declared.Phy.the-variants.{Vacant, Present}
+use Rattle.files.specs.Settings.{within, inRange}
+use Rattle.files.specs.Domain.{Expander, Domain}
+use Rattle.files.specs.File.{ranged, unitTested}
 use Rattle.cards.specs.Card.{cardSize, domainOn}
 
 -- a vacant phy's result is not zero

@@ -6,10 +6,10 @@ use Rattle.frames.specs.Bytes.{bytesOf}
 use Rattle.cards.specs.ShortFrames.{shortGeneral, shortVacant, shortDiscover}
 use Rattle.frames.specs.declared.General.{General}
 use Rattle.frames.specs.declared.Discover.{Discover}
-use Rattle.wiring.specs.declared.Phy.{Phy}
-use Rattle.wiring.specs.declared.Phy.the-variants.{Vacant, Present}
-use Rattle.wiring.specs.declared.PhyFields.{PhyFields}
-use Rattle.wiring.specs.Domain.{Expander, Domain}
+use Rattle.files.specs.declared.Phy.{Phy}
+use Rattle.files.specs.declared.Phy.the-variants.{Vacant, Present}
+use Rattle.files.specs.declared.PhyFields.{PhyFields}
+use Rattle.files.specs.Domain.{Expander, Domain}
 
 -- the fields of an expander's REPORT GENERAL response
 abbrev pub generalOf : Expander → General

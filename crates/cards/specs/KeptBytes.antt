@@ -7,9 +7,9 @@ use lib.ListN.{take, drop, replicate}
 use lib.Dec.{eqb}
 use Rattle.frames.specs.Bytes.{byte, bits}
 use Rattle.frames.specs.Refusals.{Result, refused, good}
-use Rattle.wiring.specs.declared.Setting.{Setting}
-use Rattle.wiring.specs.File.{phyUnit, expanderUnit, headerUnit}
-use Rattle.wiring.specs.ShortFile.{orStay}
+use Rattle.files.specs.declared.Setting.{Setting}
+use Rattle.files.specs.File.{phyUnit, expanderUnit, headerUnit}
+use Rattle.files.specs.ShortFile.{orStay}
 
 -- the eight bytes from offset i on
 abbrev pub eight : List ℕ → ℕ → List ℕ

@@ -5,12 +5,12 @@ use mathlib.Core.Bool.{cond}
 use mathlib.Core.List.{List, [], _∷_}
 use lib.Seq.{sets}
 use Rattle.frames.specs.Refusals.{Result, refused}
-use Rattle.wiring.specs.declared.Setting.{Setting}
-use Rattle.wiring.specs.declared.Phy.{Phy}
+use Rattle.files.specs.declared.Setting.{Setting}
+use Rattle.files.specs.declared.Phy.{Phy}
 use Rattle.wiring.specs.declared.Check.{Check}
 use Rattle.wiring.specs.declared.Check.the-variants.{Refused as NotPassed, Passed as AllPassed}
-use Rattle.wiring.specs.Domain.{Expander, Domain}
-use Rattle.wiring.specs.Rows.{phyWords, rowOf, rowsOf}
+use Rattle.files.specs.Domain.{Expander, Domain}
+use Rattle.files.specs.Rows.{phyWords, rowOf, rowsOf}
 use Rattle.cards.specs.declared.PhysWalk.{PhysWalk}
 use Rattle.cards.specs.declared.CardWalk.{CardWalk}
 use Rattle.cards.specs.Card.{physSize, cardSize}

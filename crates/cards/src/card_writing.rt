@@ -13,9 +13,9 @@ ghost use Prim.Native.Nat.{_+_, _-_, _*_, _≤_, _<_};
 ghost use lib.ListN.{length, drop};
 ghost use lib.Seq.{sets};
 ghost use Rattle.frames.specs.Bits.{bitsOf, bytesFor};
-ghost use Rattle.wiring.specs.declared.Phy.the-variants.{Present};
-ghost use Rattle.wiring.specs.Domain.{expanderAt};
-ghost use Rattle.wiring.specs.Rows.{domainIn};
+ghost use Rattle.files.specs.declared.Phy.the-variants.{Present};
+ghost use Rattle.files.specs.Domain.{expanderAt};
+ghost use Rattle.files.specs.Rows.{domainIn};
 ghost use Rattle.cards.specs.Card.{phyBits, physBits, headBits, expandersBits, physSize, cardSize, cardOf};
 ghost use Rattle.cards.specs.Calls.{cardFor, MadeDone};
 

@@ -13,8 +13,8 @@ ghost use mathlib.Core.List.{_++_};
 ghost use Prim.Native.Nat.{_+_, _*_, _≤_, _<_};
 ghost use lib.ListN.{length, drop};
 ghost use lib.Seq.{sets};
-ghost use Rattle.wiring.specs.Domain.{expanderAt};
-ghost use Rattle.wiring.specs.Rows.{domainIn};
+ghost use Rattle.files.specs.Domain.{expanderAt};
+ghost use Rattle.files.specs.Rows.{domainIn};
 ghost use Rattle.cards.specs.FileOf.{discoverOf, phyFrame, physFrames, unitHead, unitsOf, fileOf};
 ghost use Rattle.cards.specs.Calls.{fileFor, MadeDone};
 

@@ -6,7 +6,7 @@ use wiring::PhyId;
 use wiring::Refusal;
 ghost use mathlib.Core.Path.{_≡_};
 ghost use Rattle.frames.specs.Refusals.{Result, refused, refusal};
-ghost use Rattle.wiring.specs.Domain.{Domain};
+ghost use Rattle.files.specs.Domain.{Domain};
 ghost use Rattle.cards.specs.Calls.{madeAnswer};
 ghost use Rattle.cards.specs.Walks.{afterCheck};
 

@@ -4,8 +4,8 @@ use wiring::Phy;
 use wiring::PhyId;
 ghost use mathlib.Core.Path.{_≡_};
 ghost use Prim.Native.Nat.{_≤_};
-ghost use Rattle.wiring.specs.Domain.{expanderAt};
-ghost use Rattle.wiring.specs.Rows.{domainIn};
+ghost use Rattle.files.specs.Domain.{expanderAt};
+ghost use Rattle.files.specs.Rows.{domainIn};
 ghost use Rattle.cards.specs.Card.{phySize, physSize, cardSize};
 
 // The bits of a phy.

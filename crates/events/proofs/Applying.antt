@@ -8,13 +8,13 @@ use lib.ListN.{length, take, drop, take-append-drop}
 use Rattle.frames.specs.Bytes.{byte}
 use Rattle.frames.specs.Refusals.{Result, refused, good, then}
 use Rattle.frames.specs.declared.Refusal.{Refusal}
-use Rattle.wiring.specs.declared.Setting.{Setting}
-use Rattle.wiring.specs.Domain.{Domain}
-use Rattle.wiring.specs.File.{domainRead}
+use Rattle.files.specs.declared.Setting.{Setting}
+use Rattle.files.specs.Domain.{Domain}
+use Rattle.files.specs.File.{domainRead}
 use Rattle.wiring.specs.Addresses.{IndexRoom}
-use Rattle.wiring.proofs.Results.{never}
-use Rattle.wiring.proofs.Read.{read-good, stated-expanders}
-use Rattle.wiring.proofs.Excess.{header-cut}
+use Rattle.files.proofs.Results.{never}
+use Rattle.files.proofs.Read.{read-good, stated-expanders}
+use Rattle.files.proofs.Excess.{header-cut}
 use Rattle.tables.specs.Entries.{Entries, roomOf}
 use Rattle.tables.specs.Refilling.{movedBy}
 use Rattle.tables.specs.Replugging.{replugCall, ownTouched, replugAnswer, ReplugDone}

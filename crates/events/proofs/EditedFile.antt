@@ -22,21 +22,21 @@ use Rattle.frames.specs.declared.Refusal.{Refusal}
 use Rattle.frames.specs.declared.Response.{Response}
 use Rattle.frames.specs.declared.Response.the-variants.{ReportGeneral, Discover as DiscoverResponse}
 use Rattle.frames.proofs.LongFrames.{number-alike, sized, size-least}
-use Rattle.wiring.specs.declared.Setting.{Setting}
-use Rattle.wiring.specs.declared.ExpanderUnit.{ExpanderUnit}
-use Rattle.wiring.specs.declared.PhyFields.{PhyFields}
-use Rattle.wiring.specs.declared.Phy.{Phy}
-use Rattle.wiring.specs.declared.Phy.the-variants.{Vacant, Present}
-use Rattle.wiring.specs.Lists.{isIn}
-use Rattle.wiring.specs.Settings.{within, inRange}
-use Rattle.wiring.specs.Domain.{Expander, Domain, expanderAt, phyAt}
-use Rattle.wiring.specs.PhySet.{withPhy, setPhy}
-use Rattle.wiring.specs.File.{Parsed, parsed, placed, sizeAt, frameAt, fieldsOf, ranged, phyOf, phyUnit, phyUnits, unitOf, unitTested, expanderUnit, expanderOf, expanders, headerUnit, domainRead}
-use Rattle.wiring.specs.Units.{endsAt}
-use Rattle.wiring.proofs.Members.{is-true, is-false, and-left, and-right}
-use Rattle.wiring.proofs.Results.{never, good-one, unless-good, good-unless, then-good, good-then}
-use Rattle.wiring.proofs.Reading.{unitAt, unit-cut, unit-by, size-whole, size-within}
-use Rattle.wiring.proofs.Wires.{phy-range}
+use Rattle.files.specs.declared.Setting.{Setting}
+use Rattle.files.specs.declared.ExpanderUnit.{ExpanderUnit}
+use Rattle.files.specs.declared.PhyFields.{PhyFields}
+use Rattle.files.specs.declared.Phy.{Phy}
+use Rattle.files.specs.declared.Phy.the-variants.{Vacant, Present}
+use Rattle.files.specs.Lists.{isIn}
+use Rattle.files.specs.Settings.{within, inRange}
+use Rattle.files.specs.Domain.{Expander, Domain, expanderAt, phyAt}
+use Rattle.files.specs.PhySet.{withPhy, setPhy}
+use Rattle.files.specs.File.{Parsed, parsed, placed, sizeAt, frameAt, fieldsOf, ranged, phyOf, phyUnit, phyUnits, unitOf, unitTested, expanderUnit, expanderOf, expanders, headerUnit, domainRead}
+use Rattle.files.specs.Units.{endsAt}
+use Rattle.files.proofs.Members.{is-true, is-false, and-left, and-right}
+use Rattle.files.proofs.Results.{never, good-one, unless-good, good-unless, then-good, good-then}
+use Rattle.files.proofs.Reading.{unitAt, unit-cut, unit-by, size-whole, size-within}
+use Rattle.files.proofs.Domains.{phy-range}
 use Rattle.tables.specs.Replugging.{pluggable, replug}
 use Rattle.events.specs.declared.Event.{Event}
 use Rattle.events.specs.Events.{named, edited}

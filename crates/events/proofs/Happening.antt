@@ -9,9 +9,9 @@ use Rattle.frames.specs.Bits.{bytesFor}
 use Rattle.frames.specs.Refusals.{Result, refused, good, refusal}
 use Rattle.frames.proofs.Packing.{Bytes}
 use Rattle.frames.proofs.DisableBits.{length-marked}
-use Rattle.wiring.specs.declared.Setting.{Setting}
-use Rattle.wiring.specs.Domain.{Domain}
-use Rattle.wiring.proofs.Results.{good-one, unless-good, then-good}
+use Rattle.files.specs.declared.Setting.{Setting}
+use Rattle.files.specs.Domain.{Domain}
+use Rattle.files.proofs.Results.{good-one, unless-good, then-good}
 use Rattle.tables.specs.Tables.{tables}
 use Rattle.tables.specs.Entries.{Entries, Room, roomOf, Enough, putBefore}
 use Rattle.tables.specs.Judge.{judged, tablesFor, tableCall, tablesAfter, TablesDone}

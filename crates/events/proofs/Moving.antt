@@ -9,15 +9,15 @@ use lib.ListN.{length, take, drop, set, take-append-drop}
 use lib.Seq.{take-at}
 use lib.Dec.{T, eqb, eqb-refl}
 use Rattle.frames.specs.Refusals.{good}
-use Rattle.wiring.specs.declared.Phy.{Phy}
-use Rattle.wiring.specs.declared.Setting.{Setting}
-use Rattle.wiring.specs.Lists.{any, keep, isIn, In}
-use Rattle.wiring.specs.Domain.{Domain, expanderAt, phyAt, routes, toExpander}
+use Rattle.files.specs.declared.Phy.{Phy}
+use Rattle.files.specs.declared.Setting.{Setting}
+use Rattle.files.specs.Lists.{any, keep, isIn, In}
+use Rattle.files.specs.Domain.{Domain, expanderAt, phyAt, routes, toExpander}
 use Rattle.wiring.specs.Causes.{Place, places}
-use Rattle.wiring.specs.PhySet.{setPhy}
+use Rattle.files.specs.PhySet.{setPhy}
 use Rattle.wiring.specs.Tested.{Linked}
-use Rattle.wiring.proofs.Members.{tests, is-true, kept}
-use Rattle.wiring.proofs.Results.{good-one, then-good}
+use Rattle.files.proofs.Members.{tests, is-true, kept}
+use Rattle.files.proofs.Results.{good-one, then-good}
 use Rattle.wiring.proofs.Wires.{Wired}
 use Rattle.tables.specs.Tables.{word, tablePlaces, tables, size, needed, stretch}
 use Rattle.tables.specs.Entries.{Entries, roomOf}

@@ -5,10 +5,10 @@ use mathlib.Core.List.{List, [], _∷_, flatMap}
 use lib.ListN.{length}
 use Rattle.frames.specs.Bits.{numberBits, field, bitsOf, packedIn}
 use Rattle.frames.specs.Refusals.{good}
-use Rattle.wiring.specs.declared.Phy.{Phy}
-use Rattle.wiring.specs.declared.Phy.the-variants.{Present}
-use Rattle.wiring.specs.Domain.{Domain}
-use Rattle.wiring.specs.PhySet.{withPhy, setPhy}
+use Rattle.files.specs.declared.Phy.{Phy}
+use Rattle.files.specs.declared.Phy.the-variants.{Present}
+use Rattle.files.specs.Domain.{Domain}
+use Rattle.files.specs.PhySet.{withPhy, setPhy}
 use Rattle.tables.proofs.Opened.{numbers, any, keep, isIn, numberOf, unanswered, endAt, claimed, clash, clashing, fixed, phyPlaces, placesFrom, firstIn, wiredDomain, strip, reach, cabled, neighbours, chainsWithin, unlong, unlooped, joined, joinedIn, linkedDomain}
 use Rattle.tables.specs.Levels.{once, belowPhys, below, nextLevel, levelsFrom, levels}
 use Rattle.tables.specs.Tables.{heldBy, gives, give, giveAll, levelList, table, tablePlaces, tables, size}

@@ -11,14 +11,15 @@ use native.Mathlib.Decide.{ℕ-discrete, decLt}
 use lib.ListN.{length, getD, take, set, replicate, length-set}
 use lib.Seq.{set-out, set-append-left, getD-set-same, getD-set-other}
 use lib.Dec.{T, eqb→eq}
-use Rattle.wiring.specs.declared.Phy.{Phy}
-use Rattle.wiring.specs.declared.Phy.the-variants.{Vacant}
-use Rattle.wiring.specs.Lists.{any, In, Distinct}
-use Rattle.wiring.specs.Domain.{Domain, noExpander, expanderAt, phyAt, addressOf, attributeOf, routes, attached, bears, numberOf}
-use Rattle.wiring.specs.PhySet.{withPhy, setPhy}
+use Rattle.files.specs.declared.Phy.{Phy}
+use Rattle.files.specs.declared.Phy.the-variants.{Vacant}
+use Rattle.files.specs.Lists.{any, In, Distinct}
+use Rattle.files.specs.Domain.{Domain, noExpander, expanderAt, phyAt, addressOf, attributeOf, routes, attached, bears, numberOf}
+use Rattle.files.specs.PhySet.{withPhy, setPhy}
 use Rattle.wiring.specs.Tested.{Linked}
-use Rattle.wiring.proofs.Members.{tests, T?, is-true, is-false, was-true, in-cast, getD-in}
-use Rattle.wiring.proofs.Wires.{Wired, routes-one, far-below, far-is}
+use Rattle.files.proofs.Members.{tests, T?, is-true, is-false, was-true, in-cast, getD-in}
+use Rattle.wiring.proofs.Wires.{Wired, far-below, far-is}
+use Rattle.files.proofs.Domains.{routes-one}
 use Rattle.tables.specs.Levels.{down, levels}
 use Rattle.tables.specs.Tables.{word, levelList, table}
 use Rattle.tables.specs.Own.{owns, ownFrom, own, ownList}

@@ -9,14 +9,14 @@ use lib.ListN.{length, replicate, length-replicate}
 use lib.Dec.{T}
 use Rattle.frames.specs.Refusals.{Result, refused, good, unless, then, refusal}
 use Rattle.frames.specs.declared.Refusal.{Refusal}
-use Rattle.wiring.specs.declared.Setting.{Setting}
-use Rattle.wiring.specs.Lists.{isIn}
-use Rattle.wiring.specs.Domain.{Domain, expanderAt}
-use Rattle.wiring.specs.File.{domainRead}
+use Rattle.files.specs.declared.Setting.{Setting}
+use Rattle.files.specs.Lists.{isIn}
+use Rattle.files.specs.Domain.{Domain, expanderAt}
+use Rattle.files.specs.File.{domainRead}
 use Rattle.wiring.specs.Addresses.{slotsBefore}
 use Rattle.wiring.specs.Tested.{Linked}
-use Rattle.wiring.proofs.Members.{was-true}
-use Rattle.wiring.proofs.Results.{never, then-good}
+use Rattle.files.proofs.Members.{was-true}
+use Rattle.files.proofs.Results.{never, then-good}
 use Rattle.wiring.proofs.Wires.{Wired}
 use Rattle.tables.specs.Tables.{table}
 use Rattle.tables.specs.Entries.{Entries, Room, roomOf}

@@ -9,18 +9,18 @@ use Rattle.frames.specs.Sizes.{frameSize}
 use Rattle.frames.specs.ReportGeneral.{generalFixed, generalRead}
 use Rattle.frames.specs.Discovery.{discoverFixed, discoverRead}
 use Rattle.frames.specs.Refusals.{Result, refused, good, refusal}
-use Rattle.wiring.specs.declared.Phy.{Phy}
-use Rattle.wiring.specs.declared.Phy.the-variants.{Present}
-use Rattle.wiring.specs.Lists.{numbers, any, keep, isIn}
-use Rattle.wiring.specs.Settings.{inRange, widest}
-use Rattle.wiring.specs.Domain.{Domain, numberOf}
-use Rattle.wiring.specs.File.{sizeAt, domainRead, headerUnit, expanders, expanderUnit, phyUnits, phyUnit}
+use Rattle.files.specs.declared.Phy.{Phy}
+use Rattle.files.specs.declared.Phy.the-variants.{Present}
+use Rattle.files.specs.Lists.{numbers, any, keep, isIn}
+use Rattle.files.specs.Settings.{inRange, widest}
+use Rattle.files.specs.Domain.{Domain, numberOf}
+use Rattle.files.specs.File.{sizeAt, domainRead, headerUnit, expanders, expanderUnit, phyUnits, phyUnit}
 use Rattle.wiring.specs.Causes.{unanswered, endAt, claimed, clash, clashing, fixed, phyPlaces, placesFrom, firstIn, wiredDomain}
 use Rattle.wiring.specs.Graph.{strip, reach}
 use Rattle.wiring.specs.Neighbours.{cabled, neighbours}
 use Rattle.wiring.specs.Chains.{chainsWithin, unlong}
 use Rattle.wiring.specs.Links.{unlooped, joined, joinedIn, linkedDomain}
-use Rattle.wiring.specs.PhySet.{withPhy, setPhy}
+use Rattle.files.specs.PhySet.{withPhy, setPhy}
 use Rattle.tables.specs.Levels.{once, belowPhys, below, nextLevel, levelsFrom, levels}
 use Rattle.tables.specs.Tables.{heldBy, gives, give, giveAll, levelList, table, tablePlaces, size, sizes}
 use Rattle.tables.specs.Entries.{Entries, entries, Room, roomOf}

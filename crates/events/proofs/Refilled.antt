@@ -13,13 +13,13 @@ use Rattle.frames.specs.Bits.{bitsOf, packedIn, bytesFor, packed, zeroBit, zero
 use Rattle.frames.proofs.PackedBits.{Bits, length-packedIn}
 use Rattle.frames.proofs.Packing.{Bytes, bitsOf-append, packed-back, unpacked, bytes-packedIn}
 use Rattle.frames.proofs.DisableBits.{marked-room, length-marked}
-use Rattle.wiring.specs.declared.Phy.{Phy}
-use Rattle.wiring.specs.Lists.{In, isIn}
-use Rattle.wiring.specs.Domain.{Domain, expanderAt, phyAt, routes}
+use Rattle.files.specs.declared.Phy.{Phy}
+use Rattle.files.specs.Lists.{In, isIn}
+use Rattle.files.specs.Domain.{Domain, expanderAt, phyAt, routes}
 use Rattle.wiring.specs.Causes.{Place, place, places}
-use Rattle.wiring.specs.PhySet.{setPhy}
+use Rattle.files.specs.PhySet.{setPhy}
 use Rattle.wiring.specs.Tested.{Linked}
-use Rattle.wiring.proofs.Members.{is-true, kept, isIn-of, by-test}
+use Rattle.files.proofs.Members.{is-true, kept, isIn-of, by-test}
 use Rattle.wiring.proofs.Wires.{Wired}
 use Rattle.tables.specs.Levels.{levels}
 use Rattle.tables.specs.Tables.{levelList, table, tablePlaces, tables, size, needed}

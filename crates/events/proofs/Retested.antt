@@ -11,12 +11,12 @@ use lib.ListN.{length, getD, take, set, replicate, length-replicate}
 use lib.Dec.{T, eqb, ltb, ltb→lt}
 use borrow.Author.Tests.{eq-eqb}
 use Rattle.frames.specs.Refusals.{Result, refused, good, then, refusal}
-use Rattle.wiring.specs.declared.Setting.{Setting}
-use Rattle.wiring.specs.declared.Phy.{Phy}
-use Rattle.wiring.specs.declared.Phy.the-variants.{Vacant}
-use Rattle.wiring.specs.Lists.{In, any}
-use Rattle.wiring.specs.Domain.{Expander, Domain, noExpander, expanderAt, phyAt, addressOf, farOf, routes, toEnd, toExpander, numberOf}
-use Rattle.wiring.specs.Read.{Read}
+use Rattle.files.specs.declared.Setting.{Setting}
+use Rattle.files.specs.declared.Phy.{Phy}
+use Rattle.files.specs.declared.Phy.the-variants.{Vacant}
+use Rattle.files.specs.Lists.{In, any}
+use Rattle.files.specs.Domain.{Expander, Domain, noExpander, expanderAt, phyAt, addressOf, farOf, routes, toEnd, toExpander, numberOf}
+use Rattle.files.specs.Read.{Read}
 use Rattle.wiring.specs.Causes.{Place, place, phyPlaces, placesFrom, places, farPhy, names, unanswered, endAt, claimed, clash, clashing, fixed, firstIn, firstOf, wiredDomain}
 use Rattle.wiring.specs.Addresses.{slotsBefore, isTaken}
 use Rattle.wiring.specs.Graph.{Loop, Chain}
@@ -24,10 +24,11 @@ use Rattle.wiring.specs.Neighbours.{cabled, neighbours}
 use Rattle.wiring.specs.Chains.{ShortChains}
 use Rattle.wiring.specs.Links.{linkedDomain, checkedDomain}
 use Rattle.wiring.specs.Tested.{Passed, Linked}
-use Rattle.wiring.specs.PhySet.{withPhy}
-use Rattle.wiring.proofs.Members.{tests, by-test, or-cases, is-false, of-any, take-in, in-append}
-use Rattle.wiring.proofs.Read.{read-good}
-use Rattle.wiring.proofs.Wires.{Wired, numberOf-is}
+use Rattle.files.specs.PhySet.{withPhy}
+use Rattle.files.proofs.Members.{tests, by-test, or-cases, is-false, of-any, take-in, in-append}
+use Rattle.files.proofs.Read.{read-good}
+use Rattle.wiring.proofs.Wires.{Wired}
+use Rattle.files.proofs.Domains.{numberOf-is}
 use Rattle.wiring.proofs.Accepted.{good-firstIn, good-firstOf, passed-iff, linked-iff, end-at}
 use Rattle.wiring.proofs.Calls.{checked-room}
 use Rattle.tables.specs.Judge.{judgedDomain, judged}

@@ -12,12 +12,13 @@ use Rattle.frames.specs.Bits.{bitsOf, packedIn, zeroBit, zeroBits}
 use Rattle.frames.specs.Refusals.{good}
 use Rattle.frames.proofs.PackedBits.{Bits, length-bitsOf, bits-drop}
 use Rattle.frames.proofs.Packing.{bits-bitsOf, unpacked}
-use Rattle.wiring.specs.declared.Setting.{Setting}
-use Rattle.wiring.specs.Lists.{In, any, keep, isIn}
-use Rattle.wiring.specs.Domain.{Domain, expanderAt, phyAt, routes, toExpander}
+use Rattle.files.specs.declared.Setting.{Setting}
+use Rattle.files.specs.Lists.{In, any, keep, isIn}
+use Rattle.files.specs.Domain.{Domain, expanderAt, phyAt, routes, toExpander}
 use Rattle.wiring.specs.Causes.{Place, place, places}
-use Rattle.wiring.proofs.Members.{is-true, was-true, and-left, and-right}
-use Rattle.wiring.proofs.Wires.{routes-range, in-places}
+use Rattle.files.proofs.Members.{is-true, was-true, and-left, and-right}
+use Rattle.files.proofs.Domains.{routes-range}
+use Rattle.wiring.proofs.Wires.{in-places}
 use Rattle.tables.specs.Levels.{levels}
 use Rattle.tables.specs.Tables.{levelList, table, tablePlaces, size, sizes, needed, offsetIn, offset, stretch}
 use Rattle.tables.specs.Entries.{Entries, roomOf, Enough}

@@ -3,8 +3,8 @@ use Prim.Native.Nat.{ℕ, _<_, _^_}
 use mathlib.Core.Path.{_≡_}
 use mathlib.Core.List.{List, [], _∷_}
 use Rattle.frames.specs.Refusals.{Result, refused, good, unless, then, refusal}
-use Rattle.wiring.specs.declared.Setting.{Setting}
-use Rattle.wiring.specs.Domain.{Domain}
+use Rattle.files.specs.declared.Setting.{Setting}
+use Rattle.files.specs.Domain.{Domain}
 use Rattle.tables.specs.Entries.{Entries, Room, roomOf}
 use Rattle.tables.specs.Judge.{judged, tablesFor}
 use Rattle.tables.specs.Refilling.{Moved, moved, refilled}

@@ -1,6 +1,6 @@
 -- Drives plugged and pulled (document 02, paper 9): what an event does to a domain.
-use Rattle.wiring.specs.declared.Phy.{Phy}
-use Rattle.wiring.specs.Domain.{Domain, phyAt}
+use Rattle.files.specs.declared.Phy.{Phy}
+use Rattle.files.specs.Domain.{Domain, phyAt}
 use Rattle.tables.specs.Replugging.{replugged}
 use Rattle.events.specs.declared.Event.{Event}
 

@@ -4,8 +4,8 @@ use mathlib.Core.Path.{_≡_}
 use mathlib.Core.List.{List}
 use lib.ListN.{length, take, set}
 use lib.Dec.{T}
-use Rattle.wiring.specs.Lists.{keep}
-use Rattle.wiring.specs.Domain.{Domain, phyAt, routes, toExpander}
+use Rattle.files.specs.Lists.{keep}
+use Rattle.files.specs.Domain.{Domain, phyAt, routes, toExpander}
 use Rattle.wiring.specs.Causes.{Place}
 use Rattle.tables.specs.Tables.{levelList, tablePlaces, tables, needed, stretch}
 use Rattle.tables.specs.Entries.{Entries}

@@ -7,8 +7,8 @@ use lib.ListN.{take, drop}
 use lib.Dec.{T}
 use Rattle.frames.specs.Bits.{bitsOf, zeroBits}
 use Rattle.frames.specs.Refusals.{good}
-use Rattle.wiring.specs.declared.Setting.{Setting}
-use Rattle.wiring.specs.Domain.{Domain, expanderAt, phyAt, routes}
+use Rattle.files.specs.declared.Setting.{Setting}
+use Rattle.files.specs.Domain.{Domain, expanderAt, phyAt, routes}
 use Rattle.wiring.specs.Causes.{place}
 use Rattle.tables.specs.Levels.{levels}
 use Rattle.tables.specs.Tables.{table, tables, needed, offset, stretch}

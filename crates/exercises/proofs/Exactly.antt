@@ -10,11 +10,11 @@ use lib.Seq.{take-at}
 use lib.Dec.{T}
 use borrow.Author.Tests.{le-leb, lt-leb}
 use Rattle.wiring.specs.Frames.{Result, Refusal, refused, good, then, refusal}
-use Rattle.wiring.specs.Settings.{widest}
-use Rattle.wiring.specs.Domain.{Domain}
-use Rattle.wiring.specs.Read.{Bytes}
-use Rattle.wiring.proofs.Members.{T?, is-true, is-false}
-use Rattle.wiring.proofs.Results.{good-one}
+use Rattle.files.specs.Settings.{widest}
+use Rattle.files.specs.Domain.{Domain}
+use Rattle.files.specs.Read.{Bytes}
+use Rattle.files.proofs.Members.{T?, is-true, is-false}
+use Rattle.files.proofs.Results.{good-one}
 use Rattle.tables.specs.Tables.{table, tables, needed}
 use Rattle.tables.specs.Entries.{Entries, roomOf, Enough, putBefore}
 use Rattle.tables.specs.Judge.{judged, tableCall, countsIn, tablesAnswer, tablesAfter, TablesDone}

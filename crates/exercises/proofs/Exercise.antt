@@ -9,23 +9,24 @@ use native.Mathlib.Decide.{ℕ-discrete, decLt}
 use lib.ListN.{length, getD, length-map}
 use lib.Dec.{T, eqb, ltb, lt→ltb, leb→le}
 use borrow.Author.Tests.{eq-eqb, ne-eqb}
-use Rattle.wiring.specs.declared.Phy.{Phy}
-use Rattle.wiring.specs.declared.Phy.the-variants.{Vacant}
+use Rattle.files.specs.declared.Phy.{Phy}
+use Rattle.files.specs.declared.Phy.the-variants.{Vacant}
 use Rattle.wiring.specs.Frames.{good}
-use Rattle.wiring.specs.Lists.{keep, In, isIn}
-use Rattle.wiring.specs.Settings.{widest}
-use Rattle.wiring.specs.Domain.{Domain, expanderAt, phyAt, typeOf, addressOf, farOf, attributeOf, routes, attached, toEnd, toExpander, numberOf}
-use Rattle.wiring.specs.Read.{ReadPhy, ReadExpander, Read, Bytes, FitsPhy, FitsExpander, FitsDomain}
-use Rattle.wiring.specs.File.{domainRead}
-use Rattle.wiring.specs.Rows.{rowsOf, domainIn}
+use Rattle.files.specs.Lists.{keep, In, isIn}
+use Rattle.files.specs.Settings.{widest}
+use Rattle.files.specs.Domain.{Domain, expanderAt, phyAt, typeOf, addressOf, farOf, attributeOf, routes, attached, toEnd, toExpander, numberOf}
+use Rattle.files.specs.Read.{ReadPhy, ReadExpander, Read, Bytes, FitsPhy, FitsExpander, FitsDomain}
+use Rattle.files.specs.File.{domainRead}
+use Rattle.files.specs.Rows.{rowsOf, domainIn}
 use Rattle.wiring.specs.Causes.{Place, place, phyPlaces, placesFrom, farPhy}
 use Rattle.wiring.specs.Graph.{self, ring}
 use Rattle.wiring.specs.Neighbours.{neighbours}
 use Rattle.wiring.specs.Devices.{LoopIn, ChainIn, To}
 use Rattle.wiring.specs.Tested.{Linked}
-use Rattle.wiring.proofs.Members.{or-left, or-right, isIn-of, eq→eqb, pigeonhole, getD-in, in-map}
-use Rattle.wiring.proofs.Wires.{Plain, Wired, in-range, adj-to, to-adj}
-use Rattle.wiring.proofs.Back.{domain-back}
+use Rattle.files.proofs.Members.{or-left, or-right, isIn-of, eq→eqb, pigeonhole, getD-in, in-map}
+use Rattle.wiring.proofs.Wires.{Plain, Wired, adj-to, to-adj}
+use Rattle.files.proofs.Domains.{in-range}
+use Rattle.files.proofs.Back.{domain-back}
 use Rattle.wiring.proofs.Accepted.{read-expander}
 use Rattle.wiring.proofs.LongChains.{never-long}
 use Rattle.tables.specs.Levels.{down}

@@ -9,12 +9,12 @@ use lib.ListN.{length, getD, replicate, List·getD-append}
 use lib.Seq.{getD-append-add}
 use Rattle.frames.specs.Bytes.{bytesOf}
 use Rattle.cards.specs.ShortFrames.{shortGeneral, shortVacant, shortDiscover}
-use Rattle.wiring.specs.declared.Phy.{Phy}
-use Rattle.wiring.specs.declared.Phy.the-variants.{Vacant, Present}
-use Rattle.wiring.specs.declared.Setting.{Setting}
-use Rattle.wiring.specs.Lists.{In}
-use Rattle.wiring.specs.Domain.{Expander, Domain}
-use Rattle.wiring.specs.Read.{ReadExpander, Read, Bytes, FitsPhy, FitsExpander, FitsDomain}
+use Rattle.files.specs.declared.Phy.{Phy}
+use Rattle.files.specs.declared.Phy.the-variants.{Vacant, Present}
+use Rattle.files.specs.declared.Setting.{Setting}
+use Rattle.files.specs.Lists.{In}
+use Rattle.files.specs.Domain.{Expander, Domain}
+use Rattle.files.specs.Read.{ReadExpander, Read, Bytes, FitsPhy, FitsExpander, FitsDomain}
 use Rattle.cards.specs.FileOf.{phyFrame, physFrames, unitHead, unitsOf, fileOf}
 
 -- the same as a record, whose list antt finds by itself

@@ -8,18 +8,19 @@ use native.Mathlib.Omega.{arith}
 use native.Mathlib.Decide.{ℕ-discrete}
 use lib.ListN.{length, getD, length-append, List·getD-eq-default}
 use lib.Dec.{T, eqb, ltb, eqb→eq, ltb→lt, T-not}
-use Rattle.wiring.specs.declared.Phy.{Phy}
-use Rattle.wiring.specs.declared.Phy.the-variants.{Vacant}
-use Rattle.wiring.specs.Lists.{keep, In, isIn}
-use Rattle.wiring.specs.Settings.{widest}
-use Rattle.wiring.specs.Domain.{Domain, noExpander, expanderAt, phyAt, addressOf, farOf, routes, attached, toExpander, numberOf}
-use Rattle.wiring.specs.Read.{Read}
+use Rattle.files.specs.declared.Phy.{Phy}
+use Rattle.files.specs.declared.Phy.the-variants.{Vacant}
+use Rattle.files.specs.Lists.{keep, In, isIn}
+use Rattle.files.specs.Settings.{widest}
+use Rattle.files.specs.Domain.{Domain, noExpander, expanderAt, phyAt, addressOf, farOf, routes, attached, toExpander, numberOf}
+use Rattle.files.specs.Read.{Read}
 use Rattle.wiring.specs.Causes.{farPhy}
 use Rattle.wiring.specs.Graph.{self}
 use Rattle.wiring.specs.Tested.{Linked}
-use Rattle.wiring.proofs.Members.{tests, T?, or-cases, is-true, is-false, in-getD, getD-in, of-isIn}
-use Rattle.wiring.proofs.Read.{read-good, read-fits}
-use Rattle.wiring.proofs.Wires.{To, Wired, expander-attached, routes-one, in-range, far-below, far-is, to-number, to-adj, differ}
+use Rattle.files.proofs.Members.{tests, T?, or-cases, is-true, is-false, in-getD, getD-in, of-isIn}
+use Rattle.files.proofs.Read.{read-good, read-fits}
+use Rattle.wiring.proofs.Wires.{To, Wired, far-below, far-is, to-number, to-adj, differ}
+use Rattle.files.proofs.Domains.{expander-attached, routes-one, in-range}
 use Rattle.wiring.proofs.Accepted.{read-expander}
 use Rattle.tables.specs.Levels.{once, down, belowPhys, below, nextLevel, levelsFrom, levels}
 use Rattle.tables.specs.Tables.{word, heldBy, gives, give, giveAll, levelList, table}

@@ -7,7 +7,7 @@ use mathlib.Core.List.{List}
 use lib.ListN.{length}
 use lib.Dec.{ltb}
 use borrow.Author.Tests.{eq-eqb, ne-eqb, lt-ltb, le-ltb}
-use Rattle.wiring.specs.Lists.{isIn}
+use Rattle.files.specs.Lists.{isIn}
 use Rattle.exercises.specs.Rig.{trimmed, noRig}
 
 module _ (a b : ℕ) (ws : List ℕ) where

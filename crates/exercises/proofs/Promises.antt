@@ -5,9 +5,9 @@ use mathlib.Core.Bool.{true, false}
 use mathlib.Core.List.{List, [], _∷_}
 use lib.ListN.{length}
 use Rattle.wiring.specs.Frames.{refused, refusal}
-use Rattle.wiring.specs.Domain.{Domain}
-use Rattle.wiring.specs.Rows.{rowsOf, domainIn}
-use Rattle.wiring.proofs.Members.{was-false}
+use Rattle.files.specs.Domain.{Domain}
+use Rattle.files.specs.Rows.{rowsOf, domainIn}
+use Rattle.files.proofs.Members.{was-false}
 use Rattle.cards.specs.declared.Made.{Made}
 use Rattle.cards.specs.Calls.{fileFor, madeAnswer, MadeDone}
 use Rattle.exercises.specs.Rig.{trimmed, firstOf, secondOf, made, noRig}

@@ -5,11 +5,11 @@ use mathlib.Core.List.{List, [], _∷_, _++_, map}
 use native.Mathlib.Omega.{arith}
 use lib.ListN.{length, getD, take, drop, set, replicate, length-map, length-drop, length-append, drop-of-length-le}
 use lib.Seq.{sets, drop-cons, drop-at, take-at}
-use Rattle.wiring.specs.declared.Phy.{Phy}
-use Rattle.wiring.specs.declared.ExpanderUnit.{ExpanderUnit}
-use Rattle.wiring.specs.Domain.{Expander, addressOf}
-use Rattle.wiring.specs.Rows.{phyWord, phyWords, headWord, rowOf, rowsOf}
-use Rattle.wiring.proofs.Filling.{length-phyWords, length-rowOf}
+use Rattle.files.specs.declared.Phy.{Phy}
+use Rattle.files.specs.declared.ExpanderUnit.{ExpanderUnit}
+use Rattle.files.specs.Domain.{Expander, addressOf}
+use Rattle.files.specs.Rows.{phyWord, phyWords, headWord, rowOf, rowsOf}
+use Rattle.files.proofs.Filling.{length-phyWords, length-rowOf}
 use Rattle.cards.proofs.RowPuts.{row-words}
 use Rattle.exercises.specs.Rig.{drive, toward, firstOf, secondOf}
 

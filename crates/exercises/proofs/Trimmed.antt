@@ -9,8 +9,8 @@ use lib.ListN.{length, getD, take, replicate, length-append}
 use lib.Seq.{take-suc, take-all, length-take-le}
 use lib.Dec.{eqb, eqb→eq}
 use borrow.Author.Tests.{ne-eqb}
-use Rattle.wiring.specs.Lists.{In}
-use Rattle.wiring.proofs.Members.{was-true}
+use Rattle.files.specs.Lists.{In}
+use Rattle.files.proofs.Members.{was-true}
 use Rattle.exercises.specs.Rig.{trimCons, trimmed}
 
 -- the words are those trimmed and then zeros

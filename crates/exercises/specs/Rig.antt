@@ -6,12 +6,12 @@ use mathlib.Core.List.{List, [], _∷_, map}
 use lib.ListN.{length}
 use lib.Dec.{T, eqb, ltb}
 use Rattle.wiring.specs.Frames.{good}
-use Rattle.wiring.specs.declared.Phy.{Phy}
-use Rattle.wiring.specs.declared.Phy.the-variants.{Present}
-use Rattle.wiring.specs.Lists.{isIn}
-use Rattle.wiring.specs.Settings.{widest}
-use Rattle.wiring.specs.Domain.{Expander, Domain, expanderAt, phyAt, addressOf, routes, toExpander}
-use Rattle.wiring.specs.Read.{Bytes}
+use Rattle.files.specs.declared.Phy.{Phy}
+use Rattle.files.specs.declared.Phy.the-variants.{Present}
+use Rattle.files.specs.Lists.{isIn}
+use Rattle.files.specs.Settings.{widest}
+use Rattle.files.specs.Domain.{Expander, Domain, expanderAt, phyAt, addressOf, routes, toExpander}
+use Rattle.files.specs.Read.{Bytes}
 use Rattle.tables.specs.Tables.{table}
 use Rattle.tables.specs.Judge.{judged}
 

@@ -8,7 +8,7 @@ ghost use mathlib.Core.List.{[], _∷_, map};
 ghost use Prim.Native.Nat.{suc, _≤_};
 ghost use lib.ListN.{length};
 ghost use lib.Seq.{sets};
-ghost use Rattle.wiring.specs.Rows.{phyWords, rowOf, rowsOf};
+ghost use Rattle.files.specs.Rows.{phyWords, rowOf, rowsOf};
 ghost use Rattle.exercises.specs.Rig.{drive, toward, firstOf, secondOf};
 
 // The phy of a word: direct, to the word's drive or, for a zero word, to nothing.

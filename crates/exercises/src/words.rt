@@ -1,7 +1,7 @@
 // The words of an exercise, and whether there is a rig for them.
 ghost use mathlib.Core.Path.{_≡_};
 ghost use lib.ListN.{length, take};
-ghost use Rattle.wiring.specs.Lists.{isIn};
+ghost use Rattle.files.specs.Lists.{isIn};
 ghost use Rattle.exercises.specs.Rig.{trimmed, noRig};
 
 // Is the address one of the words?

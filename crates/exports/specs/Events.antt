@@ -3,7 +3,7 @@ use Prim.Native.Nat.{ℕ, _+_, _*_, _^_}
 use mathlib.Core.Path.{_≡_}
 use mathlib.Core.List.{List}
 use Rattle.frames.specs.Refusals.{Result, good, then}
-use Rattle.wiring.specs.Domain.{Domain}
+use Rattle.files.specs.Domain.{Domain}
 use Rattle.tables.specs.Entries.{Entries}
 use Rattle.tables.specs.Refilling.{Moved, moved}
 use Rattle.events.specs.declared.Event.{Event}

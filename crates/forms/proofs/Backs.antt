@@ -10,14 +10,14 @@ use native.Mathlib.Decide.{ℕ-discrete}
 use lib.ListN.{length, getD, drop, length-map, length-append}
 use lib.Seq.{drop-at}
 use lib.Dec.{T, eqb, leb}
-use Rattle.wiring.specs.declared.Setting.{Setting}
-use Rattle.wiring.specs.declared.Phy.{Phy}
-use Rattle.wiring.specs.declared.Phy.the-variants.{Vacant, Present}
-use Rattle.wiring.specs.declared.PhyFields.{PhyFields}
-use Rattle.wiring.specs.Lists.{In}
-use Rattle.wiring.specs.Domain.{Expander, Domain, noExpander, expanderAt, phyAt, addressOf, toExpander, numberOf}
-use Rattle.wiring.specs.Read.{ReadPhy, Read, FitsPhy, FitsDomain}
-use Rattle.wiring.proofs.Members.{getD-in}
+use Rattle.files.specs.declared.Setting.{Setting}
+use Rattle.files.specs.declared.Phy.{Phy}
+use Rattle.files.specs.declared.Phy.the-variants.{Vacant, Present}
+use Rattle.files.specs.declared.PhyFields.{PhyFields}
+use Rattle.files.specs.Lists.{In}
+use Rattle.files.specs.Domain.{Expander, Domain, noExpander, expanderAt, phyAt, addressOf, toExpander, numberOf}
+use Rattle.files.specs.Read.{ReadPhy, Read, FitsPhy, FitsDomain}
+use Rattle.files.proofs.Members.{getD-in}
 use Rattle.wiring.proofs.Wires.{Wired, far-below}
 use Rattle.forms.specs.Form.{headField, phyField, attachedNumber, formPhy, formPhys, formExpanders, formOf, fieldsBack, phyBack, physBack, countIn, expanderBack, expandersBack, formIn}
 use Rattle.forms.specs.Normal.{normalPhy, normalExpander, normalWith, normal}

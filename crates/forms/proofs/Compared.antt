@@ -10,12 +10,12 @@ use lib.ListN.{length, getD, drop, drop-of-length-le}
 use lib.Seq.{drop-cons}
 use lib.Dec.{eqb, leb}
 use borrow.Author.Tests.{eq-eqb, ne-eqb, le-leb, lt-leb}
-use Rattle.wiring.specs.declared.Phy.{Phy}
-use Rattle.wiring.specs.declared.Phy.the-variants.{Vacant, Present}
-use Rattle.wiring.specs.declared.PhyFields.{PhyFields}
-use Rattle.wiring.specs.Domain.{Expander, Domain, noExpander, addressOf, expanderAt}
-use Rattle.wiring.specs.Rows.{phyIn, physIn, rowIn, rowsIn, domainIn}
-use Rattle.wiring.specs.declared.Setting.{Setting}
+use Rattle.files.specs.declared.Phy.{Phy}
+use Rattle.files.specs.declared.Phy.the-variants.{Vacant, Present}
+use Rattle.files.specs.declared.PhyFields.{PhyFields}
+use Rattle.files.specs.Domain.{Expander, Domain, noExpander, addressOf, expanderAt}
+use Rattle.files.specs.Rows.{phyIn, physIn, rowIn, rowsIn, domainIn}
+use Rattle.files.specs.declared.Setting.{Setting}
 use Rattle.forms.specs.Form.{headField, phyField, formIn}
 use Rattle.forms.specs.Formed.{unread}
 use Rattle.forms.specs.Opened.{SmallPhy, namedBy, rightNamed, rightField, rightPhys, rightExpanders, opens}

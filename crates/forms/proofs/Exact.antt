@@ -12,18 +12,18 @@ use borrow.Author.Tests.{not-true, lt-ltb}
 use Rattle.frames.specs.Refusals.{Result, refused, good, unless, then, refusal}
 use Rattle.frames.specs.declared.Refusal.{Refusal}
 use Rattle.frames.specs.Bits.{bytesFor}
-use Rattle.wiring.specs.declared.Setting.{Setting}
-use Rattle.wiring.specs.declared.Phy.{Phy}
-use Rattle.wiring.specs.declared.Phy.the-variants.{Vacant, Present}
-use Rattle.wiring.specs.Lists.{In, Distinct}
-use Rattle.wiring.specs.Settings.{InRange, inRange}
-use Rattle.wiring.specs.Domain.{Expander, Domain}
+use Rattle.files.specs.declared.Setting.{Setting}
+use Rattle.files.specs.declared.Phy.{Phy}
+use Rattle.files.specs.declared.Phy.the-variants.{Vacant, Present}
+use Rattle.files.specs.Lists.{In, Distinct}
+use Rattle.files.specs.Settings.{InRange, inRange}
+use Rattle.files.specs.Domain.{Expander, Domain}
 use Rattle.wiring.specs.Causes.{wiredDomain}
-use Rattle.wiring.specs.Read.{ReadPhy, ReadExpander, addresses, Read, Bytes, FitsDomain}
-use Rattle.wiring.proofs.Ranges.{range-iff}
-use Rattle.wiring.proofs.Read.{read-good, read-fits}
-use Rattle.wiring.proofs.Results.{never, good-one, both, unless-good, then-good}
-use Rattle.wiring.proofs.Members.{by-test, is-true, in-map}
+use Rattle.files.specs.Read.{ReadPhy, ReadExpander, addresses, Read, Bytes, FitsDomain}
+use Rattle.files.proofs.Ranges.{range-iff}
+use Rattle.files.proofs.Read.{read-good, read-fits}
+use Rattle.files.proofs.Results.{never, good-one, both, unless-good, then-good}
+use Rattle.files.proofs.Members.{by-test, is-true, in-map}
 use Rattle.wiring.proofs.Wires.{Wired}
 use Rattle.tables.specs.declared.TablesGiven.{TablesGiven}
 use Rattle.tables.specs.Tables.{tablePlaces, tables, needed}

@@ -6,10 +6,10 @@ use mathlib.Core.List.{List, [], _∷_, _++_}
 use native.Mathlib.Omega.{arith}
 use lib.ListN.{length, drop, length-append}
 use Rattle.frames.specs.Refusals.{Result, refused, good, unless, then, refusal}
-use Rattle.wiring.specs.declared.Setting.{Setting}
-use Rattle.wiring.specs.Settings.{inRange}
-use Rattle.wiring.specs.Domain.{Domain}
-use Rattle.wiring.proofs.Members.{by-test}
+use Rattle.files.specs.declared.Setting.{Setting}
+use Rattle.files.specs.Settings.{inRange}
+use Rattle.files.specs.Domain.{Domain}
+use Rattle.files.proofs.Members.{by-test}
 use Rattle.tables.specs.declared.TablesGiven.{TablesGiven}
 use Rattle.tables.specs.Entries.{Entries, Room}
 use Rattle.tables.specs.Judge.{judgedDomain, tablesFor, TablesDone}

@@ -11,11 +11,11 @@ use lib.ListN.{length, getD, take, drop, set, length-append, length-drop, drop-o
 use lib.Seq.{sets, sets-eq, drop-drop, take-at, drop-at, getD-drop, length-take-le}
 use lib.Dec.{eqb}
 use borrow.Author.Tests.{eq-eqb, ne-eqb}
-use Rattle.wiring.specs.declared.Phy.{Phy}
-use Rattle.wiring.specs.declared.Phy.the-variants.{Vacant, Present}
-use Rattle.wiring.specs.Domain.{Expander, Domain, addressOf}
-use Rattle.wiring.specs.Rows.{phyWord, phyWords, headWord, phyIn, physIn, rowIn, rowsIn, domainIn}
-use Rattle.wiring.proofs.Filling.{length-phyWords}
+use Rattle.files.specs.declared.Phy.{Phy}
+use Rattle.files.specs.declared.Phy.the-variants.{Vacant, Present}
+use Rattle.files.specs.Domain.{Expander, Domain, addressOf}
+use Rattle.files.specs.Rows.{phyWord, phyWords, headWord, phyIn, physIn, rowIn, rowsIn, domainIn}
+use Rattle.files.proofs.Filling.{length-phyWords}
 use Rattle.forms.specs.Form.{fieldsBack, phyBy, phyBack, physBack, countIn, expanderBack, expandersBack, formIn}
 use Rattle.forms.specs.Opened.{SmallPhy, RowHolds}
 

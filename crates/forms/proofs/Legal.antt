@@ -9,17 +9,17 @@ use lib.ListN.{length, getD, drop}
 use lib.Seq.{getD-drop}
 use lib.Dec.{T, eqb, leb}
 use borrow.Author.Tests.{eq-eqb, ne-eqb, le-leb, eqb-true, eqb-false, leb-true}
-use Rattle.wiring.specs.declared.Setting.{Setting}
-use Rattle.wiring.specs.declared.Phy.{Phy}
-use Rattle.wiring.specs.declared.Phy.the-variants.{Vacant, Present}
-use Rattle.wiring.specs.declared.PhyFields.{PhyFields}
-use Rattle.wiring.specs.Lists.{In, Distinct, any, upTo}
-use Rattle.wiring.specs.Settings.{within, InRange}
-use Rattle.wiring.specs.Domain.{Expander, Domain, noExpander, expanderAt, numberOf}
-use Rattle.wiring.specs.File.{ranged}
-use Rattle.wiring.specs.Read.{ReadFields, ReadPhy, ReadExpander, addresses, Read, FitsPhy, FitsExpander, FitsDomain}
-use Rattle.wiring.proofs.Results.{both}
-use Rattle.wiring.proofs.Members.{is-false, was-true, was-false, getD-in, in-upTo, in-map, any-of, of-any, numbers-below, in-getD}
+use Rattle.files.specs.declared.Setting.{Setting}
+use Rattle.files.specs.declared.Phy.{Phy}
+use Rattle.files.specs.declared.Phy.the-variants.{Vacant, Present}
+use Rattle.files.specs.declared.PhyFields.{PhyFields}
+use Rattle.files.specs.Lists.{In, Distinct, any, upTo}
+use Rattle.files.specs.Settings.{within, InRange}
+use Rattle.files.specs.Domain.{Expander, Domain, noExpander, expanderAt, numberOf}
+use Rattle.files.specs.File.{ranged}
+use Rattle.files.specs.Read.{ReadFields, ReadPhy, ReadExpander, addresses, Read, FitsPhy, FitsExpander, FitsDomain}
+use Rattle.files.proofs.Results.{both}
+use Rattle.files.proofs.Members.{is-false, was-true, was-false, getD-in, in-upTo, in-map, any-of, of-any, numbers-below, in-getD}
 use Rattle.forms.specs.Form.{fieldsBack, phyBy, phyBack, physBack, countIn, expanderBack, expandersBack, formIn}
 use Rattle.forms.specs.Formed.{badPhy, badUnit, unread, Words}
 use Rattle.forms.specs.Opened.{SmallPhy}

@@ -11,13 +11,13 @@ use lib.ListN.{length, getD, drop, length-append, length-drop, drop-of-length-le
 use lib.Seq.{drop-cons, drop-at, drop-drop, getD-drop}
 use lib.Dec.{T, eqb, leb, leb→le, eqb→eq}
 use borrow.Author.Tests.{eq-eqb, le-leb, lt-leb, eqb-true, leb-true, leb-false}
-use Rattle.wiring.specs.declared.Phy.{Phy}
-use Rattle.wiring.specs.declared.Phy.the-variants.{Vacant, Present}
-use Rattle.wiring.specs.declared.PhyFields.{PhyFields}
-use Rattle.wiring.specs.Lists.{In}
-use Rattle.wiring.specs.Domain.{Expander, Domain, noExpander, addressOf, expanderAt, numberOf}
-use Rattle.wiring.proofs.Results.{both}
-use Rattle.wiring.proofs.Wires.{numberOf-is}
+use Rattle.files.specs.declared.Phy.{Phy}
+use Rattle.files.specs.declared.Phy.the-variants.{Vacant, Present}
+use Rattle.files.specs.declared.PhyFields.{PhyFields}
+use Rattle.files.specs.Lists.{In}
+use Rattle.files.specs.Domain.{Expander, Domain, noExpander, addressOf, expanderAt, numberOf}
+use Rattle.files.proofs.Results.{both}
+use Rattle.files.proofs.Domains.{numberOf-is}
 use Rattle.forms.specs.Form.{headField, phyField, attachedNumber, formPhy, formPhys, formExpanders, formOf}
 use Rattle.forms.specs.Formed.{sameWords}
 use Rattle.forms.specs.Opened.{namedBy, rightNamed, rightField, rightPhys, rightExpanders}

@@ -8,20 +8,20 @@ use native.Mathlib.Omega.{arith}
 use lib.ListN.{length, getD, take, drop, replicate, length-map, List·getD-map}
 use lib.Dec.{T, eqb, leb, ltb, eqb→eq}
 use Rattle.frames.specs.Refusals.{Result, good, then}
-use Rattle.wiring.specs.declared.Setting.{Setting}
-use Rattle.wiring.specs.declared.Phy.{Phy}
-use Rattle.wiring.specs.declared.Phy.the-variants.{Vacant, Present}
-use Rattle.wiring.specs.Lists.{upTo, any, keep, isIn}
-use Rattle.wiring.specs.Domain.{Expander, Domain, expanderAt, phyAt, typeOf, addressOf, farOf, attributeOf, routes, attached, toEnd, toExpander, bears, numberOf}
+use Rattle.files.specs.declared.Setting.{Setting}
+use Rattle.files.specs.declared.Phy.{Phy}
+use Rattle.files.specs.declared.Phy.the-variants.{Vacant, Present}
+use Rattle.files.specs.Lists.{upTo, any, keep, isIn}
+use Rattle.files.specs.Domain.{Expander, Domain, expanderAt, phyAt, typeOf, addressOf, farOf, attributeOf, routes, attached, toEnd, toExpander, bears, numberOf}
 use Rattle.wiring.specs.Causes.{Place, places, placesFrom, phyPlaces, farPhy, names, unanswered, endAt, claimed, clash, clashing, fixed, wiredDomain}
 use Rattle.wiring.specs.Neighbours.{cabled, neighbours}
 use Rattle.wiring.specs.Graph.{Chain, Loop}
 use Rattle.wiring.specs.Devices.{LoopIn, ChainIn}
-use Rattle.wiring.specs.Read.{Read}
+use Rattle.files.specs.Read.{Read}
 use Rattle.wiring.specs.Tested.{Passed, Linked}
 use Rattle.wiring.specs.Chains.{ShortChains}
-use Rattle.wiring.proofs.Members.{keep-same, and-left, and-right}
-use Rattle.wiring.proofs.Wires.{routes-range, expander-range}
+use Rattle.files.proofs.Members.{keep-same, and-left, and-right}
+use Rattle.files.proofs.Domains.{routes-range, expander-range}
 use Rattle.wiring.proofs.Accepted.{passed-iff}
 use Rattle.tables.specs.Levels.{once, down, belowPhys, below, nextLevel, levelsFrom, levels}
 use Rattle.tables.specs.Tables.{word, heldBy, gives, give, giveAll, levelList, table, tablePlaces, tables, size, sizes, needed, offsetIn, stretch}

@@ -11,19 +11,19 @@ use borrow.Author.Tests.{le-leb, lt-leb, eq-eqb, ne-eqb}
 use Rattle.frames.specs.Refusals.{Result, refused, good, unless, then, refusal}
 use Rattle.frames.specs.declared.Refusal.{Refusal}
 use Rattle.frames.specs.Bits.{bytesFor}
-use Rattle.wiring.specs.declared.Setting.{Setting}
-use Rattle.wiring.specs.declared.Phy.{Phy}
-use Rattle.wiring.specs.declared.Phy.the-variants.{Vacant, Present}
-use Rattle.wiring.specs.declared.PhyFields.{PhyFields}
-use Rattle.wiring.specs.Lists.{In}
-use Rattle.wiring.specs.Settings.{inRange}
-use Rattle.wiring.specs.Domain.{Expander, Domain, noExpander, expanderAt, phyAt, addressOf, toExpander, numberOf}
-use Rattle.wiring.specs.File.{ranged, domainRead}
-use Rattle.wiring.specs.Read.{Read}
+use Rattle.files.specs.declared.Setting.{Setting}
+use Rattle.files.specs.declared.Phy.{Phy}
+use Rattle.files.specs.declared.Phy.the-variants.{Vacant, Present}
+use Rattle.files.specs.declared.PhyFields.{PhyFields}
+use Rattle.files.specs.Lists.{In}
+use Rattle.files.specs.Settings.{inRange}
+use Rattle.files.specs.Domain.{Expander, Domain, noExpander, expanderAt, phyAt, addressOf, toExpander, numberOf}
+use Rattle.files.specs.File.{ranged, domainRead}
+use Rattle.files.specs.Read.{Read}
 use Rattle.wiring.specs.Addresses.{IndexRoom}
-use Rattle.wiring.proofs.Ranges.{range-iff}
-use Rattle.wiring.proofs.Results.{never, both}
-use Rattle.wiring.proofs.Members.{was-true, getD-in}
+use Rattle.files.proofs.Ranges.{range-iff}
+use Rattle.files.proofs.Results.{never, both}
+use Rattle.files.proofs.Members.{was-true, getD-in}
 use Rattle.wiring.proofs.Wires.{Wired, far-below}
 use Rattle.tables.specs.declared.TablesGiven.{TablesGiven}
 use Rattle.tables.specs.declared.TablesGiven.the-variants.{Refused as NotGiven, Counts}

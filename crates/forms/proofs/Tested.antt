@@ -10,10 +10,10 @@ use lib.ListN.{length, getD, drop, drop-of-length-le}
 use lib.Seq.{drop-cons}
 use lib.Dec.{eqb, leb}
 use borrow.Author.Tests.{eq-eqb, ne-eqb, le-leb, lt-leb}
-use Rattle.wiring.specs.declared.Setting.{Setting}
-use Rattle.wiring.specs.Lists.{any, numbers}
-use Rattle.wiring.specs.Settings.{within}
-use Rattle.wiring.specs.Domain.{Domain, noExpander, expanderAt, numberOf}
+use Rattle.files.specs.declared.Setting.{Setting}
+use Rattle.files.specs.Lists.{any, numbers}
+use Rattle.files.specs.Settings.{within}
+use Rattle.files.specs.Domain.{Domain, noExpander, expanderAt, numberOf}
 use Rattle.frames.specs.declared.Refusal.{Refusal}
 use Rattle.frames.specs.Refusals.{refusal}
 use Rattle.forms.specs.Formed.{badPhy, badUnit, unread}

@@ -7,8 +7,8 @@ use lib.ListN.{length}
 use lib.Dec.{eqb, leb, ltb}
 use Rattle.frames.specs.Refusals.{Result, refused, good, unless, then, refusal}
 use Rattle.frames.specs.Bits.{bytesFor}
-use Rattle.wiring.specs.Lists.{upTo, isIn}
-use Rattle.wiring.specs.Domain.{Domain, expanderAt, phyAt, typeOf, addressOf, farOf, toEnd, numberOf}
+use Rattle.files.specs.Lists.{upTo, isIn}
+use Rattle.files.specs.Domain.{Domain, expanderAt, phyAt, typeOf, addressOf, farOf, toEnd, numberOf}
 use Rattle.tables.specs.Tables.{needed, stretch}
 use Rattle.tables.specs.Entries.{Entries, roomOf, counted}
 use Rattle.tracing.specs.Steps.{Step, here, endDevice, bad, lost, onward, Pick, at, nowhere, pick, phyNumbers, cameFrom, moveBy, subtractively, byTable, directly, bearing, listing, subtracting, step}

@@ -4,7 +4,7 @@ use mathlib.Core.Path.{_≡_}
 use mathlib.Core.List.{List, _++_}
 use lib.ListN.{length, drop}
 use Rattle.frames.specs.Refusals.{Result, refused, good, then}
-use Rattle.wiring.specs.Domain.{Domain}
+use Rattle.files.specs.Domain.{Domain}
 use Rattle.tracing.specs.Many.{requestCount}
 use Rattle.forms.specs.declared.FormMade.{FormMade}
 use Rattle.forms.specs.declared.FormMade.the-variants.{Refused, Counts}

@@ -6,14 +6,14 @@ use mathlib.Core.List.{List, [], _∷_}
 use lib.ListN.{length, getD}
 use lib.Dec.{eqb, leb}
 use Rattle.frames.specs.Refusals.{Result, refused, good, unless, then, refusal}
-use Rattle.wiring.specs.declared.Setting.{Setting}
-use Rattle.wiring.specs.declared.Phy.{Phy}
-use Rattle.wiring.specs.declared.Phy.the-variants.{Vacant, Present}
-use Rattle.wiring.specs.Lists.{upTo, any}
-use Rattle.wiring.specs.Settings.{within, inRange}
-use Rattle.wiring.specs.Domain.{Expander, Domain, expanderAt, numberOf}
-use Rattle.wiring.specs.File.{ranged}
-use Rattle.wiring.specs.Read.{Read, FitsDomain}
+use Rattle.files.specs.declared.Setting.{Setting}
+use Rattle.files.specs.declared.Phy.{Phy}
+use Rattle.files.specs.declared.Phy.the-variants.{Vacant, Present}
+use Rattle.files.specs.Lists.{upTo, any}
+use Rattle.files.specs.Settings.{within, inRange}
+use Rattle.files.specs.Domain.{Expander, Domain, expanderAt, numberOf}
+use Rattle.files.specs.File.{ranged}
+use Rattle.files.specs.Read.{Read, FitsDomain}
 use Rattle.tables.specs.Entries.{Entries, Room}
 use Rattle.tables.specs.Judge.{judgedDomain, judged, tablesFor}
 use Rattle.tracing.specs.Trace.{Request, Traced, tracedRequest}

@@ -1,9 +1,9 @@
 -- What a form leaves out of a domain.
 use Prim.Native.Nat.{ℕ}
 use mathlib.Core.List.{map}
-use Rattle.wiring.specs.declared.Phy.{Phy}
-use Rattle.wiring.specs.declared.Phy.the-variants.{Vacant, Present}
-use Rattle.wiring.specs.Domain.{Expander, Domain}
+use Rattle.files.specs.declared.Phy.{Phy}
+use Rattle.files.specs.declared.Phy.the-variants.{Vacant, Present}
+use Rattle.files.specs.Domain.{Expander, Domain}
 
 -- a vacant phy's function result; here it is the given one
 abbrev pub normalPhy : ℕ → Phy → Phy

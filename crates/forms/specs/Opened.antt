@@ -7,12 +7,12 @@ use lib.ListN.{length, getD, take}
 use lib.Dec.{eqb, leb}
 use Rattle.frames.specs.Refusals.{Result, refused, good, refusal}
 use Rattle.frames.specs.declared.Refusal.{Refusal}
-use Rattle.wiring.specs.declared.Setting.{Setting}
-use Rattle.wiring.specs.declared.Phy.{Phy}
-use Rattle.wiring.specs.declared.Phy.the-variants.{Vacant, Present}
-use Rattle.wiring.specs.declared.PhyFields.{PhyFields}
-use Rattle.wiring.specs.Domain.{Expander, Domain, addressOf, expanderAt}
-use Rattle.wiring.specs.Rows.{rowIn, domainIn}
+use Rattle.files.specs.declared.Setting.{Setting}
+use Rattle.files.specs.declared.Phy.{Phy}
+use Rattle.files.specs.declared.Phy.the-variants.{Vacant, Present}
+use Rattle.files.specs.declared.PhyFields.{PhyFields}
+use Rattle.files.specs.Domain.{Expander, Domain, addressOf, expanderAt}
+use Rattle.files.specs.Rows.{rowIn, domainIn}
 use Rattle.wiring.specs.Addresses.{IndexRoom}
 use Rattle.tables.specs.declared.TablesGiven.{TablesGiven}
 use Rattle.tables.specs.declared.TablesGiven.the-variants.{Refused as NotGiven, Counts}

@@ -8,9 +8,9 @@ use wiring::PhyFields;
 use wiring::PhyId;
 ghost use mathlib.Core.Path.{_≡_};
 ghost use Prim.Native.Nat.{_≤_, _<_};
-ghost use Rattle.wiring.specs.Domain.{expanderAt};
-ghost use Rattle.wiring.specs.declared.Phy.the-variants.{Present};
-ghost use Rattle.wiring.specs.Rows.{domainIn};
+ghost use Rattle.files.specs.Domain.{expanderAt};
+ghost use Rattle.files.specs.declared.Phy.the-variants.{Present};
+ghost use Rattle.files.specs.Rows.{domainIn};
 ghost use Rattle.forms.specs.Opened.{SmallPhy, rightField, rightPhys, rightExpanders};
 
 // Whether v is the second word of a phy with these fields.

@@ -7,7 +7,7 @@ ghost use mathlib.Core.Path.{_≡_};
 ghost use Prim.Native.Nat.{_+_, _*_, _/_, _≤_};
 ghost use lib.ListN.{length, getD, take, drop};
 ghost use lib.Seq.{sets};
-ghost use Rattle.wiring.specs.Rows.{phyWords, domainIn};
+ghost use Rattle.files.specs.Rows.{phyWords, domainIn};
 ghost use Rattle.forms.specs.Form.{phyBack, physBack, countIn, expanderBack, formIn};
 ghost use Rattle.forms.specs.Opened.{RowHolds};
 

@@ -5,9 +5,9 @@ use wiring::PhyId;
 use wiring::Setting;
 ghost use mathlib.Core.Path.{_≡_};
 ghost use lib.ListN.{length};
-ghost use Rattle.wiring.specs.Lists.{any};
-ghost use Rattle.wiring.specs.Domain.{expanderAt, numberOf};
-ghost use Rattle.wiring.specs.Rows.{domainIn};
+ghost use Rattle.files.specs.Lists.{any};
+ghost use Rattle.files.specs.Domain.{expanderAt, numberOf};
+ghost use Rattle.files.specs.Rows.{domainIn};
 ghost use Rattle.forms.specs.Formed.{badPhy, badUnit, unread};
 
 // Whether 6 holds of a phy.

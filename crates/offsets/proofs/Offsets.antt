@@ -15,20 +15,20 @@ use Rattle.frames.specs.Discovery.{discoverRead}
 use Rattle.frames.specs.declared.General.{General}
 use Rattle.frames.specs.declared.Response.{Response}
 use Rattle.frames.specs.declared.Response.the-variants.{ReportGeneral, Discover}
-use Rattle.wiring.specs.declared.Setting.{Setting}
-use Rattle.wiring.specs.declared.ExpanderUnit.{ExpanderUnit}
-use Rattle.wiring.specs.declared.Phy.{Phy}
-use Rattle.wiring.specs.declared.Phy.the-variants.{Vacant}
-use Rattle.wiring.specs.Lists.{isIn}
-use Rattle.wiring.specs.Settings.{within, inRange}
-use Rattle.wiring.specs.Domain.{Expander, Domain, expanderAt}
-use Rattle.wiring.specs.File.{Parsed, parsed, sizeAt, phyOf, phyUnit, phyUnits, unitOf, unitTested, expanderUnit, expanderOf, expanders, headerUnit, domainRead}
-use Rattle.wiring.specs.Units.{endsAt}
+use Rattle.files.specs.declared.Setting.{Setting}
+use Rattle.files.specs.declared.ExpanderUnit.{ExpanderUnit}
+use Rattle.files.specs.declared.Phy.{Phy}
+use Rattle.files.specs.declared.Phy.the-variants.{Vacant}
+use Rattle.files.specs.Lists.{isIn}
+use Rattle.files.specs.Settings.{within, inRange}
+use Rattle.files.specs.Domain.{Expander, Domain, expanderAt}
+use Rattle.files.specs.File.{Parsed, parsed, sizeAt, phyOf, phyUnit, phyUnits, unitOf, unitTested, expanderUnit, expanderOf, expanders, headerUnit, domainRead}
+use Rattle.files.specs.Units.{endsAt}
 use Rattle.frames.proofs.LongFrames.{size-least}
-use Rattle.wiring.proofs.Read.{read-good, few-phys}
-use Rattle.wiring.proofs.Wires.{expander-range}
-use Rattle.wiring.proofs.Results.{never, good-one, unless-good, then-good}
-use Rattle.wiring.proofs.Reading.{size-whole, size-within, unitAt, unit-cut, unit-by}
+use Rattle.files.proofs.Read.{read-good, few-phys}
+use Rattle.files.proofs.Domains.{expander-range}
+use Rattle.files.proofs.Results.{never, good-one, unless-good, then-good}
+use Rattle.files.proofs.Reading.{size-whole, size-within, unitAt, unit-cut, unit-by}
 use borrow.Author.Tests.{ne-eqb}
 use Rattle.offsets.specs.Offsets.{Placed}
 use Rattle.offsets.specs.Offsets.{sizeFrom, physAfter, physFrom, expandersAfter, expanderOffset, phyOffset}

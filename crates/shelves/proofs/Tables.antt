@@ -10,9 +10,9 @@ use lib.ListN.{length, getD, replicate, List·getD-eq-default}
 use lib.Dec.{T, eqb}
 use Rattle.frames.specs.Refusals.{good}
 use Rattle.frames.specs.ConfigureRoute.{isLength}
-use Rattle.wiring.specs.Domain.{Domain, expanderAt, phyAt, routes}
-use Rattle.wiring.specs.declared.Setting.{Setting}
-use Rattle.wiring.specs.File.{domainRead}
+use Rattle.files.specs.Domain.{Domain, expanderAt, phyAt, routes}
+use Rattle.files.specs.declared.Setting.{Setting}
+use Rattle.files.specs.File.{domainRead}
 use Rattle.tables.specs.Entries.{Entries, roomOf}
 use Rattle.tables.specs.Tables.{levelList, offset}
 use Rattle.tables.specs.Judge.{tableCall, TablesDone, IndexForIndex}

@@ -9,11 +9,11 @@ use lib.ListN.{length, getD, take, length-append, List·getD-eq-default}
 use lib.Seq.{take-all}
 use lib.Dec.{T, eqb, leb, eqb→eq}
 use borrow.Author.Tests.{lt-leb}
-use Rattle.wiring.specs.declared.Phy.{Phy}
-use Rattle.wiring.specs.declared.Phy.the-variants.{Vacant}
-use Rattle.wiring.specs.Lists.{any, keep, isIn, In, Distinct, Below}
-use Rattle.wiring.specs.Domain.{Domain, Expander, noExpander, expanderAt, addressOf, numberOf}
-use Rattle.wiring.proofs.Members.{and-left, and-right, is-true, was-false, isIn-of, in-cast, in-map, map-in, all-cons, keeps, kept, keep-append, at-most}
+use Rattle.files.specs.declared.Phy.{Phy}
+use Rattle.files.specs.declared.Phy.the-variants.{Vacant}
+use Rattle.files.specs.Lists.{any, keep, isIn, In, Distinct, Below}
+use Rattle.files.specs.Domain.{Domain, Expander, noExpander, expanderAt, addressOf, numberOf}
+use Rattle.files.proofs.Members.{and-left, and-right, is-true, was-false, isIn-of, in-cast, in-map, map-in, all-cons, keeps, kept, keep-append, at-most}
 use Rattle.tables.specs.Levels.{once, down, belowPhys, below}
 use Rattle.tables.specs.Filling.{add, addAll}
 use Rattle.tables.specs.Prepared.{belowOnce, oneLink}

@@ -8,16 +8,17 @@ use native.Mathlib.Omega.{arith}
 use native.Mathlib.Decide.{decLt}
 use lib.ListN.{length, length-append}
 use lib.Dec.{T, not-T, T-not}
-use Rattle.wiring.specs.declared.Phy.the-variants.{Vacant}
-use Rattle.wiring.specs.Lists.{keep, isIn, In, Distinct, Below, last}
-use Rattle.wiring.specs.Domain.{Domain, expanderAt, phyAt, addressOf, farOf, routes, attached, toExpander, numberOf}
+use Rattle.files.specs.declared.Phy.the-variants.{Vacant}
+use Rattle.files.specs.Lists.{keep, isIn, In, Distinct, Below, last}
+use Rattle.files.specs.Domain.{Domain, expanderAt, phyAt, addressOf, farOf, routes, attached, toExpander, numberOf}
 use Rattle.wiring.specs.Causes.{farPhy}
 use Rattle.wiring.specs.Graph.{Steps}
 use Rattle.wiring.specs.Devices.{TableToTable, Clear, NoTableToTable}
 use Rattle.wiring.specs.Neighbours.{neighbours}
-use Rattle.wiring.proofs.Members.{tests, and-both, keep-more, in-cast, all-cons, in-append, in-left, in-right, in-getD, getD-in, keeps, kept, in-map, map-in, in-flatMap, flatMap-in, of-isIn, last-in, distinct-append, at-most}
+use Rattle.files.proofs.Members.{tests, and-both, keep-more, in-cast, all-cons, in-append, in-left, in-right, in-getD, getD-in, keeps, kept, in-map, map-in, in-flatMap, flatMap-in, of-isIn, last-in, distinct-append, at-most}
 use Rattle.wiring.proofs.Walks.{NoBack, noback, repeats-nothing, same-rest}
-use Rattle.wiring.proofs.Wires.{Way, To, Wired, expander-attached, in-range, far-below, far-is, to-start, to-back, to-number, adj-to, to-adj, adj-symmetric, differ, alike}
+use Rattle.wiring.proofs.Wires.{Way, To, Wired, far-below, far-is, to-start, to-back, to-number, adj-to, to-adj, adj-symmetric, differ, alike}
+use Rattle.files.proofs.Domains.{expander-attached, in-range}
 use Rattle.wiring.specs.Tested.{Linked}
 use Rattle.tables.specs.Levels.{once, down, belowPhys, below, nextLevel, levelsFrom, levels}
 use Rattle.tables.proofs.Once.{in-once, once-in, once-distinct}

@@ -7,11 +7,11 @@ use mathlib.Core.List.{List, [], _∷_, _++_}
 use native.Mathlib.Omega.{arith}
 use lib.ListN.{length, take, length-append}
 use lib.Dec.{T, leb, leb→le, le→leb}
-use Rattle.wiring.specs.declared.Phy.{Phy}
-use Rattle.wiring.specs.declared.Phy.the-variants.{Vacant}
-use Rattle.wiring.specs.Lists.{keep, isIn, In}
-use Rattle.wiring.specs.Domain.{Domain, expanderAt, phyAt}
-use Rattle.wiring.proofs.Members.{or-left, or-right, is-true, was-true, isIn-of, of-isIn, in-left, in-right, in-take}
+use Rattle.files.specs.declared.Phy.{Phy}
+use Rattle.files.specs.declared.Phy.the-variants.{Vacant}
+use Rattle.files.specs.Lists.{keep, isIn, In}
+use Rattle.files.specs.Domain.{Domain, expanderAt, phyAt}
+use Rattle.files.proofs.Members.{or-left, or-right, is-true, was-true, isIn-of, of-isIn, in-left, in-right, in-take}
 use Rattle.tables.specs.Levels.{belowPhys, below}
 use Rattle.tables.specs.Filling.{add, addAll, Grown, Added}
 use Rattle.tables.specs.Prepared.{belowOnce, oneLink}

@@ -8,14 +8,14 @@ use native.Mathlib.Decide.{ℕ-discrete}
 use lib.ListN.{length, getD, take, drop, set, length-set}
 use lib.Seq.{getD-set-same, getD-set-other}
 use lib.Dec.{T, eqb, leb, T-not}
-use Rattle.wiring.specs.declared.Phy.{Phy}
-use Rattle.wiring.specs.declared.Phy.the-variants.{Vacant, Present}
-use Rattle.wiring.specs.Lists.{In, keep, isIn}
-use Rattle.wiring.specs.Domain.{Expander, Domain, noExpander, expanderAt, phyAt, addressOf, farOf, routes, toExpander, numberOf}
+use Rattle.files.specs.declared.Phy.{Phy}
+use Rattle.files.specs.declared.Phy.the-variants.{Vacant, Present}
+use Rattle.files.specs.Lists.{In, keep, isIn}
+use Rattle.files.specs.Domain.{Expander, Domain, noExpander, expanderAt, phyAt, addressOf, farOf, routes, toExpander, numberOf}
 use Rattle.wiring.specs.Causes.{Place, phyPlaces, placesFrom, places, farPhy}
-use Rattle.wiring.specs.PhySet.{withPhy, setPhy}
-use Rattle.wiring.proofs.Members.{is-false, keep-same}
-use Rattle.wiring.proofs.Wires.{phy-range, expander-range}
+use Rattle.files.specs.PhySet.{withPhy, setPhy}
+use Rattle.files.proofs.Members.{is-false, keep-same}
+use Rattle.files.proofs.Domains.{phy-range, expander-range}
 use Rattle.tables.proofs.Orders.{not-down}
 use Rattle.tables.specs.Levels.{once, down, belowPhys, below, nextLevel, levelsFrom, levels}
 use Rattle.tables.specs.Tables.{tablePlaces, size, sizes, needed, offsetIn, stretch}

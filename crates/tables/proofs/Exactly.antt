@@ -8,18 +8,18 @@ use native.Mathlib.Omega.{arith}
 use lib.ListN.{length}
 use lib.Dec.{leb}
 use Rattle.wiring.specs.Frames.{bytesFor, Result, refused, good, then, refusal, Exactly}
-use Rattle.wiring.specs.Lists.{upTo}
-use Rattle.wiring.specs.Domain.{Domain}
-use Rattle.wiring.specs.declared.Setting.{Setting}
-use Rattle.wiring.specs.File.{domainRead}
+use Rattle.files.specs.Lists.{upTo}
+use Rattle.files.specs.Domain.{Domain}
+use Rattle.files.specs.declared.Setting.{Setting}
+use Rattle.files.specs.File.{domainRead}
 use Rattle.wiring.specs.Causes.{wiredDomain}
 use Rattle.wiring.specs.Graph.{loopfree}
 use Rattle.wiring.specs.Neighbours.{neighbours}
 use Rattle.wiring.specs.Chains.{chainsWithin, unlong}
 use Rattle.wiring.specs.Links.{unlooped, joined, joinedIn, linkedDomain}
-use Rattle.wiring.proofs.Results.{never, then-good, good-then}
+use Rattle.files.proofs.Results.{never, then-good, good-then}
 use Rattle.wiring.proofs.Accepted.{passed-iff}
-use Rattle.wiring.proofs.Read.{read-good, read-numbered}
+use Rattle.files.proofs.Read.{read-good, read-numbered}
 pub use Rattle.wiring.proofs.Exactly.{Numbered, numbered-unless, numbered-then, exactly}
 use Rattle.wiring.proofs.Exactly.{first-numbered, wired-numbered}
 use Rattle.tables.specs.Tables.{tablePlaces, tables, needed}

@@ -5,7 +5,7 @@ use mathlib.Core.List.{List, _++_, flatMap}
 use native.Mathlib.Omega.{arith}
 use lib.ListN.{length, take, replicate, length-append, length-replicate, replicate-append-replicate}
 use lib.Seq.{take-at, take-append-add, length-take-le}
-use Rattle.wiring.specs.Domain.{Domain}
+use Rattle.files.specs.Domain.{Domain}
 use Rattle.tables.specs.Own.{own}
 use Rattle.tables.specs.Filling.{Grown}
 use Rattle.tables.specs.Prepared.{orderList, filledTo, FilledFrom}

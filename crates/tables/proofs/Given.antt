@@ -8,16 +8,17 @@ use native.Mathlib.Decide.{decLt}
 use lib.ListN.{length}
 use lib.Dec.{T, leb, lt→ltb, ltb→lt, leb→le, le→leb}
 use Rattle.wiring.specs.Frames.{bytesFor, Result, good, then, refusal}
-use Rattle.wiring.specs.declared.Setting.{Setting}
-use Rattle.wiring.specs.Domain.{Domain, expanderAt}
-use Rattle.wiring.specs.Read.{Read}
-use Rattle.wiring.specs.File.{domainRead}
+use Rattle.files.specs.declared.Setting.{Setting}
+use Rattle.files.specs.Domain.{Domain, expanderAt}
+use Rattle.files.specs.Read.{Read}
+use Rattle.files.specs.File.{domainRead}
 use Rattle.wiring.specs.Causes.{wiredDomain}
 use Rattle.wiring.specs.Links.{linkedDomain}
-use Rattle.wiring.proofs.Members.{tests}
-use Rattle.wiring.proofs.Wires.{Wired, routes-range}
-use Rattle.wiring.proofs.Results.{good-one, unless-good, good-unless, then-good, good-then, then-same}
-use Rattle.wiring.proofs.Read.{read-good}
+use Rattle.files.proofs.Members.{tests}
+use Rattle.wiring.proofs.Wires.{Wired}
+use Rattle.files.proofs.Domains.{routes-range}
+use Rattle.files.proofs.Results.{good-one, unless-good, good-unless, then-good, good-then, then-same}
+use Rattle.files.proofs.Read.{read-good}
 use Rattle.wiring.proofs.Accepted.{firstOf-good, good-firstOf, wired-same, wired-iff, linked-iff, linked-same}
 use Rattle.tables.specs.Tables.{levelList, needed}
 use Rattle.tables.specs.Entries.{Room, Enough}

@@ -11,10 +11,10 @@ use lib.ListN.{drop-of-length-le, take-append-drop, replicate-append-replicate}
 use lib.Seq.{drop-cons, set-at, take-suc, take-suc-set, length-take-le}
 use lib.Dec.{eqb, leb}
 use borrow.Author.Tests.{ne-eqb}
-use Rattle.wiring.specs.declared.Phy.{Phy}
-use Rattle.wiring.specs.Lists.{isIn}
-use Rattle.wiring.specs.Domain.{Domain}
-use Rattle.wiring.proofs.Members.{isIn-of, in-getD, in-cast, is-true}
+use Rattle.files.specs.declared.Phy.{Phy}
+use Rattle.files.specs.Lists.{isIn}
+use Rattle.files.specs.Domain.{Domain}
+use Rattle.files.proofs.Members.{isIn-of, in-getD, in-cast, is-true}
 use Rattle.wiring.proofs.Searches.{any-go, any-end}
 use Rattle.tables.specs.Tables.{give, giveAll}
 use Rattle.tables.specs.Filling.{add, addAll, Grown}

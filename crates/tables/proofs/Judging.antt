@@ -10,16 +10,16 @@ use lib.Seq.{take-at}
 use lib.Dec.{T, lt→ltb}
 use borrow.Author.Tests.{le-leb, lt-leb}
 use Rattle.wiring.specs.Frames.{bytesFor, marked, Refusal, Result, refused, good, then, refusal}
-use Rattle.wiring.specs.Domain.{Domain, expanderAt}
-use Rattle.wiring.specs.declared.Setting.{Setting}
-use Rattle.wiring.specs.File.{domainRead}
+use Rattle.files.specs.Domain.{Domain, expanderAt}
+use Rattle.files.specs.declared.Setting.{Setting}
+use Rattle.files.specs.File.{domainRead}
 use Rattle.wiring.specs.Causes.{places, firstOf, wiredDomain}
 use Rattle.wiring.specs.Links.{linkedDomain, checkedDomain}
 use Rattle.wiring.specs.Checks.{checkedIn}
 use Rattle.wiring.specs.Addresses.{IndexRoom}
-use Rattle.wiring.proofs.Members.{tests}
-use Rattle.wiring.proofs.Results.{then-good}
-use Rattle.wiring.proofs.Wires.{routes-range}
+use Rattle.files.proofs.Members.{tests}
+use Rattle.files.proofs.Results.{then-good}
+use Rattle.files.proofs.Domains.{routes-range}
 use Rattle.wiring.proofs.Accepted.{firstOf-good}
 use Rattle.wiring.proofs.Calls.{room-checked}
 use Rattle.tables.specs.Tables.{tablePlaces, needed}

@@ -7,14 +7,15 @@ use Prim.Native.Nat.{ℕ, zero, suc, _≤_, _<_}
 use native.Mathlib.Omega.{arith}
 use lib.ListN.{length}
 use lib.Dec.{T, eqb}
-use Rattle.wiring.specs.declared.Phy.{Phy}
-use Rattle.wiring.specs.declared.Phy.the-variants.{Vacant}
-use Rattle.wiring.specs.Lists.{any, isIn, In, Distinct, last}
-use Rattle.wiring.specs.Domain.{Domain, expanderAt, phyAt, addressOf, attributeOf, routes, attached, toExpander, bears, numberOf}
-use Rattle.wiring.proofs.Members.{tests, or-cases, or-left, or-right, T?, is-true, is-false, same-test, in-cast, in-append, in-left, in-right, getD-in, isIn-of, of-isIn, last-in}
+use Rattle.files.specs.declared.Phy.{Phy}
+use Rattle.files.specs.declared.Phy.the-variants.{Vacant}
+use Rattle.files.specs.Lists.{any, isIn, In, Distinct, last}
+use Rattle.files.specs.Domain.{Domain, expanderAt, phyAt, addressOf, attributeOf, routes, attached, toExpander, bears, numberOf}
+use Rattle.files.proofs.Members.{tests, or-cases, or-left, or-right, T?, is-true, is-false, same-test, in-cast, in-append, in-left, in-right, getD-in, isIn-of, of-isIn, last-in}
 use Rattle.wiring.specs.Neighbours.{neighbours}
 use Rattle.wiring.proofs.Walks.{same-rest}
-use Rattle.wiring.proofs.Wires.{Way, To, Wired, one-step, expander-attached, attached-cases, routes-one, plain-attribute, in-range, differ, far-below, far-is, to-adj, adj-symmetric}
+use Rattle.wiring.proofs.Wires.{Way, To, Wired, one-step, plain-attribute, differ, far-below, far-is, to-adj, adj-symmetric}
+use Rattle.files.proofs.Domains.{expander-attached, attached-cases, routes-one, in-range}
 use Rattle.wiring.specs.Tested.{Linked}
 use Rattle.tables.specs.Levels.{down, nextLevel, levelsFrom, levels}
 use Rattle.tables.specs.Tables.{word, heldBy, gives, give, giveAll, levelList}

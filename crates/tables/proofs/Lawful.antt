@@ -7,17 +7,17 @@ use mathlib.Core.List.{List, [], _∷_, _++_, flatMap}
 use lib.ListN.{length}
 use lib.Dec.{ltb}
 use Rattle.wiring.specs.Frames.{Result, refused, good, then, refusal}
-use Rattle.wiring.specs.declared.Setting.{Setting}
-use Rattle.wiring.specs.Domain.{Domain, expanderAt, phyAt, routes}
-use Rattle.wiring.specs.Read.{Read}
-use Rattle.wiring.specs.File.{domainRead}
+use Rattle.files.specs.declared.Setting.{Setting}
+use Rattle.files.specs.Domain.{Domain, expanderAt, phyAt, routes}
+use Rattle.files.specs.Read.{Read}
+use Rattle.files.specs.File.{domainRead}
 use Rattle.wiring.specs.Causes.{Place, places, firstIn, firstOf, wiredDomain}
 use Rattle.wiring.specs.Links.{linkedDomain, checkedDomain}
 use Rattle.wiring.specs.Tested.{Linked}
 use Rattle.wiring.specs.Addresses.{IndexRoom}
-use Rattle.wiring.proofs.Results.{then-good, good-then}
+use Rattle.files.proofs.Results.{then-good, good-then}
 use Rattle.wiring.proofs.Wires.{Wired}
-use Rattle.wiring.proofs.Read.{read-good}
+use Rattle.files.proofs.Read.{read-good}
 use Rattle.wiring.proofs.Accepted.{wired-same, wired-iff, linked-iff, linked-same}
 use Rattle.wiring.proofs.Calls.{checked-room}
 use Rattle.tables.specs.declared.TablesGiven.{TablesGiven}

@@ -6,11 +6,11 @@ use mathlib.Core.Bool.{Bool, true, _&&_}
 use native.Mathlib.Omega.{arith}
 use lib.ListN.{length}
 use lib.Dec.{T, eqb}
-use Rattle.wiring.specs.declared.Phy.{Phy}
-use Rattle.wiring.specs.Domain.{Domain, addressOf, toExpander, numberOf}
-use Rattle.wiring.specs.Rows.{domainIn}
+use Rattle.files.specs.declared.Phy.{Phy}
+use Rattle.files.specs.Domain.{Domain, addressOf, toExpander, numberOf}
+use Rattle.files.specs.Rows.{domainIn}
 use Rattle.wiring.specs.Addresses.{farNumber, IndexedFirst}
-use Rattle.wiring.proofs.Members.{and-left, was-true}
+use Rattle.files.proofs.Members.{and-left, was-true}
 use Rattle.wiring.proofs.Entries.{far-in}
 use Rattle.tables.specs.Levels.{down}
 use Rattle.tables.specs.Prepared.{oneLink, FarsKnown, PhyIndexed}

@@ -8,12 +8,13 @@ use Prim.Native.Nat.{ℕ, _<_}
 use native.Mathlib.Omega.{arith}
 use lib.ListN.{length}
 use lib.Dec.{T, eqb, eqb→eq, not-T, T-not}
-use Rattle.wiring.specs.declared.Phy.{Phy}
-use Rattle.wiring.specs.declared.Phy.the-variants.{Vacant}
-use Rattle.wiring.specs.Lists.{any, isIn, In, last}
-use Rattle.wiring.specs.Domain.{Domain, expanderAt, phyAt, addressOf, routes, attached, toEnd, toExpander, bears, numberOf}
-use Rattle.wiring.proofs.Members.{tests, or-cases, or-left, or-right, is-true, was-true, not-not, eq→eqb, any-of, of-any, in-cast, in-append, in-left, in-right, in-getD, getD-in, in-flatMap, flatMap-in, of-isIn, last-in}
-use Rattle.wiring.proofs.Wires.{Way, To, Wired, Home, end-attached, expander-attached, attached-cases, routes-one, in-range, far-below, far-is}
+use Rattle.files.specs.declared.Phy.{Phy}
+use Rattle.files.specs.declared.Phy.the-variants.{Vacant}
+use Rattle.files.specs.Lists.{any, isIn, In, last}
+use Rattle.files.specs.Domain.{Domain, expanderAt, phyAt, addressOf, routes, attached, toEnd, toExpander, bears, numberOf}
+use Rattle.files.proofs.Members.{tests, or-cases, or-left, or-right, is-true, was-true, not-not, eq→eqb, any-of, of-any, in-cast, in-append, in-left, in-right, in-getD, getD-in, in-flatMap, flatMap-in, of-isIn, last-in}
+use Rattle.wiring.proofs.Wires.{Way, To, Wired, Home, far-below, far-is}
+use Rattle.files.proofs.Domains.{end-attached, expander-attached, attached-cases, routes-one, in-range}
 use Rattle.wiring.specs.Devices.{TableToTable, Clear}
 use Rattle.wiring.specs.Tested.{Linked}
 use Rattle.tables.specs.Levels.{levels}

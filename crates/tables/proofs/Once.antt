@@ -5,8 +5,8 @@ use mathlib.Core.List.{List, [], _∷_}
 use mathlib.Core.Bool.{Bool, true, false, cond}
 use Prim.Native.Nat.{ℕ}
 use lib.Dec.{T}
-use Rattle.wiring.specs.Lists.{In, isIn, Distinct}
-use Rattle.wiring.proofs.Members.{in-cast, isIn-of, of-isIn, was-true}
+use Rattle.files.specs.Lists.{In, isIn, Distinct}
+use Rattle.files.proofs.Members.{in-cast, isIn-of, of-isIn, was-true}
 use Rattle.tables.specs.Levels.{once}
 
 -- one number that was seen, and one that was not

@@ -1,12 +1,12 @@
--- Definitions of wiring and frames, passed on to the layer above for worked examples, which compute.
+-- Definitions of wiring, files and frames, passed on to the layer above for worked examples, which compute.
 unfoldable pub use Rattle.wiring.proofs.Opened.{numberAt, bytesOf, frameSize, generalFixed, generalRead, discoverFixed, discoverRead}
-unfoldable pub use Rattle.wiring.specs.Lists.{numbers, any, keep, isIn}
-unfoldable pub use Rattle.wiring.specs.Domain.{numberOf}
-unfoldable pub use Rattle.wiring.specs.File.{sizeAt, phyUnit, phyUnits, expanderUnit, expanders, headerUnit, domainRead}
-unfoldable pub use Rattle.wiring.specs.ShortFile.{shortPhys, shortExpanders, shortFile}
+unfoldable pub use Rattle.files.specs.Lists.{numbers, any, keep, isIn}
+unfoldable pub use Rattle.files.specs.Domain.{numberOf}
+unfoldable pub use Rattle.files.specs.File.{sizeAt, phyUnit, phyUnits, expanderUnit, expanders, headerUnit, domainRead}
+unfoldable pub use Rattle.files.specs.ShortFile.{shortPhys, shortExpanders, shortFile}
 unfoldable pub use Rattle.wiring.specs.Causes.{unanswered, endAt, claimed, clash, clashing, fixed, phyPlaces, placesFrom, firstIn, wiredDomain}
 unfoldable pub use Rattle.wiring.specs.Graph.{strip, reach}
 unfoldable pub use Rattle.wiring.specs.Neighbours.{cabled, neighbours}
-unfoldable pub use Rattle.wiring.specs.Settings.{inRange}
+unfoldable pub use Rattle.files.specs.Settings.{inRange}
 unfoldable pub use Rattle.wiring.specs.Chains.{chainsWithin, unlong}
 unfoldable pub use Rattle.wiring.specs.Links.{unlooped, joined, joinedIn, linkedDomain}

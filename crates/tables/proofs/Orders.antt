@@ -8,11 +8,11 @@ use native.Mathlib.Omega.{arith}
 use lib.ListN.{length, getD, take, drop, length-append, take-append-drop, drop-of-length-le}
 use lib.Seq.{take-all, getD-take, length-take-le}
 use lib.Dec.{T, eqb, eqb→eq, not-T}
-use Rattle.wiring.specs.declared.Phy.{Phy}
-use Rattle.wiring.specs.Lists.{any, keep, isIn, In, Distinct}
-use Rattle.wiring.specs.Domain.{Domain, phyAt, addressOf, routes, toExpander, numberOf}
+use Rattle.files.specs.declared.Phy.{Phy}
+use Rattle.files.specs.Lists.{any, keep, isIn, In, Distinct}
+use Rattle.files.specs.Domain.{Domain, phyAt, addressOf, routes, toExpander, numberOf}
 use Rattle.wiring.specs.Causes.{farPhy}
-use Rattle.wiring.proofs.Members.{T?, is-true, is-false, keep-more, in-flatMap, of-isIn}
+use Rattle.files.proofs.Members.{T?, is-true, is-false, keep-more, in-flatMap, of-isIn}
 use Rattle.wiring.proofs.Wires.{Wired, far-below, far-is}
 use Rattle.wiring.specs.Tested.{Linked}
 use Rattle.tables.specs.Levels.{once, down, belowPhys, below, nextLevel, levelsFrom, levels}

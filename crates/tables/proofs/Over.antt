@@ -8,9 +8,9 @@ use native.Mathlib.Omega.{arith}
 use native.Mathlib.Decide.{decLt}
 use lib.ListN.{length}
 use lib.Dec.{T, ltb, ltb→lt}
-use Rattle.wiring.specs.declared.Phy.{Phy}
-use Rattle.wiring.specs.Domain.{Domain, expanderAt, phyAt, routes, toExpander}
-use Rattle.wiring.proofs.Members.{and-left, and-right, is-true, is-false, was-true}
+use Rattle.files.specs.declared.Phy.{Phy}
+use Rattle.files.specs.Domain.{Domain, expanderAt, phyAt, routes, toExpander}
+use Rattle.files.proofs.Members.{and-left, and-right, is-true, is-false, was-true}
 use Rattle.tables.specs.Levels.{down}
 use Rattle.tables.specs.Own.{own}
 use Rattle.tables.specs.Prepared.{orderOf, orderList, oneLink, overOwn}

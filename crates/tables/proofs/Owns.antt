@@ -10,13 +10,13 @@ use native.Mathlib.Numerals.{add-one}
 use lib.ListN.{length, getD, take, drop, set, length-take, length-append, drop-of-length-le, List·getD-eq-default}
 use lib.Seq.{drop-cons, length-take-le, getD-set-same, getD-set-other}
 use lib.Dec.{T, eqb, eqb→eq}
-use Rattle.wiring.specs.declared.Phy.{Phy}
-use Rattle.wiring.specs.declared.Phy.the-variants.{Vacant}
-use Rattle.wiring.specs.Lists.{any}
-use Rattle.wiring.specs.Domain.{Domain, Expander, noExpander, expanderAt, phyAt, addressOf, attached, routes, bears}
-use Rattle.wiring.specs.Rows.{domainIn}
-use Rattle.wiring.proofs.Members.{or-right, is-true, was-true}
-use Rattle.wiring.proofs.InRows.{head-in, no-head}
+use Rattle.files.specs.declared.Phy.{Phy}
+use Rattle.files.specs.declared.Phy.the-variants.{Vacant}
+use Rattle.files.specs.Lists.{any}
+use Rattle.files.specs.Domain.{Domain, Expander, noExpander, expanderAt, phyAt, addressOf, attached, routes, bears}
+use Rattle.files.specs.Rows.{domainIn}
+use Rattle.files.proofs.Members.{or-right, is-true, was-true}
+use Rattle.files.proofs.InRows.{head-in, no-head}
 use Rattle.tables.specs.Tables.{word}
 use Rattle.tables.specs.Own.{lower, owns, ownFrom, own}
 use Rattle.tables.specs.Filling.{Grown}

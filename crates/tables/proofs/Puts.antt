@@ -10,10 +10,10 @@ use native.Mathlib.Numerals.{add-one}
 use lib.ListN.{length, getD, take, drop, length-append, length-drop, take-append-drop, drop-of-length-le}
 use lib.Seq.{take-all, take-at, drop-at, drop-cons, drop-drop, length-take-le}
 use mir.Val.{boolByte}
-use Rattle.wiring.specs.Lists.{keep}
-use Rattle.wiring.specs.Domain.{Domain, Expander, noExpander, expanderAt, phyAt, routes}
+use Rattle.files.specs.Lists.{keep}
+use Rattle.files.specs.Domain.{Domain, Expander, noExpander, expanderAt, phyAt, routes}
 use Rattle.wiring.specs.Causes.{Place, place, phyPlaces, placesFrom, places}
-use Rattle.wiring.proofs.Members.{keep-append}
+use Rattle.files.proofs.Members.{keep-append}
 use Rattle.tables.specs.Tables.{tablePlaces, size, sizes, needed}
 use Rattle.tables.specs.Filling.{placesAt, withTables, overlay, Put}
 use Rattle.tables.specs.Prepared.{orderList, filledTo, ownTablesOf, ownTables}

@@ -7,10 +7,10 @@ use native.Mathlib.Omega.{arith}
 use lib.ListN.{length, take, drop, length-append, length-drop, take-append-drop}
 use lib.Seq.{take-at, drop-drop, length-take-le, take-append-add, drop-append-add}
 use lib.Dec.{T}
-use Rattle.wiring.specs.Lists.{keep}
-use Rattle.wiring.specs.Domain.{Domain}
+use Rattle.files.specs.Lists.{keep}
+use Rattle.files.specs.Domain.{Domain}
 use Rattle.wiring.specs.Causes.{Place}
-use Rattle.wiring.proofs.Members.{was-true}
+use Rattle.files.proofs.Members.{was-true}
 use Rattle.tables.specs.Tables.{size, sizes}
 use Rattle.tables.specs.Filling.{overlay}
 use Rattle.tables.specs.Refilling.{renewed}

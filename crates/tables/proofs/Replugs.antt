@@ -9,19 +9,19 @@ use lib.ListN.{length, getD, take, drop}
 use lib.Dec.{T, eqb, leb, ltb, leb→le}
 use borrow.Author.Tests.{eq-eqb, ne-eqb, le-leb, lt-leb}
 use Rattle.wiring.specs.Frames.{bytesFor, Refusal, Result, refused, good, unless, then, refusal}
-use Rattle.wiring.specs.declared.Phy.{Phy}
-use Rattle.wiring.specs.declared.Phy.the-variants.{Vacant, Present}
-use Rattle.wiring.specs.Domain.{Domain, expanderAt, phyAt, addressOf, toExpander, numberOf}
+use Rattle.files.specs.declared.Phy.{Phy}
+use Rattle.files.specs.declared.Phy.the-variants.{Vacant, Present}
+use Rattle.files.specs.Domain.{Domain, expanderAt, phyAt, addressOf, toExpander, numberOf}
 use Rattle.wiring.specs.declared.Check.{Check}
 use Rattle.wiring.specs.declared.Check.the-variants.{Refused}
 use Rattle.wiring.specs.Checks.{checkAnswer}
-use Rattle.wiring.specs.Rows.{phyIn, phyWord, phyHeld, domainIn}
+use Rattle.files.specs.Rows.{phyIn, phyWord, phyHeld, domainIn}
 use Rattle.wiring.specs.Addresses.{numberIn, slotOf, farNumber}
-use Rattle.wiring.specs.PhySet.{setPhy, withWords, heldAs, PhySet}
+use Rattle.files.specs.PhySet.{setPhy, withWords, heldAs, PhySet}
 use Rattle.wiring.specs.Causes.{clashing, firstIn, firstOf}
-use Rattle.wiring.proofs.Results.{unless-good, then-good}
-use Rattle.wiring.proofs.Members.{is-true}
-use Rattle.wiring.proofs.InRows.{phy-held}
+use Rattle.files.proofs.Results.{unless-good, then-good}
+use Rattle.files.proofs.Members.{is-true}
+use Rattle.files.proofs.InRows.{phy-held}
 use Rattle.tables.specs.Own.{own}
 use Rattle.tables.specs.Tables.{needed}
 use Rattle.tables.specs.Judge.{tablesFor}

@@ -16,14 +16,14 @@ use borrow.Author.Tests.{eq-eqb, ne-eqb, lt-ltb, le-ltb}
 use Rattle.wiring.specs.Frames.{Result, refused, good, then}
 use Rattle.wiring.specs.declared.Check.{Check}
 use Rattle.wiring.specs.declared.Check.the-variants.{Refused, Passed}
-use Rattle.wiring.specs.declared.Phy.{Phy}
-use Rattle.wiring.specs.declared.Phy.the-variants.{Vacant}
-use Rattle.wiring.specs.Lists.{any}
-use Rattle.wiring.specs.Domain.{Domain, noExpander, expanderAt, phyAt, addressOf, attached, toEnd, bears, numberOf}
+use Rattle.files.specs.declared.Phy.{Phy}
+use Rattle.files.specs.declared.Phy.the-variants.{Vacant}
+use Rattle.files.specs.Lists.{any}
+use Rattle.files.specs.Domain.{Domain, noExpander, expanderAt, phyAt, addressOf, attached, toEnd, bears, numberOf}
 use Rattle.wiring.specs.Causes.{endAt, clash, clashing, phyPlaces, placesFrom, firstIn, firstOf}
 use Rattle.wiring.specs.Checks.{checkAnswer}
 use Rattle.wiring.specs.Addresses.{isTaken}
-use Rattle.wiring.proofs.Members.{by-test, is-true, was-true, any-of, any-append, in-take}
+use Rattle.files.proofs.Members.{by-test, is-true, was-true, any-of, any-append, in-take}
 use Rattle.wiring.proofs.Searches.{any-go, any-end, from-next}
 use Rattle.tables.specs.Filling.{Grown, placesAt}
 use Rattle.tables.specs.Own.{lower, own}

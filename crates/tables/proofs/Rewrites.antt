@@ -12,12 +12,12 @@ use lib.Dec.{T}
 use Rattle.frames.specs.Bits.{bitsOf, packedIn, zeroBit, zeroBits}
 use Rattle.frames.proofs.PackedBits.{length-bitsOf}
 use Rattle.frames.proofs.Packing.{Bytes, packed-back}
-use Rattle.wiring.specs.declared.Phy.{Phy}
+use Rattle.files.specs.declared.Phy.{Phy}
 use Rattle.wiring.specs.Frames.{Result, good}
-use Rattle.wiring.specs.Lists.{any, keep, isIn}
-use Rattle.wiring.specs.Domain.{Domain, Expander, noExpander, expanderAt, phyAt, routes, toExpander}
+use Rattle.files.specs.Lists.{any, keep, isIn}
+use Rattle.files.specs.Domain.{Domain, Expander, noExpander, expanderAt, phyAt, routes, toExpander}
 use Rattle.wiring.specs.Causes.{Place, place, phyPlaces, placesFrom, places}
-use Rattle.wiring.proofs.Members.{by-test, is-false, was-true, and-left, and-right, keep-append}
+use Rattle.files.proofs.Members.{by-test, is-false, was-true, and-left, and-right, keep-append}
 use Rattle.tables.specs.Levels.{down}
 use Rattle.tables.specs.Tables.{tablePlaces, size, sizes, needed}
 use Rattle.tables.specs.Entries.{Entries, entries, roomOf, Room}

@@ -9,14 +9,15 @@ use lib.ListN.{length, getD, take, drop, length-append, length-drop, List·getD-
 use lib.Seq.{take-at, drop-append-add, getD-append-add, getD-take, getD-drop}
 use lib.Dec.{T, eqb}
 use Rattle.wiring.specs.Frames.{good, bytesFor, zeroBit, marked}
-use Rattle.wiring.specs.Lists.{In}
-use Rattle.wiring.specs.Domain.{Domain, expanderAt, phyAt, routes}
-use Rattle.wiring.specs.declared.Setting.{Setting}
-use Rattle.wiring.specs.File.{domainRead}
+use Rattle.files.specs.Lists.{In}
+use Rattle.files.specs.Domain.{Domain, expanderAt, phyAt, routes}
+use Rattle.files.specs.declared.Setting.{Setting}
+use Rattle.files.specs.File.{domainRead}
 use Rattle.wiring.specs.Causes.{Place, place, places}
 use Rattle.wiring.proofs.Frames.{length-marked, marked-bits, marked-padding, marked-after}
-use Rattle.wiring.proofs.Members.{tests, is-true}
-use Rattle.wiring.proofs.Wires.{routes-range, in-places}
+use Rattle.files.proofs.Members.{tests, is-true}
+use Rattle.files.proofs.Domains.{routes-range}
+use Rattle.wiring.proofs.Wires.{in-places}
 use Rattle.tables.specs.Tables.{levelList, table, tables, size, sizes, needed, offsetIn, offset, stretch}
 use Rattle.tables.specs.Entries.{Entries, Room, roomOf, Enough, putBefore}
 use Rattle.tables.specs.Judge.{judgedTables, tableCall, TablesDone, IndexForIndex}

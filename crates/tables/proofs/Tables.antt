@@ -8,10 +8,10 @@ use native.Mathlib.Omega.{arith}
 use native.Mathlib.Decide.{decLt}
 use lib.ListN.{length, getD, take, replicate, length-append, length-replicate, List·getD-append, List·getD-eq-default}
 use lib.Seq.{length-take-le, take-append-add, getD-append-add}
-use Rattle.wiring.specs.Lists.{keep, In}
-use Rattle.wiring.specs.Domain.{Domain, expanderAt, phyAt, routes}
+use Rattle.files.specs.Lists.{keep, In}
+use Rattle.files.specs.Domain.{Domain, expanderAt, phyAt, routes}
 use Rattle.wiring.specs.Causes.{Place, places}
-use Rattle.wiring.proofs.Members.{in-append, in-left, in-replicate}
+use Rattle.files.proofs.Members.{in-append, in-left, in-replicate}
 use Rattle.tables.specs.Tables.{levelList, table, tablePlaces, tables, size, sizes, needed}
 
 -- a table has R words, in any domain

@@ -4,10 +4,10 @@ use mathlib.Core.Path.{_≡_}
 use mathlib.Core.List.{List}
 use native.Mathlib.Omega.{arith}
 use Rattle.wiring.specs.Frames.{good}
-use Rattle.wiring.specs.declared.Setting.{Setting}
-use Rattle.wiring.specs.Domain.{Domain}
-use Rattle.wiring.specs.Settings.{InRange, NoSmaller}
-use Rattle.wiring.proofs.Wider.{read-more}
+use Rattle.files.specs.declared.Setting.{Setting}
+use Rattle.files.specs.Domain.{Domain}
+use Rattle.files.specs.Settings.{InRange, NoSmaller}
+use Rattle.files.proofs.Wider.{read-more}
 use Rattle.tables.specs.Judge.{judged}
 use Rattle.tables.specs.Tested.{Routable}
 use Rattle.tables.proofs.Given.{judged-routable, routable-iff, judged-file}

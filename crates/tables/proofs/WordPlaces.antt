@@ -10,10 +10,10 @@ use lib.ListN.{length, drop}
 use lib.Dec.{T, eqb}
 use borrow.Author.Tests.{lt-ltb, le-ltb, eq-eqb, ne-eqb}
 use Rattle.wiring.specs.Frames.{Refusal, Result, refused, good, then, refusal}
-use Rattle.wiring.specs.Lists.{In}
-use Rattle.wiring.specs.Domain.{Domain, Expander, expanderAt, phyAt, routes}
-use Rattle.wiring.specs.declared.Setting.{Setting}
-use Rattle.wiring.specs.File.{domainRead}
+use Rattle.files.specs.Lists.{In}
+use Rattle.files.specs.Domain.{Domain, Expander, expanderAt, phyAt, routes}
+use Rattle.files.specs.declared.Setting.{Setting}
+use Rattle.files.specs.File.{domainRead}
 use Rattle.wiring.specs.Causes.{Place, place, phyPlaces, placesFrom, places}
 use Rattle.tables.specs.Tables.{tablePlaces, size, sizes, needed, offsetIn, offset}
 use Rattle.tables.specs.Judge.{judgedDomain, judged, countsIn}

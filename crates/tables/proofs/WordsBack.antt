@@ -9,10 +9,10 @@ use native.Mathlib.Decide.{decLt}
 use lib.ListN.{length}
 use lib.Dec.{T}
 use Rattle.wiring.specs.Frames.{refused, good, refusal}
-use Rattle.wiring.specs.Lists.{In}
-use Rattle.wiring.specs.Domain.{Domain, Expander, expanderAt, phyAt, routes}
+use Rattle.files.specs.Lists.{In}
+use Rattle.files.specs.Domain.{Domain, Expander, expanderAt, phyAt, routes}
 use Rattle.wiring.specs.Causes.{Place, place, phyPlaces, placesFrom, places}
-use Rattle.wiring.proofs.Members.{tests}
+use Rattle.files.proofs.Members.{tests}
 use Rattle.tables.specs.Tables.{size, sizes, needed, offsetIn, offset}
 use Rattle.tables.specs.Words.{entry, wordIn, wordPlace}
 use Rattle.tables.proofs.Puts.{size-by}

@@ -2,11 +2,11 @@
 use Prim.Native.Nat.{ℕ}
 use mathlib.Core.Path.{_≡_, refl}
 use mathlib.Core.List.{[], _∷_, flatMap}
-use Rattle.wiring.specs.declared.Phy.{Phy}
-use Rattle.wiring.specs.declared.Phy.the-variants.{Vacant, Present}
+use Rattle.files.specs.declared.Phy.{Phy}
+use Rattle.files.specs.declared.Phy.the-variants.{Vacant, Present}
 use Rattle.wiring.specs.Frames.{refused, good, refusal}
-use Rattle.wiring.specs.Lists.{numbers, any, keep, isIn}
-use Rattle.wiring.specs.Domain.{Domain, numberOf}
+use Rattle.files.specs.Lists.{numbers, any, keep, isIn}
+use Rattle.files.specs.Domain.{Domain, numberOf}
 use Rattle.wiring.specs.Causes.{unanswered, endAt, claimed, clash, clashing, fixed, phyPlaces, placesFrom, firstIn, wiredDomain}
 use Rattle.wiring.specs.Graph.{strip, reach}
 use Rattle.wiring.specs.Neighbours.{cabled, neighbours}

@@ -5,9 +5,9 @@ use mathlib.Core.Bool.{cond, _||_}
 use mathlib.Core.List.{List, [], _∷_, _++_, flatMap}
 use lib.ListN.{length, take, drop}
 use lib.Dec.{leb}
-use Rattle.wiring.specs.declared.Phy.{Phy}
-use Rattle.wiring.specs.Lists.{keep, isIn}
-use Rattle.wiring.specs.Domain.{Domain, expanderAt, phyAt, routes}
+use Rattle.files.specs.declared.Phy.{Phy}
+use Rattle.files.specs.Lists.{keep, isIn}
+use Rattle.files.specs.Domain.{Domain, expanderAt, phyAt, routes}
 use Rattle.wiring.specs.Causes.{Place, phyPlaces}
 
 -- numbers so far, and one more: none twice, at most `room` of them

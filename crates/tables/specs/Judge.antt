@@ -6,9 +6,9 @@ use mathlib.Core.List.{List}
 use lib.ListN.{length, getD}
 use lib.Dec.{T, ltb, leb}
 use Rattle.wiring.specs.Frames.{bitsOf, bytesFor, zeroBit, Result, refused, good, unless, then, refusal}
-use Rattle.wiring.specs.Domain.{Domain, expanderAt, phyAt, routes}
-use Rattle.wiring.specs.declared.Setting.{Setting}
-use Rattle.wiring.specs.File.{domainRead}
+use Rattle.files.specs.Domain.{Domain, expanderAt, phyAt, routes}
+use Rattle.files.specs.declared.Setting.{Setting}
+use Rattle.files.specs.File.{domainRead}
 use Rattle.wiring.specs.Causes.{firstOf, wiredDomain}
 use Rattle.wiring.specs.Links.{linkedDomain}
 use Rattle.tables.specs.Tables.{levelList, tablePlaces, tables, needed, offset}

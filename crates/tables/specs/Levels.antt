@@ -3,9 +3,9 @@ use Prim.Native.Nat.{ℕ, zero, suc}
 use mathlib.Core.Bool.{Bool, cond, not, _&&_}
 use mathlib.Core.List.{List, [], _∷_, _++_, map, flatMap}
 use lib.ListN.{length}
-use Rattle.wiring.specs.declared.Phy.{Phy}
-use Rattle.wiring.specs.Lists.{keep, isIn}
-use Rattle.wiring.specs.Domain.{Domain, expanderAt, phyAt, addressOf, routes, toExpander, numberOf}
+use Rattle.files.specs.declared.Phy.{Phy}
+use Rattle.files.specs.Lists.{keep, isIn}
+use Rattle.files.specs.Domain.{Domain, expanderAt, phyAt, addressOf, routes, toExpander, numberOf}
 use Rattle.wiring.specs.Causes.{farPhy}
 
 -- each number once, where it first stands, without those seen

@@ -3,10 +3,10 @@ use Prim.Native.Nat.{ℕ, zero, suc}
 use mathlib.Core.Bool.{Bool, cond, not, _||_, _&&_}
 use mathlib.Core.List.{List, [], _∷_, flatMap}
 use lib.ListN.{getD}
-use Rattle.wiring.specs.declared.Phy.{Phy}
-use Rattle.wiring.specs.declared.Phy.the-variants.{Vacant}
-use Rattle.wiring.specs.Lists.{any}
-use Rattle.wiring.specs.Domain.{Domain, expanderAt, addressOf, routes, attached, bears}
+use Rattle.files.specs.declared.Phy.{Phy}
+use Rattle.files.specs.declared.Phy.the-variants.{Vacant}
+use Rattle.files.specs.Lists.{any}
+use Rattle.files.specs.Domain.{Domain, expanderAt, addressOf, routes, attached, bears}
 use Rattle.tables.specs.Levels.{levels}
 use Rattle.tables.specs.Tables.{word}
 

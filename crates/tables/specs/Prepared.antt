@@ -7,8 +7,8 @@ use mathlib.Core.List.{List, [], _∷_, _++_, flatMap}
 use lib.ListN.{length, getD, take, drop, replicate}
 use lib.Dec.{T, eqb, ltb}
 use Rattle.wiring.specs.Frames.{Result, refused, good, then}
-use Rattle.wiring.specs.declared.Phy.{Phy}
-use Rattle.wiring.specs.Domain.{Domain, expanderAt, phyAt, addressOf, routes, attached, toExpander, numberOf}
+use Rattle.files.specs.declared.Phy.{Phy}
+use Rattle.files.specs.Domain.{Domain, expanderAt, phyAt, addressOf, routes, attached, toExpander, numberOf}
 use Rattle.wiring.specs.Causes.{Place, places, firstOf}
 use Rattle.wiring.specs.Checks.{checkedIn}
 use Rattle.wiring.specs.Addresses.{farNumber, lowestPhy}

@@ -5,8 +5,8 @@ use mathlib.Core.List.{List, [], _∷_, _++_}
 use lib.ListN.{length, take, drop}
 use lib.Dec.{eqb}
 use Rattle.wiring.specs.Frames.{bitsOf, packedIn, zeroBits}
-use Rattle.wiring.specs.Lists.{keep, isIn}
-use Rattle.wiring.specs.Domain.{Domain}
+use Rattle.files.specs.Lists.{keep, isIn}
+use Rattle.files.specs.Domain.{Domain}
 use Rattle.wiring.specs.Causes.{Place}
 use Rattle.tables.specs.Levels.{levels}
 use Rattle.tables.specs.Tables.{table, tablePlaces, size}

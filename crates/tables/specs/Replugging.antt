@@ -8,13 +8,13 @@ use mathlib.Core.List.{List, [], _∷_}
 use lib.ListN.{length, take, drop}
 use lib.Dec.{eqb, leb}
 use Rattle.wiring.specs.Frames.{Result, refused, good, unless, then, refusal}
-use Rattle.wiring.specs.declared.Phy.{Phy}
-use Rattle.wiring.specs.declared.Phy.the-variants.{Vacant, Present}
-use Rattle.wiring.specs.Lists.{isIn}
-use Rattle.wiring.specs.Domain.{Domain, expanderAt, phyAt, addressOf, toEnd, toExpander, numberOf}
+use Rattle.files.specs.declared.Phy.{Phy}
+use Rattle.files.specs.declared.Phy.the-variants.{Vacant, Present}
+use Rattle.files.specs.Lists.{isIn}
+use Rattle.files.specs.Domain.{Domain, expanderAt, phyAt, addressOf, toEnd, toExpander, numberOf}
 use Rattle.wiring.specs.Causes.{Place, clashing, firstIn, firstOf}
 use Rattle.wiring.specs.Addresses.{isTaken, farNumber}
-use Rattle.wiring.specs.PhySet.{setPhy, withWords}
+use Rattle.files.specs.PhySet.{setPhy, withWords}
 use Rattle.tables.specs.Entries.{Entries, Room}
 use Rattle.tables.specs.Filling.{placesAt}
 use Rattle.tables.specs.Own.{own}

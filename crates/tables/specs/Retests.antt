@@ -4,8 +4,8 @@ use mathlib.Core.Bool.{Bool, true, false, _&&_}
 use lib.Dec.{eqb}
 use Rattle.wiring.specs.declared.Check.{Check}
 use Rattle.wiring.specs.declared.Check.the-variants.{Refused, Passed}
-use Rattle.wiring.specs.declared.Phy.{Phy}
-use Rattle.wiring.specs.Domain.{Domain, phyAt, addressOf, toEnd}
+use Rattle.files.specs.declared.Phy.{Phy}
+use Rattle.files.specs.Domain.{Domain, phyAt, addressOf, toEnd}
 
 -- a phy attached to an end device with address s
 abbrev pub isEnd : ℕ → Phy → Bool

@@ -5,8 +5,8 @@ use mathlib.Core.Bool.{Bool}
 use mathlib.Core.List.{List, _++_}
 use lib.ListN.{length, take, drop}
 use Rattle.wiring.specs.Frames.{bitsOf, zeroBits}
-use Rattle.wiring.specs.Lists.{keep}
-use Rattle.wiring.specs.Domain.{Domain}
+use Rattle.files.specs.Lists.{keep}
+use Rattle.files.specs.Domain.{Domain}
 use Rattle.wiring.specs.Causes.{Place}
 use Rattle.tables.specs.Tables.{size, sizes}
 use Rattle.tables.specs.Entries.{Entries, roomOf}

@@ -4,9 +4,9 @@ use mathlib.Core.Bool.{Bool, cond, not, _||_, _&&_}
 use mathlib.Core.List.{List, [], _∷_, _++_, flatMap}
 use lib.ListN.{take, drop, replicate}
 use lib.Dec.{eqb}
-use Rattle.wiring.specs.declared.Phy.{Phy}
-use Rattle.wiring.specs.Lists.{any, keep, isIn}
-use Rattle.wiring.specs.Domain.{Domain, expanderAt, phyAt, addressOf, routes, attached, bears}
+use Rattle.files.specs.declared.Phy.{Phy}
+use Rattle.files.specs.Lists.{any, keep, isIn}
+use Rattle.files.specs.Domain.{Domain, expanderAt, phyAt, addressOf, routes, attached, bears}
 use Rattle.wiring.specs.Causes.{Place, places}
 use Rattle.tables.specs.Levels.{levels}
 

@@ -6,10 +6,10 @@ use mathlib.Core.List.{List}
 use lib.ListN.{length}
 use lib.Dec.{T}
 use Rattle.wiring.specs.Frames.{good}
-use Rattle.wiring.specs.declared.Setting.{Setting}
-use Rattle.wiring.specs.Domain.{Domain, expanderAt, phyAt, routes}
-use Rattle.wiring.specs.Settings.{InRange}
-use Rattle.wiring.specs.File.{domainRead}
+use Rattle.files.specs.declared.Setting.{Setting}
+use Rattle.files.specs.Domain.{Domain, expanderAt, phyAt, routes}
+use Rattle.files.specs.Settings.{InRange}
+use Rattle.files.specs.File.{domainRead}
 use Rattle.wiring.specs.Chains.{ShortChains}
 use Rattle.wiring.specs.Tested.{Passed, Linked}
 use Rattle.tables.specs.Tables.{levelList, needed}

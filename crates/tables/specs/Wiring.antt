@@ -1,25 +1,25 @@
--- What the layers above use of wiring and frames.
+-- What the layers above use of wiring, files and frames.
 pub use Rattle.wiring.specs.Frames.{byte, bytesFor, zeroBit, Refusal, Result, refused, good, unless, then, refusal, Exactly}
 unfoldable pub use Rattle.wiring.specs.Frames.{numberBits, field, bitsOf, packedIn, marked}
 pub use Rattle.wiring.specs.Frames.{General, LongGeneral, Discover, Route, generalRead, generalAnswer, GeneralSas2, short, long, generalReadSas2, sas2Answer}
 pub use Rattle.wiring.specs.Frames.{Discovered, vacant, fields, discoverRead, discoverAnswer}
 pub use Rattle.wiring.specs.Frames.{routeWritten, writeAnswer, bufferAfter, routeRead, routeAnswer}
-pub use Rattle.wiring.specs.declared.Phy.{Phy}
-pub use Rattle.wiring.specs.declared.Phy.the-variants.{Vacant, Present}
+pub use Rattle.files.specs.declared.Phy.{Phy}
+pub use Rattle.files.specs.declared.Phy.the-variants.{Vacant, Present}
 pub use Rattle.wiring.specs.declared.Check.the-variants.{Refused}
-pub use Rattle.wiring.specs.declared.DomainRead.the-variants.{Expanders}
-pub use Rattle.wiring.specs.Lists.{upTo, In, Distinct, Below, last}
-unfoldable pub use Rattle.wiring.specs.Lists.{numbers, any, isIn, keep}
-pub use Rattle.wiring.specs.Domain.{Expander, Domain, noExpander, expanderAt, phyAt, typeOf, addressOf, farOf, attributeOf, routes}
-pub use Rattle.wiring.specs.Domain.{attached, toEnd, toExpander, bears}
-unfoldable pub use Rattle.wiring.specs.Domain.{numberOf}
-pub use Rattle.wiring.specs.declared.Setting.{Setting}
-pub use Rattle.wiring.specs.Settings.{InRange, widest, NoSmaller}
-unfoldable pub use Rattle.wiring.specs.Settings.{inRange}
-pub use Rattle.wiring.specs.File.{domainRead}
-pub use Rattle.wiring.specs.Read.{Read}
-pub use Rattle.wiring.specs.ShortFile.{shortFile}
-pub use Rattle.wiring.specs.Rows.{domainIn, RowsRead}
+pub use Rattle.files.specs.declared.DomainRead.the-variants.{Expanders}
+pub use Rattle.files.specs.Lists.{upTo, In, Distinct, Below, last}
+unfoldable pub use Rattle.files.specs.Lists.{numbers, any, isIn, keep}
+pub use Rattle.files.specs.Domain.{Expander, Domain, noExpander, expanderAt, phyAt, typeOf, addressOf, farOf, attributeOf, routes}
+pub use Rattle.files.specs.Domain.{attached, toEnd, toExpander, bears}
+unfoldable pub use Rattle.files.specs.Domain.{numberOf}
+pub use Rattle.files.specs.declared.Setting.{Setting}
+pub use Rattle.files.specs.Settings.{InRange, widest, NoSmaller}
+unfoldable pub use Rattle.files.specs.Settings.{inRange}
+pub use Rattle.files.specs.File.{domainRead}
+pub use Rattle.files.specs.Read.{Read}
+pub use Rattle.files.specs.ShortFile.{shortFile}
+pub use Rattle.files.specs.Rows.{domainIn, RowsRead}
 pub use Rattle.wiring.specs.Causes.{Place, place, places, wiredDomain, wired}
 unfoldable pub use Rattle.wiring.specs.Causes.{phyPlaces, placesFrom}
 pub use Rattle.wiring.specs.Checks.{checkAnswer, FileRoom}

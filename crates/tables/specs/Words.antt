@@ -6,7 +6,7 @@ use mathlib.Core.List.{List, [], _∷_, _++_}
 use lib.ListN.{length}
 use lib.Dec.{ltb}
 use Rattle.wiring.specs.Frames.{Result, refused, good, refusal}
-use Rattle.wiring.specs.Domain.{Domain}
+use Rattle.files.specs.Domain.{Domain}
 use Rattle.wiring.specs.Causes.{Place, places}
 use Rattle.tables.specs.Tables.{tablePlaces, size, needed}
 use Rattle.tables.specs.Filling.{placesAt}

@@ -14,7 +14,7 @@ ghost use mathlib.Core.Path.{_≡_};
 ghost use Prim.Native.Nat.{_≤_};
 ghost use lib.ListN.{length};
 ghost use Rattle.wiring.specs.Frames.{byte, then, refusal};
-ghost use Rattle.wiring.specs.Rows.{domainIn};
+ghost use Rattle.files.specs.Rows.{domainIn};
 ghost use Rattle.wiring.specs.Checks.{checkAnswer, FileRoom};
 ghost use Rattle.wiring.specs.Addresses.{IndexLeft};
 ghost use Rattle.tables.specs.Judge.{judged, judgeAnswer, expandersIn, tablesFor, tableCall, TablesDone};

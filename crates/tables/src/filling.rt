@@ -5,7 +5,7 @@ ghost use mathlib.Core.Path.{_≡_};
 ghost use mathlib.Core.List.{_++_, flatMap};
 ghost use Prim.Native.Nat.{_+_, _-_, _≤_};
 ghost use lib.ListN.{length, take, replicate};
-ghost use Rattle.wiring.specs.Rows.{domainIn};
+ghost use Rattle.files.specs.Rows.{domainIn};
 ghost use Rattle.tables.specs.Own.{own};
 ghost use Rattle.tables.specs.Filling.{Grown};
 ghost use Rattle.tables.specs.Prepared.{OwnHeld, orderList, filledTo, FilledFrom};

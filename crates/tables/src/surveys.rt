@@ -12,7 +12,7 @@ ghost use mathlib.Core.Path.{_≡_};
 ghost use Prim.Native.Nat.{_≤_};
 ghost use lib.ListN.{length};
 ghost use Rattle.wiring.specs.Frames.{byte, then};
-ghost use Rattle.wiring.specs.Rows.{domainIn};
+ghost use Rattle.files.specs.Rows.{domainIn};
 ghost use Rattle.wiring.specs.Checks.{FileRoom};
 ghost use Rattle.tables.specs.Judge.{judged, countsIn, tablesAnswer};
 ghost use Rattle.tables.specs.Prepared.{judgedIn};

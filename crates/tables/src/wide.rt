@@ -6,8 +6,8 @@ use wiring::PhyId;
 ghost use mathlib.Core.Path.{_≡_};
 ghost use Prim.Native.Nat.{_<_};
 ghost use lib.ListN.{length};
-ghost use Rattle.wiring.specs.Domain.{expanderAt};
-ghost use Rattle.wiring.specs.Rows.{domainIn};
+ghost use Rattle.files.specs.Domain.{expanderAt};
+ghost use Rattle.files.specs.Rows.{domainIn};
 ghost use Rattle.tables.specs.Levels.{down};
 ghost use Rattle.tables.specs.Prepared.{oneLink, Told, PhyIndexed};
 

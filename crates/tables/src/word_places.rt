@@ -9,7 +9,7 @@ use wiring::RouteIndex;
 ghost use mathlib.Core.Path.{_≡_};
 ghost use Prim.Native.Nat.{_<_};
 ghost use Rattle.wiring.specs.Causes.{place};
-ghost use Rattle.wiring.specs.Rows.{domainIn};
+ghost use Rattle.files.specs.Rows.{domainIn};
 ghost use Rattle.tables.specs.Tables.{size};
 ghost use Rattle.tables.specs.Words.{wordPlace, wordAnswer, SoughtAt};
 

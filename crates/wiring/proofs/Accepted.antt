@@ -9,26 +9,27 @@ use native.Mathlib.Decide.{ℕ-discrete, decLt}
 use lib.ListN.{length, getD, take, List·getD-eq-default}
 use lib.Dec.{T, eqb, ltb, eqb→eq, ltb→lt, lt→ltb, not-T, T-not}
 use Rattle.frames.specs.Refusals.{good, refusal}
-use Rattle.wiring.specs.declared.Setting.{Setting}
-use Rattle.wiring.specs.declared.Phy.{Phy}
-use Rattle.wiring.specs.declared.Phy.the-variants.{Vacant, Present}
-use Rattle.wiring.specs.Lists.{upTo, any, In, Distinct}
-use Rattle.wiring.specs.Domain.{Expander, Domain, noExpander, expanderAt, phyAt, addressOf, farOf, attributeOf, routes, attached, toEnd, toExpander, numberOf}
-use Rattle.wiring.specs.Read.{ReadPhy, ReadExpander, addresses, Read}
-use Rattle.wiring.specs.File.{domainRead}
+use Rattle.files.specs.declared.Setting.{Setting}
+use Rattle.files.specs.declared.Phy.{Phy}
+use Rattle.files.specs.declared.Phy.the-variants.{Vacant, Present}
+use Rattle.files.specs.Lists.{upTo, any, In, Distinct}
+use Rattle.files.specs.Domain.{Expander, Domain, noExpander, expanderAt, phyAt, addressOf, farOf, attributeOf, routes, attached, toEnd, toExpander, numberOf}
+use Rattle.files.specs.Read.{ReadPhy, ReadExpander, addresses, Read}
+use Rattle.files.specs.File.{domainRead}
 use Rattle.wiring.specs.Causes.{Place, place, places, farPhy, names, unanswered, endAt, claimed, clash, clashing, fixed, firstIn, firstOf, wiredDomain, wired}
 use Rattle.wiring.specs.Tested.{Passed, Linked}
 use Rattle.wiring.specs.Graph.{loopfree}
 use Rattle.wiring.specs.Neighbours.{neighbours}
 use Rattle.wiring.specs.Chains.{chainsWithin, unlong, ShortChains}
 use Rattle.wiring.specs.Links.{unlooped, joined, joinedIn, linkedDomain}
-use Rattle.wiring.proofs.Results.{never, good-one, unless-good, good-unless, then-good, good-then, then-same}
-use Rattle.wiring.proofs.Read.{read-good}
-use Rattle.wiring.proofs.Members.{tests, by-test, or-cases, not-not, is-true, is-false, was-true, was-false, eq→eqb, in-cast, all-cons, any-of, of-any, in-getD, getD-in, in-take, take-in, map-in, in-upTo, numbers-below}
+use Rattle.files.proofs.Results.{never, good-one, unless-good, good-unless, then-good, good-then, then-same}
+use Rattle.files.proofs.Read.{read-good}
+use Rattle.files.proofs.Members.{tests, by-test, or-cases, not-not, is-true, is-false, was-true, was-false, eq→eqb, in-cast, all-cons, any-of, of-any, in-getD, getD-in, in-take, take-in, map-in, in-upTo, numbers-below}
 use Rattle.wiring.proofs.Loops.{loopfree-iff}
 use Rattle.wiring.proofs.Reach.{reached-iff}
 use Rattle.wiring.proofs.LongChains.{within-iff}
-use Rattle.wiring.proofs.Wires.{LoopIn, ChainIn, To, Plain, Wired, end-attached, expander-attached, routes-one, plain-attribute, numberOf-is, expander-range, phy-range, in-range, routes-range, in-places, adj-symmetric}
+use Rattle.wiring.proofs.Wires.{LoopIn, ChainIn, To, Plain, Wired, plain-attribute, in-places, adj-symmetric}
+use Rattle.files.proofs.Domains.{end-attached, expander-attached, routes-one, numberOf-is, expander-range, phy-range, in-range, routes-range}
 
 -- what causes 1 to 6 leave, expander by expander and phy by phy
 numbers-differ : (d : Domain) → Distinct (addresses d) → (j : ℕ) → j < length d → numberOf d (expanderAt d j .address) ≡ j

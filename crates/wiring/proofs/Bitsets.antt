@@ -11,14 +11,14 @@ use lib.Count.{ones}
 use lib.Pow.{pow-pos, ones-split, ones-lt, high}
 use native.Mathlib.Nat.{pow-suc}
 use borrow.Author.Tests.{eq-eqb, ne-eqb, le-leb}
-use Rattle.wiring.specs.Lists.{numbers, upTo, any, keep, isIn}
-use Rattle.wiring.specs.Domain.{Domain}
+use Rattle.files.specs.Lists.{numbers, upTo, any, keep, isIn}
+use Rattle.files.specs.Domain.{Domain}
 use Rattle.wiring.specs.Graph.{two, isNil, stays, strip, loopfree, near, reach}
 use Rattle.wiring.specs.Neighbours.{neighbours, setOf, neighbourWord}
 use Rattle.frames.specs.Refusals.{Result, refused, good, refusal}
 use Rattle.wiring.specs.Links.{joined, joinedIn}
 use Rattle.wiring.specs.Rounds.{RoundsRun, hasBit, members, SetBelow, roundTest, nextTest, nextSet, rounds}
-use Rattle.wiring.proofs.Members.{by-test, any-same, keep-keep, keep-same, isIn-keep, isIn-of, in-upTo, numbers-below, same-test, is-true}
+use Rattle.files.proofs.Members.{by-test, any-same, keep-keep, keep-same, isIn-keep, isIn-of, in-upTo, numbers-below, same-test, is-true}
 use Rattle.wiring.proofs.Sets.{wordBelow, bitOf, set-word, ones-word, and-word, word-bit, neighbour-word}
 use Rattle.wiring.proofs.Wires.{adj-symmetric}
 

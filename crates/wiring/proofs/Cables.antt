@@ -14,15 +14,15 @@ use lib.Dec.{eqb, eqb→eq}
 use lib.Bits.{bitOr, or-shr, or-step, shifted-even}
 use lib.Pow.{pow-lt, pow-add, shl-shr}
 use borrow.Author.Tests.{eq-eqb, ne-eqb, lt-leb}
-use Rattle.wiring.specs.declared.Phy.{Phy}
-use Rattle.wiring.specs.declared.Phy.the-variants.{Vacant}
-use Rattle.wiring.specs.Lists.{any}
-use Rattle.wiring.specs.Domain.{Domain, expanderAt, typeOf, addressOf, toExpander, numberOf}
+use Rattle.files.specs.declared.Phy.{Phy}
+use Rattle.files.specs.declared.Phy.the-variants.{Vacant}
+use Rattle.files.specs.Lists.{any}
+use Rattle.files.specs.Domain.{Domain, expanderAt, typeOf, addressOf, toExpander, numberOf}
 use Rattle.wiring.specs.Neighbours.{cabled}
 use Rattle.wiring.specs.Rounds.{hasBit}
 use Rattle.wiring.specs.Cables.{leadsTo, FarSet, Leading}
-use Rattle.wiring.proofs.Members.{any-same, any-append, eq→eqb, same-test}
-use Rattle.wiring.proofs.Wires.{numberOf-is}
+use Rattle.files.proofs.Members.{any-same, any-append, eq→eqb, same-test}
+use Rattle.files.proofs.Domains.{numberOf-is}
 use Rattle.wiring.proofs.Finding.{number-le}
 
 -- a bit of what two words hold together

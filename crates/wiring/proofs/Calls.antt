@@ -8,22 +8,22 @@ use lib.Dec.{leb, leb→le}
 use borrow.Author.Tests.{le-leb, lt-leb}
 use Rattle.frames.specs.Refusals.{Result, refused, good, then, refusal}
 use Rattle.frames.specs.declared.Refusal.{Refusal}
-use Rattle.wiring.specs.declared.Setting.{Setting}
+use Rattle.files.specs.declared.Setting.{Setting}
 use Rattle.wiring.specs.declared.Wiring.{Wiring}
 use Rattle.wiring.specs.declared.Wiring.the-variants.{Refused, Bits}
-use Rattle.wiring.specs.Lists.{upTo}
-use Rattle.wiring.specs.Domain.{Domain}
+use Rattle.files.specs.Lists.{upTo}
+use Rattle.files.specs.Domain.{Domain}
 use Rattle.wiring.specs.Causes.{wiredDomain}
 use Rattle.wiring.specs.Graph.{strip, loopfree}
 use Rattle.wiring.specs.Neighbours.{neighbours, neighbourWord, neighbourWords, bitsIn, wordsFor, wiringCall, WiringDone}
-use Rattle.wiring.specs.File.{domainRead}
+use Rattle.files.specs.File.{domainRead}
 use Rattle.wiring.specs.Links.{unlooped, joinedIn, linkedDomain, checkedDomain}
 use Rattle.wiring.specs.Chains.{chainsWithin, unlong}
 use Rattle.wiring.specs.Addresses.{slotsBefore, IndexRoom}
 use Rattle.wiring.specs.Checks.{checkedIn}
 use Rattle.wiring.specs.Rounds.{Held}
-use Rattle.wiring.proofs.Members.{tests, is-false}
-use Rattle.wiring.proofs.Results.{unless-good}
+use Rattle.files.proofs.Members.{tests, is-false}
+use Rattle.files.proofs.Results.{unless-good}
 use Rattle.wiring.proofs.NeighbourWords.{length-words, each-held}
 
 -- the neighbour words at the front of lent words

@@ -11,15 +11,15 @@ use lib.ListN.{length, getD, set, take}
 use lib.Seq.{getD-set-same, getD-set-other}
 use lib.Dec.{T, eqb, ltb, ltb→lt, lt→ltb}
 use borrow.Author.Tests.{lt-ltb, le-ltb, ne-eqb}
-use Rattle.wiring.specs.declared.Phy.the-variants.{Vacant}
-use Rattle.wiring.specs.Lists.{any}
-use Rattle.wiring.specs.Domain.{Domain, noExpander, expanderAt, phyAt, addressOf, attached, toEnd, bears, numberOf}
+use Rattle.files.specs.declared.Phy.the-variants.{Vacant}
+use Rattle.files.specs.Lists.{any}
+use Rattle.files.specs.Domain.{Domain, noExpander, expanderAt, phyAt, addressOf, attached, toEnd, bears, numberOf}
 use Rattle.wiring.specs.Causes.{endAt}
-use Rattle.wiring.specs.Rows.{phyIn, domainIn}
+use Rattle.files.specs.Rows.{phyIn, domainIn}
 use Rattle.wiring.specs.Addresses.{slotsBefore, slotOf, slotPhy, slotAddress, slotWord, isDevice, listedFrom, addressFrom, LowestFrom, numberIn, isTaken, LowestPhy}
-use Rattle.wiring.proofs.Members.{tests, by-test, and-both, or-cases, or-left, or-right, of-any, any-of, take-in, in-take, in-getD, is-false, eq→eqb, same-test}
-use Rattle.wiring.proofs.InRows.{head-in, no-head, address-in, phy-at-in}
-use Rattle.wiring.proofs.Wires.{numberOf-is, phy-range, expander-range, end-attached}
+use Rattle.files.proofs.Members.{tests, by-test, and-both, or-cases, or-left, or-right, of-any, any-of, take-in, in-take, in-getD, is-false, eq→eqb, same-test}
+use Rattle.files.proofs.InRows.{head-in, no-head, address-in, phy-at-in}
+use Rattle.files.proofs.Domains.{numberOf-is, phy-range, expander-range, end-attached}
 use Rattle.wiring.proofs.Accepted.{end-at}
 use Rattle.wiring.proofs.Finding.{number-is, number-none}
 

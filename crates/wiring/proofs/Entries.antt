@@ -5,10 +5,10 @@ use mathlib.Core.List.{List}
 use native.Mathlib.Omega.{arith}
 use lib.ListN.{getD}
 use lib.Dec.{T, ltb}
-use Rattle.wiring.specs.Domain.{Domain, phyAt, addressOf, attached, toEnd, toExpander, numberOf}
-use Rattle.wiring.specs.Rows.{domainIn}
+use Rattle.files.specs.Domain.{Domain, phyAt, addressOf, attached, toEnd, toExpander, numberOf}
+use Rattle.files.specs.Rows.{domainIn}
 use Rattle.wiring.specs.Addresses.{slotOf, isTaken, LowestPhy, IndexedFirst, IndexedLow, farNumber, lowestPhy}
-use Rattle.wiring.proofs.Wires.{in-range, end-attached, expander-attached}
+use Rattle.files.proofs.Domains.{in-range, end-attached, expander-attached}
 use Rattle.wiring.proofs.EndDevices.{short-in, slot-is}
 
 module _ (d : Domain) (i p : ℕ) (h : p < 128) where

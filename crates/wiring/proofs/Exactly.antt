@@ -10,16 +10,16 @@ use lib.Dec.{leb, leb→le, le→leb}
 use Rattle.frames.specs.Refusals.{good, then, refusal}
 use Rattle.frames.specs.Exactly.{Exactly}
 pub use Rattle.frames.proofs.Exactly.{Numbered, numbered-unless, numbered-then, exactly}
-use Rattle.wiring.specs.declared.Setting.{Setting}
+use Rattle.files.specs.declared.Setting.{Setting}
 use Rattle.wiring.specs.declared.Wiring.{Wiring}
-use Rattle.wiring.specs.Domain.{Domain}
-use Rattle.wiring.specs.File.{domainRead}
+use Rattle.files.specs.Domain.{Domain}
+use Rattle.files.specs.File.{domainRead}
 use Rattle.wiring.specs.Causes.{Place, unanswered, claimed, clashing, fixed, firstIn, firstOf, wiredDomain, wired}
 use Rattle.wiring.specs.Neighbours.{neighbourWords, bitsIn, wordsFor, wiringCall, wiringAnswer, bitsSet, WiringDone}
 use Rattle.wiring.specs.Tested.{NoWiringCause, wiringNumber}
-use Rattle.wiring.proofs.Members.{by-test}
-use Rattle.wiring.proofs.Results.{unless-good, good-unless, then-good, good-then}
-use Rattle.wiring.proofs.Read.{read-good, read-numbered}
+use Rattle.files.proofs.Members.{by-test}
+use Rattle.files.proofs.Results.{unless-good, good-unless, then-good, good-then}
+use Rattle.files.proofs.Read.{read-good, read-numbered}
 use Rattle.wiring.proofs.Accepted.{passed-iff, wired-file}
 
 -- number k, or none

@@ -8,9 +8,9 @@ use native.Mathlib.Omega.{arith}
 use lib.ListN.{length}
 use lib.Dec.{eqb}
 use borrow.Author.Tests.{eq-eqb}
-use Rattle.wiring.specs.Domain.{Domain, expanderAt, numberOf}
-use Rattle.wiring.proofs.Members.{by-test}
-use Rattle.wiring.proofs.Wires.{numberOf-is}
+use Rattle.files.specs.Domain.{Domain, expanderAt, numberOf}
+use Rattle.files.proofs.Members.{by-test}
+use Rattle.files.proofs.Domains.{numberOf-is}
 
 -- an expander with the address has a number that is no lower
 pub number-le : (d : Domain) (s t : ℕ) → t < length d → expanderAt d t .address ≡ s → numberOf d s ≤ t

@@ -10,14 +10,14 @@ use native.Mathlib.Nat.{sub-zero}
 use lib.ListN.{length, getD, set, length-set, replicate, length-replicate}
 use lib.Dec.{T, eqb, lt→ltb, ltb→lt, le→leb, eqb→eq, not-T}
 use borrow.Author.Tests.{lt-ltb, le-ltb, eq-eqb, ne-eqb}
-use Rattle.wiring.specs.declared.Phy.{Phy}
-use Rattle.wiring.specs.Domain.{Domain, expanderAt, phyAt, typeOf, addressOf, attached, toEnd, toExpander, numberOf}
+use Rattle.files.specs.declared.Phy.{Phy}
+use Rattle.files.specs.Domain.{Domain, expanderAt, phyAt, typeOf, addressOf, attached, toEnd, toExpander, numberOf}
 use Rattle.wiring.specs.SearchTree.{WalkTo}
 use Rattle.wiring.specs.Addresses.{slotsBefore, slotOf, slotPhy, slotAddress, listedFrom, addressFrom, TreeFrom, LowestFrom, numberIn, tells, LowestBelow, found, nobody, FirstOf, LowestPhy, Firsts, Searchable, Addable, AddedTo, FirstsTo, LowsBefore, LowsTo, Indexed}
-use Rattle.wiring.proofs.Members.{eq→eqb, was-false}
-use Rattle.wiring.proofs.InRows.{domain-few}
-use Rattle.wiring.specs.Rows.{domainIn}
-use Rattle.wiring.proofs.Wires.{phy-range, expander-range, end-attached, expander-attached, end-no-expander}
+use Rattle.files.proofs.Members.{eq→eqb, was-false}
+use Rattle.files.proofs.InRows.{domain-few}
+use Rattle.files.specs.Rows.{domainIn}
+use Rattle.files.proofs.Domains.{phy-range, expander-range, end-attached, expander-attached, end-no-expander}
 use Rattle.wiring.proofs.SearchTrees.{none-has, lowest-has, tree-skip, tree-same, tree-put, tree-none}
 use Rattle.wiring.proofs.EndDevices.{short-in, slot-expander, slot-is, slot-address, device-expander, device-phy, attached-at, lowest-number, no-number, taken-by, lowest-phy, each-set}
 

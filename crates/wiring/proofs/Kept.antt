@@ -9,12 +9,12 @@ use lib.ListN.{length, set}
 use lib.Seq.{getD-set-other}
 use lib.Dec.{T, lt→ltb}
 use borrow.Author.Tests.{lt-ltb, le-ltb}
-use Rattle.wiring.specs.declared.Phy.{Phy}
-use Rattle.wiring.specs.Domain.{Domain, expanderAt, phyAt, typeOf, attached}
-use Rattle.wiring.specs.Rows.{domainIn}
+use Rattle.files.specs.declared.Phy.{Phy}
+use Rattle.files.specs.Domain.{Domain, expanderAt, phyAt, typeOf, attached}
+use Rattle.files.specs.Rows.{domainIn}
 use Rattle.wiring.specs.Addresses.{slotOf, tells, attachedAt, KeptBut}
-use Rattle.wiring.proofs.Members.{was-false}
-use Rattle.wiring.proofs.Wires.{type-attached}
+use Rattle.files.proofs.Members.{was-false}
+use Rattle.files.proofs.Domains.{type-attached}
 use Rattle.wiring.proofs.EndDevices.{short-in, slot-is}
 
 pub kept-none : {test : ℕ → Bool} (l : List ℕ) → KeptBut test l l

@@ -1,15 +1,3 @@
-pub mod Members
-pub mod Results
-pub mod Reading
-pub mod Ranges
-pub mod Read
-pub mod ShortFile
-pub mod Wider
-pub mod Filling
-pub mod Back
-pub mod RowsRead
-pub mod InRows
-pub mod PhySets
 pub mod SearchTrees
 pub mod Finding
 pub mod Searches
@@ -19,8 +7,9 @@ pub mod Reach
 pub mod LongChains
 pub mod Wires
 pub mod Accepted
+pub mod LongFrames
+pub mod Courses
 pub mod Opening
-pub mod Excess
 pub mod Frames
 pub mod Sets
 pub mod NeighbourWords

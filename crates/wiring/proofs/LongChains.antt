@@ -9,16 +9,16 @@ use native.Mathlib.Omega.{arith}
 use lib.ListN.{length}
 use borrow.Author.Tests.{le-leb}
 use lib.Dec.{T, leb, leb→le, le→leb, T-not}
-use Rattle.wiring.specs.Lists.{upTo, keep, In, Distinct, Below, last}
+use Rattle.files.specs.Lists.{upTo, keep, In, Distinct, Below, last}
 use Rattle.wiring.specs.Graph.{Steps, Symmetric, Loop, self, Tail, Chain, stays, strip}
 use Rattle.frames.specs.Refusals.{good}
-use Rattle.wiring.specs.declared.Setting.{Setting}
-use Rattle.wiring.specs.Domain.{Domain}
+use Rattle.files.specs.declared.Setting.{Setting}
+use Rattle.files.specs.Domain.{Domain}
 use Rattle.wiring.specs.Neighbours.{neighbours}
-use Rattle.wiring.specs.Read.{Read}
+use Rattle.files.specs.Read.{Read}
 use Rattle.wiring.specs.Chains.{chainsWithin, unlong, LongChain, ShortChains}
 use Rattle.wiring.specs.Devices.{LoopIn, ChainIn}
-use Rattle.wiring.proofs.Members.{or-cases, or-right, all-cons, keeps, kept, keep-distinct, fits, at-most, in-upTo, numbers-below, numbers-distinct, not-not}
+use Rattle.files.proofs.Members.{or-cases, or-right, all-cons, keeps, kept, keep-distinct, fits, at-most, in-upTo, numbers-below, numbers-distinct, not-not}
 use Rattle.wiring.proofs.Walks.{Skip, NoBack, Apart, turn, noback, repeats-nothing, rest-of}
 use Rattle.wiring.proofs.Loops.{Fork, stays-fork, fork-stays, next}
 use Rattle.wiring.proofs.Reach.{Joined, single, prepend}

@@ -10,18 +10,18 @@ use native.Mathlib.Omega.{arith}
 use lib.ListN.{take}
 use lib.Dec.{T, eqb, eqb→eq, not-T, T-not}
 use borrow.Author.Tests.{eq-eqb, ne-eqb}
-use Rattle.wiring.specs.declared.Phy.{Phy}
-use Rattle.wiring.specs.declared.Phy.the-variants.{Vacant}
-use Rattle.wiring.specs.Lists.{any}
-use Rattle.wiring.specs.Domain.{Domain, expanderAt, phyAt, typeOf, addressOf, attributeOf, attached, routes}
-use Rattle.wiring.specs.Rows.{phyHeld, domainIn}
+use Rattle.files.specs.declared.Phy.{Phy}
+use Rattle.files.specs.declared.Phy.the-variants.{Vacant}
+use Rattle.files.specs.Lists.{any}
+use Rattle.files.specs.Domain.{Domain, expanderAt, phyAt, typeOf, addressOf, attributeOf, attached, routes}
+use Rattle.files.specs.Rows.{phyHeld, domainIn}
 use Rattle.wiring.specs.Causes.{clash, clashing}
 use Rattle.wiring.specs.Checks.{causeOf, Testable}
 use Rattle.wiring.specs.Clashes.{subtractive, leadsElsewhere}
 use Rattle.wiring.specs.Addresses.{LowestPhy, IndexedLow, lowestPhy}
-use Rattle.wiring.proofs.Members.{tests, and-right, and-both, eq→eqb, any-of, of-any, in-take, take-in, is-true, is-false, was-false, same-test, not-not}
-use Rattle.wiring.proofs.InRows.{phy-held}
-use Rattle.wiring.proofs.Wires.{type-attached, type-none}
+use Rattle.files.proofs.Members.{tests, and-right, and-both, eq→eqb, any-of, of-any, in-take, take-in, is-true, is-false, was-false, same-test, not-not}
+use Rattle.files.proofs.InRows.{phy-held}
+use Rattle.files.proofs.Domains.{type-attached, type-none}
 use Rattle.wiring.proofs.EndDevices.{short-in}
 use Rattle.wiring.proofs.Entries.{low-told}
 use Rattle.wiring.proofs.Accepted.{clash-attribute, clash-address, clash-why, lower-clash}

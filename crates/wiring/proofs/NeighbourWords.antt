@@ -10,11 +10,11 @@ use lib.ListN.{length, getD, drop, set, length-append, length-map, List·getD-ap
 use lib.Bits.{bitOr, or-shifted-r}
 use lib.Pow.{pow-lt}
 use lib.Count.{ones}
-use Rattle.wiring.specs.Lists.{numbers}
-use Rattle.wiring.specs.Domain.{Domain}
+use Rattle.files.specs.Lists.{numbers}
+use Rattle.files.specs.Domain.{Domain}
 use Rattle.wiring.specs.Neighbours.{neighbourWord, neighbourWords, bitsIn}
 use Rattle.wiring.specs.Rounds.{WordEach}
-use Rattle.wiring.proofs.Members.{length-numbers, upTo-last}
+use Rattle.files.proofs.Members.{length-numbers, upTo-last}
 use Rattle.wiring.proofs.Sets.{wordBelow, word-lt, word-set, word-skip}
 
 -- a bit above those that are set

@@ -7,15 +7,15 @@ use lib.ListN.{length, take}
 use borrow.Author.Tests.{le-leb}
 use Rattle.frames.specs.Refusals.{Result, refused, good, then}
 use Rattle.frames.specs.declared.Refusal.{Refusal}
-use Rattle.wiring.specs.declared.Setting.{Setting}
-use Rattle.wiring.specs.declared.DomainRead.{DomainRead}
-use Rattle.wiring.specs.declared.DomainRead.the-variants.{Refused, Expanders}
-use Rattle.wiring.specs.Domain.{Domain}
-use Rattle.wiring.specs.File.{domainRead}
-use Rattle.wiring.specs.Rows.{domainIn, rowsRead, countOf, RowsRead}
+use Rattle.files.specs.declared.Setting.{Setting}
+use Rattle.files.specs.declared.DomainRead.{DomainRead}
+use Rattle.files.specs.declared.DomainRead.the-variants.{Refused, Expanders}
+use Rattle.files.specs.Domain.{Domain}
+use Rattle.files.specs.File.{domainRead}
+use Rattle.files.specs.Rows.{domainIn, rowsRead, countOf, RowsRead}
 use Rattle.wiring.specs.Addresses.{slotsBefore}
 use Rattle.wiring.specs.Checks.{FileRoom}
-use Rattle.wiring.proofs.Read.{read-good}
+use Rattle.files.proofs.Read.{read-good}
 
 -- what the answer of the reader says of the file
 abbrev pub Opened : Setting → List ℕ → DomainRead → List ℕ → Type 0

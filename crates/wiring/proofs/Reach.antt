@@ -7,9 +7,9 @@ use Prim.Native.Nat.{ℕ, zero, suc, _≤_, _<_}
 use native.Mathlib.Omega.{arith}
 use lib.ListN.{length}
 use lib.Dec.{T}
-use Rattle.wiring.specs.Lists.{upTo, any, keep, isIn, In, Below, last}
+use Rattle.files.specs.Lists.{upTo, any, keep, isIn, In, Below, last}
 use Rattle.wiring.specs.Graph.{Steps, Tail, Chain, near, reach, reached}
-use Rattle.wiring.proofs.Members.{or-cases, or-left, or-right, in-cast, in?, all-cons, any-of, of-any, isIn-of, of-isIn, keeps, kept, in-upTo, numbers-below, at-most}
+use Rattle.files.proofs.Members.{or-cases, or-left, or-right, in-cast, in?, all-cons, any-of, of-any, isIn-of, of-isIn, keeps, kept, in-upTo, numbers-below, at-most}
 use Rattle.wiring.proofs.Walks.{rest-of}
 
 module _ (n : ℕ) (adj : ℕ → ℕ → Bool) where

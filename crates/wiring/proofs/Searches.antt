@@ -10,11 +10,11 @@ use lib.ListN.{length, getD, drop, drop-of-length-le}
 use lib.Seq.{drop-cons}
 use Rattle.frames.specs.Refusals.{Result, refused, good, then, refusal}
 use Rattle.wiring.specs.declared.Check.{Check}
-use Rattle.wiring.specs.Lists.{any}
-use Rattle.wiring.specs.Domain.{Domain, noExpander, expanderAt}
+use Rattle.files.specs.Lists.{any}
+use Rattle.files.specs.Domain.{Domain, noExpander, expanderAt}
 use Rattle.wiring.specs.Causes.{Place, phyPlaces, placesFrom, firstIn, firstOf, wiredDomain}
 use Rattle.wiring.specs.Checks.{checkAnswer, causeOf}
-use Rattle.wiring.proofs.Members.{by-test}
+use Rattle.files.proofs.Members.{by-test}
 
 -- one turn of `any`, also past the end
 module _ {A : Type 0} (f : A → Bool) (e : A) where

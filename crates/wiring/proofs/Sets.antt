@@ -12,10 +12,10 @@ use lib.ListN.{length, length-append}
 use lib.Pow.{high, low, field, mod-mod-pow}
 use lib.Bits.{bitAnd, and-mask, and-block, and-self, and-zero-l, and-zero-r}
 use lib.Count.{ones, ones-cat}
-use Rattle.wiring.specs.Lists.{numbers, upTo, keep}
-use Rattle.wiring.specs.Domain.{Domain}
+use Rattle.files.specs.Lists.{numbers, upTo, keep}
+use Rattle.files.specs.Domain.{Domain}
 use Rattle.wiring.specs.Neighbours.{neighbours, setOf, neighbourWord, neighbourWords, bitsIn}
-use Rattle.wiring.proofs.Members.{by-test, keep-append, upTo-last}
+use Rattle.files.proofs.Members.{by-test, keep-append, upTo-last}
 
 -- bit j is set for the j below n of which the test holds
 unfoldable pub wordBelow : (ℕ → Bool) → ℕ → ℕ

@@ -7,9 +7,9 @@ use mathlib.Core.Bool.{Bool}
 use Prim.Native.Nat.{ℕ, _<_}
 use native.Mathlib.Decide.{ℕ-discrete}
 use lib.Dec.{T}
-use Rattle.wiring.specs.Lists.{In, Distinct, Below, last}
+use Rattle.files.specs.Lists.{In, Distinct, Below, last}
 use Rattle.wiring.specs.Graph.{Steps, Symmetric, Loop, self, ring, Tail, Chain}
-use Rattle.wiring.proofs.Members.{in-cast, in?, last-in, all-cons}
+use Rattle.files.proofs.Members.{in-cast, in?, last-in, all-cons}
 
 -- x is not the first of the list
 abbrev pub Skip : ℕ → List ℕ → Type 0

@@ -6,9 +6,9 @@ use mathlib.Core.Bool.{Bool, false, cond, _||_}
 use mathlib.Core.List.{List}
 use lib.ListN.{length, getD, take}
 use lib.Dec.{T, eqb, ltb}
-use Rattle.wiring.specs.declared.Phy.{Phy}
-use Rattle.wiring.specs.Lists.{any}
-use Rattle.wiring.specs.Domain.{Domain, expanderAt, phyAt, addressOf, attached, toEnd, toExpander, bears, numberOf}
+use Rattle.files.specs.declared.Phy.{Phy}
+use Rattle.files.specs.Lists.{any}
+use Rattle.files.specs.Domain.{Domain, expanderAt, phyAt, addressOf, attached, toEnd, toExpander, bears, numberOf}
 use Rattle.wiring.specs.Causes.{endAt}
 use Rattle.wiring.specs.SearchTree.{Tree, Lowest}
 

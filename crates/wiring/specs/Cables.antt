@@ -5,9 +5,9 @@ use mathlib.Core.Bool.{Bool, _&&_}
 use mathlib.Core.List.{List}
 use lib.ListN.{length, getD}
 use lib.Dec.{eqb}
-use Rattle.wiring.specs.declared.Phy.{Phy}
-use Rattle.wiring.specs.Lists.{any}
-use Rattle.wiring.specs.Domain.{Domain, expanderAt, addressOf, toExpander, numberOf}
+use Rattle.files.specs.declared.Phy.{Phy}
+use Rattle.files.specs.Lists.{any}
+use Rattle.files.specs.Domain.{Domain, expanderAt, addressOf, toExpander, numberOf}
 use Rattle.wiring.specs.Rounds.{hasBit}
 use Rattle.wiring.specs.Addresses.{IndexedFirst}
 

@@ -5,11 +5,11 @@ use mathlib.Core.List.{List, [], _∷_, _++_}
 use lib.ListN.{length, take}
 use lib.Dec.{eqb, ltb}
 use Rattle.frames.specs.Refusals.{Result, refused, good, then, refusal}
-use Rattle.wiring.specs.declared.Setting.{Setting}
-use Rattle.wiring.specs.declared.Phy.{Phy}
-use Rattle.wiring.specs.Lists.{any}
-use Rattle.wiring.specs.Domain.{Expander, Domain, expanderAt, phyAt, addressOf, farOf, attributeOf, routes, attached, toEnd, toExpander, numberOf}
-use Rattle.wiring.specs.File.{domainRead}
+use Rattle.files.specs.declared.Setting.{Setting}
+use Rattle.files.specs.declared.Phy.{Phy}
+use Rattle.files.specs.Lists.{any}
+use Rattle.files.specs.Domain.{Expander, Domain, expanderAt, phyAt, addressOf, farOf, attributeOf, routes, attached, toEnd, toExpander, numberOf}
+use Rattle.files.specs.File.{domainRead}
 
 -- the far end of a phy: a vacant phy where it is missing
 abbrev pub farPhy : Domain → Phy → Phy

@@ -5,8 +5,8 @@ use mathlib.Core.List.{List}
 use lib.ListN.{length}
 use lib.Dec.{leb}
 use Rattle.frames.specs.Refusals.{Result, good, unless, refusal}
-use Rattle.wiring.specs.Lists.{upTo}
-use Rattle.wiring.specs.Domain.{Domain}
+use Rattle.files.specs.Lists.{upTo}
+use Rattle.files.specs.Domain.{Domain}
 use Rattle.wiring.specs.Graph.{strip}
 use Rattle.wiring.specs.Neighbours.{neighbours}
 use Rattle.wiring.specs.Devices.{ChainIn}

@@ -1,19 +1,19 @@
--- Causes by number, the answers of checks, tests of one phy, and an expander's second word in rows.
-use Prim.Native.Nat.{ℕ, _*_, _/_, _%_, _≤_, _<_, min}
+-- Causes by number, the answers of checks, and tests of one phy.
+use Prim.Native.Nat.{ℕ, _*_, _≤_, _<_}
 use mathlib.Core.Path.{_≡_}
 use mathlib.Core.Bool.{Bool, false, cond, _&&_}
 use mathlib.Core.List.{List}
 use lib.ListN.{length}
 use lib.Dec.{eqb, leb}
 use Rattle.frames.specs.Refusals.{Result, refused, good, unless, refusal}
-use Rattle.wiring.specs.declared.Setting.{Setting}
+use Rattle.files.specs.declared.Setting.{Setting}
 use Rattle.wiring.specs.declared.Check.{Check}
 use Rattle.wiring.specs.declared.Check.the-variants.{Refused, Passed}
-use Rattle.wiring.specs.Domain.{Domain, expanderAt}
+use Rattle.files.specs.Domain.{Domain, expanderAt}
 use Rattle.wiring.specs.Causes.{unanswered, claimed, clashing, fixed, phyPlaces, firstIn}
 use Rattle.wiring.specs.Links.{checkedDomain}
 use Rattle.wiring.specs.Addresses.{slotsBefore, IndexRoom}
-use Rattle.wiring.specs.File.{domainRead}
+use Rattle.files.specs.File.{domainRead}
 
 -- what the answer says in document 01's terms: the domain itself where it passed
 abbrev pub checkAnswer : Domain → Check → Result Domain
@@ -31,12 +31,6 @@ causeOf k d i p =
 -- number k, at the lowest phy of expander i at which cause k holds
 abbrev pub firstAt : ℕ → Domain → ℕ → Result Domain
 firstAt k d i = firstIn k (causeOf k d) (phyPlaces i 0 (length (expanderAt d i .phys))) d
-
--- w is the second word of expander i's row, or 0 where there is no such expander
-pub record HeadIn (d : Domain) (i w : ℕ) : Type 0 where
-  pub indexes : w % 65536 ≡ expanderAt d i .indexes
-  pub phys : min 128 (w / 65536 % 256) ≡ length (expanderAt d i .phys)
-  pub configurable : w / 16777216 % 2 ≡ expanderAt d i .configurable
 
 -- phy p is one of expander i, and cause k holds at no lower one
 pub record Testable (k : ℕ) (d : Domain) (i p : ℕ) : Type 0 where

@@ -2,8 +2,8 @@
 use Prim.Native.Nat.{ℕ}
 use mathlib.Core.Bool.{Bool, not, _&&_}
 use lib.Dec.{eqb}
-use Rattle.wiring.specs.declared.Phy.{Phy}
-use Rattle.wiring.specs.Domain.{addressOf, attached, routes}
+use Rattle.files.specs.declared.Phy.{Phy}
+use Rattle.files.specs.Domain.{addressOf, attached, routes}
 
 -- attached and subtractive
 abbrev pub subtractive : Phy → Bool

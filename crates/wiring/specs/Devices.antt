@@ -5,7 +5,7 @@ use mathlib.Core.Logic.{_⊎_}
 use mathlib.Core.List.{List, [], _∷_}
 use lib.ListN.{length}
 use lib.Dec.{T}
-use Rattle.wiring.specs.Domain.{Domain, expanderAt, phyAt, addressOf, routes, toEnd, toExpander}
+use Rattle.files.specs.Domain.{Domain, expanderAt, phyAt, addressOf, routes, toEnd, toExpander}
 use Rattle.wiring.specs.Causes.{farPhy}
 use Rattle.wiring.specs.Graph.{Loop, Chain}
 use Rattle.wiring.specs.Neighbours.{neighbours}

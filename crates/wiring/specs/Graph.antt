@@ -4,7 +4,7 @@ use mathlib.Core.Path.{_≡_}
 use mathlib.Core.Bool.{Bool, true, false, _||_}
 use mathlib.Core.List.{List, [], _∷_}
 use lib.Dec.{T}
-use Rattle.wiring.specs.Lists.{upTo, any, keep, isIn, Distinct, Below, last}
+use Rattle.files.specs.Lists.{upTo, any, keep, isIn, Distinct, Below, last}
 
 -- in x ∷ l each is adjacent to the next
 module _ (adj : ℕ → ℕ → Bool) where

@@ -1,15 +1,6 @@
 pub mod Frames
-pub mod Lists
-pub mod Domain
 pub mod Addresses
 pub mod SearchTree
-pub mod Settings
-pub mod File
-pub mod ShortFile
-pub mod Read
-pub mod Units
-pub mod Rows
-pub mod Fill
 pub mod Causes
 pub mod Checks
 pub mod Graph
@@ -20,5 +11,4 @@ pub mod Cables
 pub mod Links
 pub mod Devices
 pub mod Chains
-pub mod PhySet
 pub mod Tested

@@ -4,8 +4,8 @@ use mathlib.Core.Bool.{Bool, cond}
 use mathlib.Core.List.{List, [], _∷_}
 use lib.ListN.{length}
 use Rattle.frames.specs.Refusals.{Result, refused, good, unless, then, refusal}
-use Rattle.wiring.specs.Lists.{upTo}
-use Rattle.wiring.specs.Domain.{Domain}
+use Rattle.files.specs.Lists.{upTo}
+use Rattle.files.specs.Domain.{Domain}
 use Rattle.wiring.specs.Causes.{wiredDomain}
 use Rattle.wiring.specs.Graph.{loopfree, reached}
 use Rattle.wiring.specs.Neighbours.{neighbours}

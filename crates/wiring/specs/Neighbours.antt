@@ -7,11 +7,11 @@ use lib.ListN.{length, drop}
 use lib.Dec.{eqb, leb}
 use lib.Count.{ones}
 use Rattle.frames.specs.Refusals.{Result, refused, good, unless, then, refusal}
-use Rattle.wiring.specs.declared.Setting.{Setting}
+use Rattle.files.specs.declared.Setting.{Setting}
 use Rattle.wiring.specs.declared.Wiring.{Wiring}
 use Rattle.wiring.specs.declared.Wiring.the-variants.{Refused, Bits}
-use Rattle.wiring.specs.Lists.{upTo, any, keep}
-use Rattle.wiring.specs.Domain.{Domain, expanderAt, addressOf, toExpander}
+use Rattle.files.specs.Lists.{upTo, any, keep}
+use Rattle.files.specs.Domain.{Domain, expanderAt, addressOf, toExpander}
 use Rattle.wiring.specs.Causes.{wired}
 
 -- a phy of expander i bears type 2 or 3 and expander j's address

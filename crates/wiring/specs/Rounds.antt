@@ -7,8 +7,8 @@ use lib.ListN.{length, getD}
 use lib.Dec.{eqb, leb}
 use lib.Bits.{bitAnd}
 use lib.Count.{ones}
-use Rattle.wiring.specs.Lists.{upTo, keep, isIn}
-use Rattle.wiring.specs.Domain.{Domain}
+use Rattle.files.specs.Lists.{upTo, keep, isIn}
+use Rattle.files.specs.Domain.{Domain}
 use Rattle.wiring.specs.Graph.{stays, near}
 use Rattle.wiring.specs.Neighbours.{neighbours, setOf, neighbourWord}
 

@@ -6,10 +6,10 @@ use mathlib.Core.List.{List}
 use lib.ListN.{length}
 use lib.Dec.{T}
 use Rattle.frames.specs.Refusals.{good}
-use Rattle.wiring.specs.declared.Setting.{Setting}
-use Rattle.wiring.specs.Domain.{Domain}
-use Rattle.wiring.specs.Settings.{InRange}
-use Rattle.wiring.specs.File.{domainRead}
+use Rattle.files.specs.declared.Setting.{Setting}
+use Rattle.files.specs.Domain.{Domain}
+use Rattle.files.specs.Settings.{InRange}
+use Rattle.files.specs.File.{domainRead}
 use Rattle.wiring.specs.Causes.{unanswered, claimed, clashing, fixed}
 use Rattle.wiring.specs.Devices.{LoopIn, ChainIn}
 
@@ -42,10 +42,6 @@ pub record NoWiringCause (setting : Setting) (file : List ℕ) (room : ℕ) : Ty
   pub passed : Passed domain
   -- 16: lent buffer shorter than needed
   pub enough : length domain ≤ room
-
--- 1 to 6, and 22: what reading a file tests
-abbrev pub readNumber : ℕ → Type 0
-readNumber n = ((1 ≤ n) × (n ≤ 6)) ⊎ (n ≡ 22)
 
 -- 1 to 10, 16, and 22
 abbrev pub wiringNumber : ℕ → Type 0

@@ -1,8 +1,7 @@
 // Who has an address: the expander that has it, whether an end device at an earlier expander has it, and the
 // lowest phy of an expander with the same attached address. Search trees of the addresses answer exactly, for
 // all rows; addresses that share a key cost time alone.
-use crate::Phy;
-use crate::view;
+use files::Phy;
 use frames::ExpanderNumber;
 use frames::PhyId;
 ghost use mathlib.Core.Path.{_≡_};
@@ -10,8 +9,8 @@ ghost use mathlib.Core.Bool.{cond};
 ghost use Prim.Native.Nat.{_+_, _-_, _*_, _≤_, _<_};
 ghost use lib.Dec.{eqb};
 ghost use lib.ListN.{length, getD};
-ghost use Rattle.wiring.specs.Domain.{expanderAt, phyAt};
-ghost use Rattle.wiring.specs.Rows.{domainIn};
+ghost use Rattle.files.specs.Domain.{expanderAt, phyAt};
+ghost use Rattle.files.specs.Rows.{domainIn};
 ghost use Rattle.wiring.specs.SearchTree.{keyIn, WalkTo};
 ghost use Rattle.wiring.specs.Addresses.{slotsBefore, slotOf, slotWord, addressFrom, farNumber, lowestPhy, tells, attachedAt, KeptBut, IndexRoom, IndexPut};
 ghost use Rattle.wiring.specs.Addresses.{Searchable, Addable, AddedTo, FirstsTo, LowsBefore, LowsTo};
@@ -31,10 +30,10 @@ fn slot_word(rows: &[u64], t: usize) -> u64
     ensures { λ r. ⌜ r ≡ getD (now (rows .entry)) (slotWord t) 0 ⌝ }
 {
     if t < 64 {
-        return view::word_at(rows, 258 * t);
+        return files::word_at(rows, 258 * t);
     }
     let k = t - 64;
-    view::word_at(rows, 2 * k + 2 + 2 * (k / 128))
+    files::word_at(rows, 2 * k + 2 + 2 * (k / 128))
 }
 
 // The cell at which the walk for address s ends, in a tree of slots from `from` on.
@@ -77,12 +76,12 @@ fn add_low(rows: &[u64], cells: &mut [u16], i: ExpanderNumber, p: PhyId, f: Phy,
     requires { ⌜ LowsTo (domainIn (now rows)) (i .0) (p .0) (now cells) (now low) × ((f ≡ phyAt (domainIn (now rows)) (i .0) (p .0)) × (p .0 < length (expanderAt (domainIn (now rows)) (i .0) .phys))) ⌝ }
     ensures { λ _. ⌜ LowsTo (domainIn (now (rows .entry))) (i .0) (p .0 + 1) (now (cells .exit)) (now (low .exit)) × KeptBut (attachedAt (domainIn (now (rows .entry)))) (now (low .entry)) (now (low .exit)) ⌝ }
 {
-    if view::phy_type(f) == 0 {
+    if files::phy_type(f) == 0 {
         return;
     }
     let from = 64 + 128 * (i.0 as usize);
     let t = from + (p.0 as usize);
-    let r = add(rows, from, cells, 128, t, view::phy_address(f));
+    let r = add(rows, from, cells, 128, t, files::phy_address(f));
     let k = 128 * (i.0 as usize) + (p.0 as usize);
     low[k] = (r - from) as u8;
 }
@@ -92,11 +91,11 @@ fn put_low(rows: &[u64], i: ExpanderNumber, low: &mut [u8])
     requires { ⌜ LowsBefore (domainIn (now rows)) (i .0) (now low) ⌝ }
     ensures { λ _. ⌜ LowsBefore (domainIn (now (rows .entry))) (i .0 + 1) (now (low .exit)) × KeptBut (attachedAt (domainIn (now (rows .entry)))) (now (low .entry)) (now (low .exit)) ⌝ }
 {
-    let n = view::phy_count(rows, i);
+    let n = files::phy_count(rows, i);
     let mut cells = [0u16; 384];
     let mut p: u8 = 0;
     while p < n {
-        let f = view::phy_below(rows, i, PhyId(p));
+        let f = files::phy_below(rows, i, PhyId(p));
         add_low(rows, &mut cells[..], i, PhyId(p), f, low);
         p += 1;
     }
@@ -107,11 +106,11 @@ fn put_expanders(rows: &[u64], cells: &mut [u16], size: usize, first: &mut [u16]
     requires { ⌜ FirstsTo (domainIn (now rows)) 0 size (now cells) (now first) ⌝ }
     ensures { λ _. ⌜ FirstsTo (domainIn (now (rows .entry))) 64 size (now (cells .exit)) (now (first .exit)) × KeptBut (tells (domainIn (now (rows .entry)))) (now (first .entry)) (now (first .exit)) ⌝ }
 {
-    let n = view::expander_count(rows);
+    let n = files::expander_count(rows);
     let mut j: u8 = 0;
     while j < n {
         let t = j as usize;
-        let s = view::expander_address(rows, ExpanderNumber(j));
+        let s = files::expander_address(rows, ExpanderNumber(j));
         first[t] = add(rows, 0, cells, size, t, s) as u16;
         j += 1;
     }
@@ -141,12 +140,12 @@ fn add_first(
     requires { ⌜ FirstsTo (domainIn (now rows)) (slotOf (i .0) (p .0)) size (now cells) (now first) × ((f ≡ phyAt (domainIn (now rows)) (i .0) (p .0)) × (p .0 < length (expanderAt (domainIn (now rows)) (i .0) .phys))) ⌝ }
     ensures { λ _. ⌜ FirstsTo (domainIn (now (rows .entry))) (slotOf (i .0) (p .0 + 1)) size (now (cells .exit)) (now (first .exit)) × KeptBut (tells (domainIn (now (rows .entry)))) (now (first .entry)) (now (first .exit)) ⌝ }
 {
-    let device = view::phy_type(f);
+    let device = files::phy_type(f);
     if device == 0 {
         return;
     }
     let t = 64 + 128 * (i.0 as usize) + (p.0 as usize);
-    let s = view::phy_address(f);
+    let s = files::phy_address(f);
     if device == 1 {
         first[t] = add(rows, 0, cells, size, t, s) as u16;
         return;
@@ -160,10 +159,10 @@ fn put_first(rows: &[u64], cells: &mut [u16], size: usize, i: ExpanderNumber, fi
     requires { ⌜ FirstsTo (domainIn (now rows)) (slotsBefore (i .0)) size (now cells) (now first) × (i .0 < length (domainIn (now rows))) ⌝ }
     ensures { λ _. ⌜ FirstsTo (domainIn (now (rows .entry))) (slotsBefore (i .0 + 1)) size (now (cells .exit)) (now (first .exit)) × KeptBut (tells (domainIn (now (rows .entry)))) (now (first .entry)) (now (first .exit)) ⌝ }
 {
-    let n = view::phy_count(rows, i);
+    let n = files::phy_count(rows, i);
     let mut p: u8 = 0;
     while p < n {
-        let f = view::phy_below(rows, i, PhyId(p));
+        let f = files::phy_below(rows, i, PhyId(p));
         add_first(rows, cells, size, i, PhyId(p), f, first);
         p += 1;
     }
@@ -175,7 +174,7 @@ fn put_all(rows: &[u64], cells: &mut [u16], size: usize, first: &mut [u16], low:
     ensures { λ _. ⌜ IndexPut (domainIn (now (rows .entry))) (now (first .entry)) (now (low .entry)) (now (first .exit)) (now (low .exit)) ⌝ }
 {
     put_expanders(rows, cells, size, first);
-    let n = view::expander_count(rows);
+    let n = files::expander_count(rows);
     let mut i: u8 = 0;
     while i < n {
         put_first(rows, cells, size, ExpanderNumber(i), first);
@@ -189,7 +188,7 @@ fn index_few(rows: &[u64], first: &mut [u16], low: &mut [u8])
     requires { ⌜ IndexRoom (domainIn (now rows)) (now first) (now low) × (length (domainIn (now rows)) ≤ 8) ⌝ }
     ensures { λ _. ⌜ IndexPut (domainIn (now (rows .entry))) (now (first .entry)) (now (low .entry)) (now (first .exit)) (now (low .exit)) ⌝ }
 {
-    if view::expander_count(rows) <= 2 {
+    if files::expander_count(rows) <= 2 {
         let mut cells = [0u16; 896];
         put_all(rows, &mut cells[..], 256, first, low);
         return;
@@ -218,7 +217,7 @@ pub(crate) fn put_index(rows: &[u64], first: &mut [u16], low: &mut [u8])
         put_index(&rows[..16512], first, low);
         return;
     }
-    if view::expander_count(rows) <= 8 {
+    if files::expander_count(rows) <= 8 {
         index_few(rows, first, low);
         return;
     }
@@ -238,7 +237,7 @@ pub fn far_number(rows: &[u64], first: &[u16], i: ExpanderNumber, p: PhyId) -> E
     if v < 64 {
         return ExpanderNumber(v as u8);
     }
-    ExpanderNumber(view::expander_count(rows))
+    ExpanderNumber(files::expander_count(rows))
 }
 
 // The lowest phy of expander i with the attached address of its phy p, where that is attached. 0 past the end of
@@ -246,5 +245,5 @@ pub fn far_number(rows: &[u64], first: &[u16], i: ExpanderNumber, p: PhyId) -> E
 pub fn lowest_phy(low: &[u8], i: ExpanderNumber, p: PhyId) -> PhyId
     ensures { λ r. ⌜ r .0 ≡ lowestPhy (now (low .entry)) (i .0) (p .0) ⌝ }
 {
-    PhyId(view::byte_at(low, 128 * (i.0 as usize) + (p.0 as usize)))
+    PhyId(files::byte_at(low, 128 * (i.0 as usize) + (p.0 as usize)))
 }

@@ -1,18 +1,17 @@
 // Causes 7 to 10 at one phy, the lowest phy at which one of them holds, and causes 7 to 10 in order.
 use crate::Check;
-use crate::Phy;
 use crate::addresses;
 use crate::clashes;
 use crate::refusals;
-use crate::view;
+use files::Phy;
 use frames::ExpanderNumber;
 use frames::PhyId;
 ghost use mathlib.Core.Path.{_≡_};
 ghost use Prim.Native.Nat.{_<_};
 ghost use lib.ListN.{length};
-ghost use Rattle.wiring.specs.Domain.{expanderAt};
+ghost use Rattle.files.specs.Domain.{expanderAt};
 ghost use Rattle.wiring.specs.Addresses.{IndexedFirst, Indexed};
-ghost use Rattle.wiring.specs.Rows.{domainIn};
+ghost use Rattle.files.specs.Rows.{domainIn};
 ghost use Rattle.wiring.specs.Causes.{names, unanswered, claimed, fixed, firstOf, wiredDomain};
 ghost use Rattle.wiring.specs.Checks.{checkAnswer, causeOf, firstAt, Testable};
 
@@ -20,13 +19,13 @@ ghost use Rattle.wiring.specs.Checks.{checkAnswer, causeOf, firstAt, Tes
 fn is_naming(s: u64, p: PhyId, f: Phy) -> bool
     ensures { λ r. ⌜ r ≡ names s (p .0) f ⌝ }
 {
-    if view::phy_type(f) < 2 {
+    if files::phy_type(f) < 2 {
         return false;
     }
-    if view::phy_address(f) != s {
+    if files::phy_address(f) != s {
         return false;
     }
-    view::phy_far(f).0 == p.0
+    files::phy_far(f).0 == p.0
 }
 
 // Cause 7: type 2 or 3 on a direct phy, or far end missing or not naming this phy back.
@@ -34,16 +33,16 @@ fn is_unanswered(rows: &[u64], first: &[u16], i: ExpanderNumber, p: PhyId) -> bo
     requires { ⌜ IndexedFirst (domainIn (now rows)) (now first) × (p .0 < length (expanderAt (domainIn (now rows)) (i .0) .phys)) ⌝ }
     ensures { λ r. ⌜ r ≡ unanswered (domainIn (now (rows .entry))) (i .0) (p .0) ⌝ }
 {
-    let f = view::phy_below(rows, i, p);
-    if view::phy_type(f) < 2 {
+    let f = files::phy_below(rows, i, p);
+    if files::phy_type(f) < 2 {
         return false;
     }
-    if view::phy_attribute(f) == 0 {
+    if files::phy_attribute(f) == 0 {
         return true;
     }
     let j = addresses::far_number(rows, first, i, p);
-    let g = view::phy_at(rows, j, view::phy_far(f));
-    !is_naming(view::expander_address(rows, i), p, g)
+    let g = files::phy_at(rows, j, files::phy_far(f));
+    !is_naming(files::expander_address(rows, i), p, g)
 }
 
 // Cause 8: type 1 bearing an expander's address, or that of an end device at an earlier expander.
@@ -51,7 +50,7 @@ fn is_claimed(rows: &[u64], first: &[u16], i: ExpanderNumber, p: PhyId) -> bool
     requires { ⌜ IndexedFirst (domainIn (now rows)) (now first) × (p .0 < length (expanderAt (domainIn (now rows)) (i .0) .phys)) ⌝ }
     ensures { λ r. ⌜ r ≡ claimed (domainIn (now (rows .entry))) (i .0) (p .0) ⌝ }
 {
-    if view::phy_type(view::phy_below(rows, i, p)) != 1 {
+    if files::phy_type(files::phy_below(rows, i, p)) != 1 {
         return false;
     }
     let from = 64 + 128 * (i.0 as usize);
@@ -63,10 +62,10 @@ fn is_fixed(rows: &[u64], i: ExpanderNumber, p: PhyId) -> bool
     requires { ⌜ p .0 < length (expanderAt (domainIn (now rows)) (i .0) .phys) ⌝ }
     ensures { λ r. ⌜ r ≡ fixed (domainIn (now (rows .entry))) (i .0) (p .0) ⌝ }
 {
-    if view::phy_attribute(view::phy_below(rows, i, p)) != 2 {
+    if files::phy_attribute(files::phy_below(rows, i, p)) != 2 {
         return false;
     }
-    view::configurable_bit(rows, i) == 0
+    files::configurable_bit(rows, i) == 0
 }
 
 // Whether cause k holds at phy p of expander i, where it does not hold at a lower phy of it.
@@ -94,7 +93,7 @@ fn first_phy(rows: &[u64], first: &[u16], low: &[u8], k: u8, i: ExpanderNumber) 
     requires { ⌜ Indexed (domainIn (now rows)) (now first) (now low) ⌝ }
     ensures { λ r. ⌜ checkAnswer (domainIn (now (rows .entry))) r ≡ firstAt k (domainIn (now (rows .entry))) (i .0) ⌝ }
 {
-    let n = view::phy_count(rows, i);
+    let n = files::phy_count(rows, i);
     let mut p: u8 = 0;
     while p < n {
         if cause_holds(rows, first, low, k, i, PhyId(p)) {
@@ -110,7 +109,7 @@ pub(crate) fn first_of(rows: &[u64], first: &[u16], low: &[u8], k: u8) -> Check
     requires { ⌜ Indexed (domainIn (now rows)) (now first) (now low) ⌝ }
     ensures { λ r. ⌜ checkAnswer (domainIn (now (rows .entry))) r ≡ firstOf k (causeOf k (domainIn (now (rows .entry)))) (domainIn (now (rows .entry))) ⌝ }
 {
-    let n = view::expander_count(rows);
+    let n = files::expander_count(rows);
     let mut i: u8 = 0;
     while i < n {
         let f = first_phy(rows, first, low, k, ExpanderNumber(i));

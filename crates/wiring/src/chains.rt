@@ -2,11 +2,10 @@
 use crate::Check;
 use crate::refusals;
 use crate::rounds;
-use crate::view;
 use frames::ExpanderNumber;
 use frames::PhyId;
 ghost use mathlib.Core.Path.{_≡_};
-ghost use Rattle.wiring.specs.Rows.{domainIn};
+ghost use Rattle.files.specs.Rows.{domainIn};
 ghost use Rattle.wiring.specs.Rounds.{Held};
 ghost use Rattle.wiring.specs.Chains.{unlong};
 ghost use Rattle.wiring.specs.Checks.{checkAnswer};
@@ -18,7 +17,7 @@ pub(crate) fn check_chains(rows: &[u64], words: &[u64], chain: u8) -> Check
     requires { ⌜ Held (domainIn (now rows)) (now words) ⌝ }
     ensures { λ r. ⌜ checkAnswer (domainIn (now (rows .entry))) r ≡ unlong chain (domainIn (now (rows .entry))) ⌝ }
 {
-    let n = view::expander_count(rows);
+    let n = files::expander_count(rows);
     if n <= chain {
         return Check::Passed;
     }

@@ -1,15 +1,14 @@
 // Cause 9: a phy and a lower phy of its expander have the same address and other attributes, or are both
 // subtractive and have other addresses.
-use crate::Phy;
 use crate::addresses;
-use crate::view;
+use files::Phy;
 use frames::ExpanderNumber;
 use frames::PhyId;
 ghost use mathlib.Core.Path.{_≡_};
 ghost use lib.ListN.{take};
-ghost use Rattle.wiring.specs.Lists.{any};
-ghost use Rattle.wiring.specs.Domain.{expanderAt};
-ghost use Rattle.wiring.specs.Rows.{domainIn};
+ghost use Rattle.files.specs.Lists.{any};
+ghost use Rattle.files.specs.Domain.{expanderAt};
+ghost use Rattle.files.specs.Rows.{domainIn};
 ghost use Rattle.wiring.specs.Causes.{clashing};
 ghost use Rattle.wiring.specs.Checks.{Testable};
 ghost use Rattle.wiring.specs.Clashes.{subtractive, leadsElsewhere};
@@ -19,10 +18,10 @@ ghost use Rattle.wiring.specs.Addresses.{IndexedLow};
 fn is_subtractive(f: Phy) -> bool
     ensures { λ r. ⌜ r ≡ subtractive f ⌝ }
 {
-    if view::phy_type(f) == 0 {
+    if files::phy_type(f) == 0 {
         return false;
     }
-    view::phy_attribute(f) == 1
+    files::phy_attribute(f) == 1
 }
 
 // Has an attached subtractive phy of expander i below p another address than s? No two of these clash, so the
@@ -34,9 +33,9 @@ fn has_other_way(rows: &[u64], i: ExpanderNumber, p: PhyId, s: u64) -> bool
     let mut q = p.0;
     while q > 0 {
         q -= 1;
-        let f = view::phy_below(rows, i, PhyId(q));
+        let f = files::phy_below(rows, i, PhyId(q));
         if is_subtractive(f) {
-            return view::phy_address(f) != s;
+            return files::phy_address(f) != s;
         }
     }
     false
@@ -48,17 +47,17 @@ pub(crate) fn is_clashing(rows: &[u64], low: &[u8], i: ExpanderNumber, p: PhyId)
     requires { ⌜ IndexedLow (domainIn (now rows)) (now low) × Testable 9 (domainIn (now rows)) (i .0) (p .0) ⌝ }
     ensures { λ r. ⌜ r ≡ clashing (domainIn (now (rows .entry))) (i .0) (p .0) ⌝ }
 {
-    let f = view::phy_below(rows, i, p);
-    let a = view::phy_attribute(f);
-    if view::phy_type(f) == 0 {
+    let f = files::phy_below(rows, i, p);
+    let a = files::phy_attribute(f);
+    if files::phy_type(f) == 0 {
         return false;
     }
     let q = addresses::lowest_phy(low, i, p);
-    if view::phy_attribute(view::phy_below(rows, i, q)) != a {
+    if files::phy_attribute(files::phy_below(rows, i, q)) != a {
         return true;
     }
     if a != 1 {
         return false;
     }
-    has_other_way(rows, i, p, view::phy_address(f))
+    has_other_way(rows, i, p, files::phy_address(f))
 }

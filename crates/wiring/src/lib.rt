@@ -1,45 +1,48 @@
-// Reads a domain file into rows, and judges its wiring.
+// Judges the wiring of a domain in rows.
 mod addresses;
 mod causes;
 mod chains;
 mod clashes;
-mod file;
 mod links;
 mod neighbours;
 mod refusals;
 mod rounds;
-mod rows;
-mod settings;
-mod units;
-mod view;
 mod wiring_call;
 
 pub use addresses::far_number;
 pub use addresses::lowest_phy;
 pub use links::check_domain;
-pub use rows::clear;
-pub use rows::head_word;
-pub use rows::phy_word;
-pub use rows::read_domain;
-pub use rows::set_phy;
-pub use rows::stated_count;
-pub use settings::is_in_range;
-pub use settings::widest;
-pub use units::is_ranged;
-pub use units::is_within;
-pub use units::test_unit;
-pub use view::configurable_bit;
-pub use view::expander_address;
-pub use view::expander_count;
-pub use view::index_count;
-pub use view::phy_address;
-pub use view::phy_at;
-pub use view::phy_attribute;
-pub use view::phy_below;
-pub use view::phy_count;
-pub use view::phy_far;
-pub use view::phy_type;
 pub use wiring_call::wire;
+
+// What the layers above use of files.
+pub use files::DomainRead;
+pub use files::ExpanderRead;
+pub use files::ExpanderUnit;
+pub use files::Phy;
+pub use files::PhyFields;
+pub use files::Setting;
+pub use files::clear;
+pub use files::configurable_bit;
+pub use files::expander_address;
+pub use files::expander_count;
+pub use files::head_word;
+pub use files::index_count;
+pub use files::is_in_range;
+pub use files::is_ranged;
+pub use files::is_within;
+pub use files::phy_address;
+pub use files::phy_at;
+pub use files::phy_attribute;
+pub use files::phy_below;
+pub use files::phy_count;
+pub use files::phy_far;
+pub use files::phy_type;
+pub use files::phy_word;
+pub use files::read_domain;
+pub use files::set_phy;
+pub use files::stated_count;
+pub use files::test_unit;
+pub use files::widest;
 
 // What the layers above use of frames.
 pub use frames::Discover;
@@ -66,61 +69,6 @@ pub use frames::read_discover;
 pub use frames::read_general;
 pub use frames::read_general_sas2;
 pub use frames::read_route;
-
-// A course's setting: the most expanders of a domain, the most phys of an expander, and the longest chain
-// in expanders.
-pub struct Setting {
-    pub expanders: u8,
-    pub phys: u8,
-    pub chain: u8,
-}
-
-// The fields of a phy that is not vacant: attached device type, routing attribute, attached
-// address, attached phy identifier.
-pub struct PhyFields {
-    pub device: u8,
-    pub attribute: u8,
-    pub address: u64,
-    pub far: PhyId,
-}
-
-// A vacant phy keeps its function result.
-pub enum Phy {
-    Vacant(u8),
-    Present(PhyFields),
-}
-
-// The fields of an expander's unit: address, route indexes R, number of phys, configurable bit.
-pub struct ExpanderUnit {
-    pub address: u64,
-    pub indexes: u16,
-    pub phys: u8,
-    pub configurable: u8,
-}
-
-// What reading a domain file answers: the number of expanders.
-pub enum DomainRead {
-    Refused(Refusal),
-    Expanders(u8),
-}
-
-// What reading a phy's unit answers: the phy, and the place after the unit.
-pub enum PhyRead {
-    Refused(Refusal),
-    Read(Phy, usize),
-}
-
-// What reading an expander's unit answers: the unit, and the place after it.
-pub enum ExpanderRead {
-    Refused(Refusal),
-    Read(ExpanderUnit, usize),
-}
-
-// What testing the phys of an expander answers: the place after them.
-pub enum PhysCheck {
-    Refused(Refusal),
-    Passed(usize),
-}
 
 // What testing a domain for some causes answers.
 pub enum Check {

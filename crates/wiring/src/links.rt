@@ -6,13 +6,12 @@ use crate::chains;
 use crate::neighbours;
 use crate::refusals;
 use crate::rounds;
-use crate::view;
 use frames::ExpanderNumber;
 use frames::PhyId;
 ghost use mathlib.Core.Path.{_≡_};
 ghost use lib.ListN.{length};
-ghost use Rattle.wiring.specs.Lists.{upTo};
-ghost use Rattle.wiring.specs.Rows.{domainIn};
+ghost use Rattle.files.specs.Lists.{upTo};
+ghost use Rattle.files.specs.Rows.{domainIn};
 ghost use Rattle.wiring.specs.Graph.{loopfree};
 ghost use Rattle.wiring.specs.Neighbours.{neighbours};
 ghost use Rattle.wiring.specs.Links.{joinedIn, linkedDomain, checkedDomain};
@@ -26,7 +25,7 @@ fn is_loopfree(rows: &[u64], words: &[u64]) -> bool
     requires { ⌜ Held (domainIn (now rows)) (now words) ⌝ }
     ensures { λ r. ⌜ r ≡ loopfree (length (domainIn (now (rows .entry)))) (neighbours (domainIn (now (rows .entry)))) ⌝ }
 {
-    let n = view::expander_count(rows);
+    let n = files::expander_count(rows);
     let all = rounds::all_of(rows);
     rounds::run_rounds(rows, words, 11, n, all) == 0
 }
@@ -36,7 +35,7 @@ fn check_joined(rows: &[u64], words: &[u64]) -> Check
     requires { ⌜ Held (domainIn (now rows)) (now words) ⌝ }
     ensures { λ r. ⌜ checkAnswer (domainIn (now (rows .entry))) r ≡ joinedIn (upTo (length (domainIn (now (rows .entry))))) (domainIn (now (rows .entry))) ⌝ }
 {
-    let n = view::expander_count(rows);
+    let n = files::expander_count(rows);
     if n == 0 {
         return Check::Passed;
     }
@@ -86,7 +85,7 @@ pub fn check_domain(rows: &[u64], first: &mut [u16], low: &mut [u8], chain: u8) 
     ensures { λ r. ⌜ checkAnswer (domainIn (now (rows .entry))) r ≡ checkedIn chain (length (now (first .entry))) (length (now (low .entry))) (domainIn (now (rows .entry))) ⌝ }
     ensures { λ r. ⌜ IndexLeft (domainIn (now (rows .entry))) (now (first .entry)) (now (low .entry)) (now (first .exit)) (now (low .exit)) ⌝ }
 {
-    let n = view::expander_count(rows) as usize;
+    let n = files::expander_count(rows) as usize;
     if first.len() < 64 + 128 * n {
         return refusals::check_refused(16, ExpanderNumber(0), PhyId(0));
     }

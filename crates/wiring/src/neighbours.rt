@@ -1,15 +1,14 @@
 // Neighbours, and the wiring call's words: a 64-bit set for each expander.
 use crate::addresses;
 use crate::rounds;
-use crate::view;
 use frames::ExpanderNumber;
 use frames::PhyId;
 ghost use mathlib.Core.Path.{_≡_};
 ghost use mathlib.Core.List.{[], _∷_, _++_};
 ghost use Prim.Native.Nat.{_≤_, _<_};
 ghost use lib.ListN.{length, drop};
-ghost use Rattle.wiring.specs.Domain.{expanderAt, phyAt};
-ghost use Rattle.wiring.specs.Rows.{domainIn};
+ghost use Rattle.files.specs.Domain.{expanderAt, phyAt};
+ghost use Rattle.files.specs.Rows.{domainIn};
 ghost use Rattle.wiring.specs.Neighbours.{neighbours, neighbourWord, neighbourWords, bitsIn};
 ghost use Rattle.wiring.specs.Addresses.{IndexedFirst};
 ghost use Rattle.wiring.specs.Cables.{FarSet, FarSets, Leading};
@@ -20,7 +19,7 @@ fn far_bit(rows: &[u64], first: &[u16], i: ExpanderNumber, p: PhyId) -> u64
     requires { ⌜ IndexedFirst (domainIn (now rows)) (now first) × (p .0 < length (expanderAt (domainIn (now rows)) (i .0) .phys)) ⌝ }
     ensures { λ r. ⌜ FarSet (domainIn (now (rows .entry))) (phyAt (domainIn (now (rows .entry))) (i .0) (p .0) ∷ []) r ⌝ }
 {
-    if view::phy_type(view::phy_below(rows, i, p)) < 2 {
+    if files::phy_type(files::phy_below(rows, i, p)) < 2 {
         return 0;
     }
     let m = addresses::far_number(rows, first, i, p).0;
@@ -35,7 +34,7 @@ fn far_word(rows: &[u64], first: &[u16], i: ExpanderNumber) -> u64
     requires { ⌜ IndexedFirst (domainIn (now rows)) (now first) ⌝ }
     ensures { λ r. ⌜ FarSet (domainIn (now (rows .entry))) (expanderAt (domainIn (now (rows .entry))) (i .0) .phys) r ⌝ }
 {
-    let n = view::phy_count(rows, i);
+    let n = files::phy_count(rows, i);
     let mut w: u64 = 0;
     let mut p: u8 = 0;
     while p < n {
@@ -50,7 +49,7 @@ fn put_far(rows: &[u64], first: &[u16], words: &mut [u64])
     requires { ⌜ IndexedFirst (domainIn (now rows)) (now first) × (length (domainIn (now rows)) ≤ length (now words)) ⌝ }
     ensures { λ _. ⌜ FarSets (domainIn (now (rows .entry))) (length (domainIn (now (rows .entry)))) (now (words .exit)) ⌝ }
 {
-    let n = view::expander_count(rows);
+    let n = files::expander_count(rows);
     let mut i: u8 = 0;
     while i < n {
         words[i as usize] = far_word(rows, first, ExpanderNumber(i));
@@ -81,7 +80,7 @@ fn neighbour_word(rows: &[u64], first: &[u16], far: &[u64], i: ExpanderNumber) -
     requires { ⌜ Leading (domainIn (now rows)) (now first) (now far) × (i .0 < length (domainIn (now rows))) ⌝ }
     ensures { λ r. ⌜ r ≡ neighbourWord (domainIn (now (rows .entry))) (i .0) ⌝ }
 {
-    let n = view::expander_count(rows);
+    let n = files::expander_count(rows);
     let mut w: u64 = 0;
     let mut j: u8 = 0;
     while j < n {
@@ -102,7 +101,7 @@ pub(crate) fn put_neighbours(rows: &[u64], first: &[u16], words: &mut [u64]) -> 
 {
     let mut far = [0u64; 64];
     put_far(rows, first, &mut far[..]);
-    let n = view::expander_count(rows);
+    let n = files::expander_count(rows);
     let mut sum: u64 = 0;
     let mut i: u8 = 0;
     while i < n {

@@ -1,12 +1,11 @@
 // Rounds over sets of expanders, held as 64-bit words with a bit for each expander, for causes 11, 12
 // and 23.
-use crate::view;
 use frames::ExpanderNumber;
 ghost use mathlib.Core.Path.{_≡_};
 ghost use Prim.Native.Nat.{_<_};
 ghost use lib.ListN.{length};
-ghost use Rattle.wiring.specs.Lists.{upTo};
-ghost use Rattle.wiring.specs.Rows.{domainIn};
+ghost use Rattle.files.specs.Lists.{upTo};
+ghost use Rattle.files.specs.Rows.{domainIn};
 ghost use Rattle.wiring.specs.Neighbours.{neighbours, setOf};
 ghost use Rattle.wiring.specs.Rounds.{hasBit, members, SetBelow, Held, nextTest, nextSet, RoundsRun};
 
@@ -22,7 +21,7 @@ pub(crate) fn has(set: u64, j: ExpanderNumber) -> bool
 pub(crate) fn all_of(rows: &[u64]) -> u64
     ensures { λ r. ⌜ r ≡ setOf (upTo (length (domainIn (now (rows .entry))))) ⌝ }
 {
-    let n = view::expander_count(rows);
+    let n = files::expander_count(rows);
     if n == 0 {
         return 0;
     }
@@ -55,7 +54,7 @@ fn round(rows: &[u64], words: &[u64], k: u8, set: u64) -> u64
     requires { ⌜ Held (domainIn (now rows)) (now words) × SetBelow (length (domainIn (now rows))) set ⌝ }
     ensures { λ r. ⌜ r ≡ setOf (nextSet k (length (domainIn (now (rows .entry)))) (neighbours (domainIn (now (rows .entry)))) (members (length (domainIn (now (rows .entry)))) set)) ⌝ }
 {
-    let n = view::expander_count(rows);
+    let n = files::expander_count(rows);
     let mut next: u64 = 0;
     let mut v: u8 = 0;
     while v < n {

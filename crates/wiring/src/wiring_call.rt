@@ -1,13 +1,11 @@
 // The wiring call.
 use crate::Check;
-use crate::DomainRead;
-use crate::Setting;
 use crate::Wiring;
 use crate::addresses;
 use crate::causes;
 use crate::neighbours;
-use crate::rows;
-use crate::view;
+use files::DomainRead;
+use files::Setting;
 use frames::ExpanderNumber;
 use frames::PhyId;
 use frames::Refusal;
@@ -15,7 +13,7 @@ ghost use Prim.Native.Nat.{_≤_};
 ghost use lib.ListN.{length};
 ghost use Rattle.frames.specs.Bytes.{byte};
 ghost use Rattle.frames.specs.Refusals.{then};
-ghost use Rattle.wiring.specs.Rows.{domainIn};
+ghost use Rattle.files.specs.Rows.{domainIn};
 ghost use Rattle.wiring.specs.Causes.{wiredDomain};
 ghost use Rattle.wiring.specs.Addresses.{IndexRoom};
 ghost use Rattle.wiring.specs.Checks.{FileRoom};
@@ -31,7 +29,7 @@ fn wire_rows(rows: &[u64], first: &mut [u16], low: &mut [u8], words: &mut [u64])
     match c {
         Check::Refused(r) => Wiring::Refused(r),
         Check::Passed => {
-            if words.len() < view::expander_count(rows) as usize {
+            if words.len() < files::expander_count(rows) as usize {
                 return Wiring::Refused(Refusal {
                     number: 16,
                     expander: ExpanderNumber(0),
@@ -55,7 +53,7 @@ fn wire_in(
     requires { ⌜ FileRoom setting (now file) (now rows) (now first) (now low) ⌝ }
     ensures { λ r. ⌜ WiringDone (wiringCall setting (now (file .entry)) (length (now (words .entry)))) r (now (words .entry)) (now (words .exit)) ⌝ }
 {
-    let read = rows::read_domain(setting, file, rows);
+    let read = files::read_domain(setting, file, rows);
     match read {
         DomainRead::Refused(r) => Wiring::Refused(r),
         DomainRead::Expanders(n) => {
@@ -70,7 +68,7 @@ fn wire_few(setting: Setting, file: &[u8], words: &mut [u64]) -> Wiring
     requires { ⌜ byte (now file) 1 ≤ 8 ⌝ }
     ensures { λ r. ⌜ WiringDone (wiringCall setting (now (file .entry)) (length (now (words .entry)))) r (now (words .entry)) (now (words .exit)) ⌝ }
 {
-    if rows::stated_count(file) <= 2 {
+    if files::stated_count(file) <= 2 {
         let mut rows = [0u64; 516];
         let mut first = [0u16; 320];
         let mut low = [0u8; 256];
@@ -120,7 +118,7 @@ fn wire_many(setting: Setting, file: &[u8], words: &mut [u64]) -> Wiring
 pub fn wire(setting: Setting, file: &[u8], words: &mut [u64]) -> Wiring
     ensures { λ r. ⌜ WiringDone (wiringCall setting (now (file .entry)) (length (now (words .entry)))) r (now (words .entry)) (now (words .exit)) ⌝ }
 {
-    let n = rows::stated_count(file);
+    let n = files::stated_count(file);
     if n <= 8 {
         return wire_few(setting, file, words);
     }

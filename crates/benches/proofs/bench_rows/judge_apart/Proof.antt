@@ -1,7 +1,7 @@
 -- judge_apart meets its contract: 4 where an expander has the address of one before it, and else what judge_rows says.
 use native.Mathlib.Omega.{arith}
 use lib.ListN.{length}
-use Rattle.wiring.specs.Rows.{domainIn}
+use Rattle.files.specs.Rows.{domainIn}
 use Rattle.benches.proofs.SameAddress.{apart-refused, apart-judged}
 use borrow.Author.Needs.{needs}
 use Rattle.benches.proofs.bench_rows.judge_apart.Statement.{statement}

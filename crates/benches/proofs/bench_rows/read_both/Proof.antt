@@ -6,7 +6,7 @@ use mathlib.Core.List.{_++_}
 use lib.ListN.{drop, length-drop}
 use lib.Seq.{length-take-le}
 use Rattle.frames.specs.Refusals.{Result}
-use Rattle.wiring.specs.Domain.{Domain}
+use Rattle.files.specs.Domain.{Domain}
 use Rattle.benches.specs.BenchRows.{readAs}
 use Rattle.benches.proofs.Joins.{accepted-read}
 use Rattle.benches.proofs.RowsJudged.{both-held}

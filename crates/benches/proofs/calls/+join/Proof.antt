@@ -13,7 +13,7 @@ use Rattle.benches.proofs.calls.join.Kinds as join-kinds
 use Rattle.benches.proofs.calls.+join.Lts-join as join-lts
 use Rattle.benches.proofs.calls.join_few.Reads as join-few-reads
 use Rattle.benches.proofs.calls.join_many.Reads as join-many-reads
-use Rattle.wiring.proofs.stated_count.Reads as stated-count-reads
+use Rattle.files.proofs.stated_count.Reads as stated-count-reads
 use Rattle.benches.proofs.calls.+join.{statement}
 use Rattle.benches.proofs.calls.+join.Tie.{close}
 

@@ -5,9 +5,9 @@ use Prim.Native.Nat.{_-_, _≤_}
 use mathlib.Core.Path.{_≡_, refl, sym, _∙_, ap}
 use mathlib.Core.Bool.{true, false}
 use lib.ListN.{length, drop}
-use Rattle.wiring.specs.Lists.{any}
-use Rattle.wiring.specs.Domain.{expanderAt}
-use Rattle.wiring.specs.Rows.{domainIn}
+use Rattle.files.specs.Lists.{any}
+use Rattle.files.specs.Domain.{expanderAt}
+use Rattle.files.specs.Rows.{domainIn}
 use Rattle.benches.specs.JoinCall.{upward}
 use Rattle.benches.proofs.Joins.{any-go, any-end}
 use Rattle.benches.proofs.free.has_upward.Statement.{statement}

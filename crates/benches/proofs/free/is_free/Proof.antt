@@ -3,8 +3,8 @@ use borrow.Author.Needs.{needs}
 use mathlib.Core.Path.{refl, sym, _∙_, ap}
 use mathlib.Core.Bool.{not}
 use borrow.Author.Tests.{eq-eqb, ne-eqb}
-use Rattle.wiring.specs.Domain.{typeOf, attributeOf}
-use Rattle.wiring.specs.Rows.{domainIn}
+use Rattle.files.specs.Domain.{typeOf, attributeOf}
+use Rattle.files.specs.Rows.{domainIn}
 use Rattle.benches.proofs.Joins.{free-by}
 use Rattle.benches.proofs.free.is_free.Statement.{statement}
 use Rattle.benches.proofs.free.is_free.Tie as tie

@@ -2,8 +2,8 @@
 use Prim.Native.Nat.{ℕ, _-_, _≤_}
 use mathlib.Core.Path.{_≡_, sym, _∙_, ap}
 use native.Mathlib.Omega.{arith}
-use Rattle.wiring.specs.Domain.{numberOf}
-use Rattle.wiring.specs.Rows.{domainIn}
+use Rattle.files.specs.Domain.{numberOf}
+use Rattle.files.specs.Rows.{domainIn}
 use Rattle.benches.specs.BenchRows.{repeatedFrom, repeated}
 use Rattle.benches.proofs.SameAddress.{repeated-stop, repeated-go, repeated-end}
 use borrow.Author.Needs.{needs}

@@ -2,7 +2,7 @@
 use mathlib.Core.Path.{sym, _∙_, ap}
 use lib.Seq.{length-take-le}
 use Rattle.frames.specs.Refusals.{Result, then}
-use Rattle.wiring.specs.Domain.{Domain}
+use Rattle.files.specs.Domain.{Domain}
 use Rattle.wiring.specs.Checks.{checkAnswer}
 use Rattle.wiring.proofs.Opening.{opened-as, opened-fits}
 use Rattle.tables.proofs.Lawful.{judged-own}

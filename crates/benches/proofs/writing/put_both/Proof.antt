@@ -6,7 +6,7 @@ use mathlib.Core.List.{List}
 use lib.ListN.{length, getD, drop, set, length-set, length-drop}
 use lib.Seq.{paste}
 use Rattle.benches.proofs.Written.{both-put}
-use Rattle.wiring.proofs.Reading.{rest-whole}
+use Rattle.files.proofs.Reading.{rest-whole}
 use Rattle.benches.proofs.writing.put_both.Statement.{statement}
 use Rattle.benches.proofs.writing.put_both.Tie as tie
 

@@ -4,8 +4,8 @@ use native.Mathlib.Omega.{arith}
 use borrow.Author.Needs.{needs}
 use lib.Dec.{leb}
 use Rattle.frames.specs.Refusals.{unless, refusal}
-use Rattle.wiring.specs.File.{unitTested}
-use Rattle.wiring.specs.Units.{expanderAnswer}
+use Rattle.files.specs.File.{unitTested}
+use Rattle.files.specs.Units.{expanderAnswer}
 use Rattle.cards.proofs.Checks.{unit-refused, unit-passed, six-refused, six-passed}
 use Rattle.cards.proofs.card_rows.check_unit.Statement.{statement}
 use Rattle.cards.proofs.card_rows.check_unit.Tie as tie

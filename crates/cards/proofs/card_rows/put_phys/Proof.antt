@@ -9,9 +9,9 @@ use lib.Seq.{sets}
 use lib.Dec.{eqb}
 use borrow.Author.Needs.{needs}
 use Rattle.frames.specs.Bits.{bitsOf}
-use Rattle.wiring.specs.declared.Phy.{Phy}
-use Rattle.wiring.specs.Domain.{addressOf}
-use Rattle.wiring.specs.Rows.{phyWord, phyWords}
+use Rattle.files.specs.declared.Phy.{Phy}
+use Rattle.files.specs.Domain.{addressOf}
+use Rattle.files.specs.Rows.{phyWord, phyWords}
 use Rattle.cards.specs.Card.{phySize, physSize, physOn}
 use Rattle.cards.specs.CardRead.{resultFine, resultsFine, phyRanged}
 use Rattle.cards.specs.Walks.{rangedCount}

@@ -3,8 +3,8 @@ use native.Mathlib.Omega.{arith}
 use borrow.Author.Needs.{needs}
 use Prim.Native.Nat.{ℕ, suc, _+_, _-_, _*_, _/_, _%_, _^_, _≤_, _<_, min}
 use mathlib.Core.Path.{_≡_, refl, sym, _∙_, ap, subst}
-use Rattle.wiring.specs.Domain.{Domain, Expander, expanderAt, phyAt}
-use Rattle.wiring.specs.Rows.{domainIn}
+use Rattle.files.specs.Domain.{Domain, Expander, expanderAt, phyAt}
+use Rattle.files.specs.Rows.{domainIn}
 use Rattle.cards.proofs.Puts.{head-put-as}
 use Rattle.cards.proofs.card_writing.put_head.Statement.{statement}
 use Rattle.cards.proofs.card_writing.put_head.Tie as tie

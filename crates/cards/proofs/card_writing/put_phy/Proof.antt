@@ -3,7 +3,7 @@ use native.Mathlib.Omega.{arith}
 use borrow.Author.Needs.{needs}
 use mathlib.Core.Path.{_≡_, refl, sym, _∙_, ap, subst}
 use lib.Seq.{sets}
-use Rattle.wiring.specs.declared.Phy.{Phy}
+use Rattle.files.specs.declared.Phy.{Phy}
 use Rattle.frames.specs.Bits.{numberBits, field, bitsOf, bytesFor}
 use Rattle.cards.specs.Card.{phyBits}
 use Rattle.cards.proofs.Puts.{vacant-put}

@@ -6,9 +6,9 @@ use mathlib.Core.Path.{_≡_, refl, sym, _∙_, ap, subst}
 use mathlib.Core.List.{List, [], _∷_, _++_}
 use lib.ListN.{length, take, drop, set, replicate, length-set, length-take, length-drop, length-replicate}
 use lib.Seq.{sets, length-take-le}
-use Rattle.wiring.specs.Domain.{Domain, Expander, expanderAt, phyAt}
-use Rattle.wiring.specs.Rows.{domainIn}
-use Rattle.wiring.specs.declared.Phy.{Phy}
+use Rattle.files.specs.Domain.{Domain, Expander, expanderAt, phyAt}
+use Rattle.files.specs.Rows.{domainIn}
+use Rattle.files.specs.declared.Phy.{Phy}
 use borrow.Rule.Slice.PartMut.{same-len-mid}
 use Rattle.cards.specs.FileOf.{physFrames}
 use Rattle.cards.proofs.FilePuts.{frames-go, frames-end}

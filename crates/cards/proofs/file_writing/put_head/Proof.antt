@@ -12,8 +12,8 @@ use Rattle.cards.specs.ShortFrames.{shortGeneral}
 use Rattle.frames.specs.declared.General.{General}
 use Rattle.frames.proofs.Numbers.{length-bytesOf}
 use Rattle.cards.proofs.ShortFrames.{length-general}
-use Rattle.wiring.specs.Domain.{Domain, Expander, expanderAt}
-use Rattle.wiring.specs.Rows.{domainIn}
+use Rattle.files.specs.Domain.{Domain, Expander, expanderAt}
+use Rattle.files.specs.Rows.{domainIn}
 use Rattle.cards.specs.FileOf.{generalOf}
 use Rattle.cards.proofs.FilePuts.{front-whole, head-put, general-same}
 use Rattle.cards.proofs.file_writing.put_head.Statement.{statement}

@@ -7,7 +7,7 @@ use mathlib.Core.List.{List, [], _∷_, _++_}
 use lib.ListN.{length, take, drop, set, replicate, length-set, length-take, length-drop, length-replicate}
 use lib.Seq.{sets, length-take-le}
 use Rattle.cards.specs.ShortFrames.{shortDiscover}
-use Rattle.wiring.specs.declared.Phy.{Phy}
+use Rattle.files.specs.declared.Phy.{Phy}
 use Rattle.cards.specs.FileOf.{phyFrame}
 use Rattle.cards.proofs.file_writing.put_phy.Statement.{statement}
 use Rattle.cards.proofs.file_writing.put_phy.Tie as tie

@@ -6,8 +6,8 @@ use mathlib.Core.Path.{_≡_, refl, sym, _∙_, ap, subst}
 use mathlib.Core.List.{List, [], _∷_, _++_}
 use lib.ListN.{length, take, drop, set, replicate, length-set, length-take, length-drop, length-replicate}
 use lib.Seq.{sets, length-take-le}
-use Rattle.wiring.specs.Domain.{Domain, Expander, expanderAt, phyAt}
-use Rattle.wiring.specs.Rows.{domainIn}
+use Rattle.files.specs.Domain.{Domain, Expander, expanderAt, phyAt}
+use Rattle.files.specs.Rows.{domainIn}
 use Rattle.cards.specs.FileOf.{unitsOf}
 use Rattle.cards.proofs.FilePuts.{length-next, units-go, units-end}
 use Rattle.cards.proofs.file_writing.put_units.Statement.{statement}

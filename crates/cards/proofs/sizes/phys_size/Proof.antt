@@ -6,9 +6,9 @@ use mathlib.Core.Path.{_≡_, refl, sym, _∙_, ap, subst}
 use mathlib.Core.List.{List, [], _∷_, _++_}
 use lib.ListN.{length, take, drop, set, replicate, length-set, length-take, length-drop, length-replicate}
 use lib.Seq.{sets, length-take-le}
-use Rattle.wiring.specs.declared.Phy.{Phy}
-use Rattle.wiring.specs.Domain.{Domain, Expander, expanderAt, phyAt}
-use Rattle.wiring.specs.Rows.{domainIn}
+use Rattle.files.specs.declared.Phy.{Phy}
+use Rattle.files.specs.Domain.{Domain, Expander, expanderAt, phyAt}
+use Rattle.files.specs.Rows.{domainIn}
 use Rattle.cards.specs.Card.{phySize, physSize}
 use Rattle.cards.proofs.Puts.{sizes-next, sizes-none}
 use Rattle.cards.proofs.sizes.phys_size.Statement.{statement}

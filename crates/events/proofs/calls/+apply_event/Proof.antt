@@ -13,7 +13,7 @@ use Rattle.events.proofs.calls.apply_event.Kinds as apply-event-kinds
 use Rattle.events.proofs.calls.+apply_event.Lts-apply_event as apply-event-lts
 use Rattle.events.proofs.calls.apply_few.Reads as apply-few-reads
 use Rattle.events.proofs.calls.apply_many.Reads as apply-many-reads
-use Rattle.wiring.proofs.stated_count.Reads as stated-count-reads
+use Rattle.files.proofs.stated_count.Reads as stated-count-reads
 use Rattle.events.proofs.calls.+apply_event.{statement}
 use Rattle.events.proofs.calls.+apply_event.Tie.{close}
 

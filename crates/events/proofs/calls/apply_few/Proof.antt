@@ -1,7 +1,7 @@
 -- apply_few meets its contract: the second byte states how many expanders there are, so the room is enough.
 use Prim.Native.Nat.{ℕ}
 use lib.ListN.{length-replicate}
-use Rattle.wiring.proofs.Read.{stated-expanders}
+use Rattle.files.proofs.Read.{stated-expanders}
 use Rattle.wiring.proofs.Opening.{file-room}
 use native.Mathlib.Omega.{arith}
 use borrow.Author.Needs.{needs}

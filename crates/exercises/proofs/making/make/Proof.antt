@@ -4,7 +4,7 @@ use mathlib.Core.Path.{refl, sym, _∙_}
 use native.Mathlib.Omega.{arith}
 use lib.ListN.{length-replicate}
 use lib.Seq.{length-take-le}
-use Rattle.wiring.proofs.Members.{was-false}
+use Rattle.files.proofs.Members.{was-false}
 use Rattle.exercises.specs.Rig.{noRig}
 use Rattle.exercises.proofs.Trimmed.{trimmed-few}
 use Rattle.exercises.proofs.Exercise.{makable}

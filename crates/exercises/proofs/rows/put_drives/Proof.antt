@@ -6,7 +6,7 @@ use native.Mathlib.Omega.{arith}
 use borrow.Author.Needs.{needs}
 use lib.ListN.{length, drop, length-set}
 use lib.Seq.{sets}
-use Rattle.wiring.specs.Rows.{phyWords}
+use Rattle.files.specs.Rows.{phyWords}
 use Rattle.exercises.specs.Rig.{drive}
 use Rattle.exercises.proofs.RowPuts.{drive-go, drive-end}
 use Rattle.exercises.proofs.rows.put_drives.Statement.{statement}

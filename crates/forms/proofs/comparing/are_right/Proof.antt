@@ -2,8 +2,8 @@
 use Prim.Native.Nat.{ℕ, _+_, _-_, _*_, _/_, _%_, _≤_, _<_}
 use mathlib.Core.Path.{_≡_, refl, sym, _∙_, ap, subst}
 use lib.ListN.{length, drop}
-use Rattle.wiring.specs.Domain.{expanderAt}
-use Rattle.wiring.specs.Rows.{domainIn}
+use Rattle.files.specs.Domain.{expanderAt}
+use Rattle.files.specs.Rows.{domainIn}
 use Rattle.forms.specs.Form.{headField}
 use Rattle.forms.specs.Opened.{rightExpanders}
 use borrow.Author.Tests.{not-true, not-false}

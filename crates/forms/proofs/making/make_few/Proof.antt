@@ -2,8 +2,8 @@
 use Prim.Native.Nat.{ℕ, _+_, _-_, _*_, _/_, _%_, _≤_, _<_}
 use mathlib.Core.Path.{_≡_, refl, sym, _∙_, ap, subst}
 use lib.ListN.{length-replicate}
-use Rattle.wiring.specs.Read.{Read}
-use Rattle.wiring.proofs.Read.{read-good, stated-expanders}
+use Rattle.files.specs.Read.{Read}
+use Rattle.files.proofs.Read.{read-good, stated-expanders}
 use Rattle.wiring.proofs.Opening.{file-room}
 use borrow.Author.Needs.{needs}
 use native.Mathlib.Omega.{arith}

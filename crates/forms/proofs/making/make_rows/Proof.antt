@@ -2,7 +2,7 @@
 use Prim.Native.Nat.{ℕ, _+_, _-_, _*_, _/_, _%_, _≤_, _<_}
 use mathlib.Core.Path.{_≡_, refl, sym, _∙_, ap, subst}
 use lib.ListN.{length}
-use Rattle.wiring.specs.Rows.{domainIn}
+use Rattle.files.specs.Rows.{domainIn}
 use Rattle.wiring.specs.Checks.{checkAnswer}
 use Rattle.tables.proofs.Judging.{judged-room}
 use Rattle.forms.proofs.Promised.{rows-refused, rows-short, rows-made}

@@ -3,7 +3,7 @@ use Prim.Native.Nat.{ℕ, _+_, _-_, _*_, _/_, _%_, _≤_, _<_}
 use mathlib.Core.Path.{_≡_, refl, sym, _∙_, ap, subst}
 use lib.ListN.{length, drop, length-set}
 use lib.Seq.{sets}
-use Rattle.wiring.specs.Rows.{phyWords}
+use Rattle.files.specs.Rows.{phyWords}
 use Rattle.forms.specs.Form.{physBack}
 use Rattle.forms.proofs.Held.{put-start, put-go, put-end}
 use borrow.Author.Needs.{needs}

@@ -5,7 +5,7 @@ use lib.ListN.{length, take, length-take, length-drop}
 use borrow.Rule.Slice.PartMut.{same-len-mid}
 use Rattle.forms.specs.Form.{formIn}
 use Rattle.forms.proofs.Held.{Filled, form-few, filled-start, filled-go, filled-end}
-use Rattle.wiring.specs.Rows.{domainIn}
+use Rattle.files.specs.Rows.{domainIn}
 use borrow.Author.Needs.{needs}
 use native.Mathlib.Omega.{arith}
 use Rattle.forms.proofs.reading.read_rows.Statement.{statement}

@@ -3,9 +3,9 @@ use Prim.Native.Nat.{ℕ, _+_, _-_, _*_, _/_, _%_, _≤_, _<_}
 use mathlib.Core.Path.{_≡_, refl, sym, _∙_, ap, subst}
 use lib.ListN.{length}
 use borrow.Author.Tests.{eq-eqb, ne-eqb, not-true, not-false}
-use Rattle.wiring.specs.Domain.{Domain, expanderAt, numberOf}
-use Rattle.wiring.specs.Settings.{within}
-use Rattle.wiring.specs.Rows.{domainIn}
+use Rattle.files.specs.Domain.{Domain, expanderAt, numberOf}
+use Rattle.files.specs.Settings.{within}
+use Rattle.files.specs.Rows.{domainIn}
 use Rattle.forms.proofs.Tested.{unit-by}
 use borrow.Author.Needs.{needs}
 use native.Mathlib.Omega.{arith}

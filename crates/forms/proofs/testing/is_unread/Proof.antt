@@ -3,9 +3,9 @@ use Prim.Native.Nat.{ℕ, _+_, _-_, _*_, _/_, _%_, _≤_, _<_}
 use mathlib.Core.Path.{_≡_, refl, sym, _∙_, ap, subst}
 use native.Mathlib.Nat.{sub-zero}
 use borrow.Author.Tests.{not-true, not-false}
-use Rattle.wiring.specs.Lists.{any, numbers}
-use Rattle.wiring.specs.Settings.{within}
-use Rattle.wiring.specs.Rows.{domainIn}
+use Rattle.files.specs.Lists.{any, numbers}
+use Rattle.files.specs.Settings.{within}
+use Rattle.files.specs.Rows.{domainIn}
 use Rattle.forms.specs.Formed.{badUnit}
 use Rattle.forms.proofs.Tested.{numbers-stop, numbers-go, numbers-end, unread-none, unread-some}
 use borrow.Author.Needs.{needs}

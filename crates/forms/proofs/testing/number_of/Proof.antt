@@ -2,8 +2,8 @@
 use Prim.Native.Nat.{ℕ, _+_, _-_, _*_, _/_, _%_, _≤_, _<_}
 use mathlib.Core.Path.{_≡_, refl, sym, _∙_, ap, subst}
 use lib.ListN.{drop}
-use Rattle.wiring.specs.Domain.{numberOf}
-use Rattle.wiring.specs.Rows.{domainIn}
+use Rattle.files.specs.Domain.{numberOf}
+use Rattle.files.specs.Rows.{domainIn}
 use Rattle.forms.proofs.Tested.{number-stop, number-go, number-end}
 use borrow.Author.Needs.{needs}
 use native.Mathlib.Omega.{arith}

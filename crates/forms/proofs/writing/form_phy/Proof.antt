@@ -1,8 +1,8 @@
 -- form_phy writes each case of a phy; who is attached, the entries tell.
 use Prim.Native.Nat.{ℕ, _+_, _-_, _*_, _/_, _%_, _≤_, _<_}
 use mathlib.Core.Path.{_≡_, refl, sym, _∙_, ap, subst}
-use Rattle.wiring.specs.Domain.{phyAt}
-use Rattle.wiring.specs.Rows.{domainIn}
+use Rattle.files.specs.Domain.{phyAt}
+use Rattle.files.specs.Rows.{domainIn}
 use Rattle.forms.specs.Opened.{SmallPhy}
 use Rattle.forms.proofs.Compared.{rows-small}
 use Rattle.forms.proofs.Written.{field-vacant, field-low, field-far, far-number}

@@ -3,8 +3,8 @@ use Prim.Native.Nat.{ℕ, _+_, _-_, _*_, _/_, _%_, _≤_, _<_}
 use mathlib.Core.Path.{_≡_, refl, sym, _∙_, ap, subst}
 use lib.ListN.{length, drop, length-set}
 use lib.Seq.{sets}
-use Rattle.wiring.specs.Domain.{expanderAt}
-use Rattle.wiring.specs.Rows.{domainIn}
+use Rattle.files.specs.Domain.{expanderAt}
+use Rattle.files.specs.Rows.{domainIn}
 use Rattle.forms.specs.Form.{headField, formExpanders, formOf}
 use Rattle.forms.proofs.Written.{size-next, expanders-go, expanders-end, form-start, form-put}
 use Rattle.forms.proofs.Compared.{head-of}

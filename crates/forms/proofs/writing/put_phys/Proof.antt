@@ -3,8 +3,8 @@ use Prim.Native.Nat.{ℕ, _+_, _-_, _*_, _/_, _%_, _≤_, _<_}
 use mathlib.Core.Path.{_≡_, refl, sym, _∙_, ap, subst}
 use lib.ListN.{length, drop, length-set}
 use lib.Seq.{sets}
-use Rattle.wiring.specs.Domain.{Domain, expanderAt, addressOf}
-use Rattle.wiring.specs.Rows.{domainIn}
+use Rattle.files.specs.Domain.{Domain, expanderAt, addressOf}
+use Rattle.files.specs.Rows.{domainIn}
 use Rattle.forms.specs.Form.{formPhys}
 use Rattle.forms.proofs.Written.{phys-go, phys-end}
 use borrow.Author.Needs.{needs}

@@ -3,7 +3,7 @@ use mathlib.Core.Path.{sym}
 use native.Mathlib.Omega.{arith}
 use lib.ListN.{length}
 use lib.Seq.{length-take-le}
-use Rattle.wiring.proofs.Excess.{rows-cut}
+use Rattle.files.proofs.Excess.{rows-cut}
 use borrow.Author.Needs.{needs}
 use Prim.Native.Nat.{ℕ, _<_}
 use borrow.Fn.Kinds.{In}
@@ -13,7 +13,7 @@ use Rattle.tables.proofs.all_tables.put_all.Kinds as put-all-kinds
 use Rattle.tables.proofs.all_tables.+put_all.Lts-put_all as put-all-lts
 use Rattle.tables.proofs.all_tables.put_few.Reads as put-few-reads
 use Rattle.tables.proofs.all_tables.put_many.Reads as put-many-reads
-use Rattle.wiring.proofs.expander_count.Reads as expander-count-reads
+use Rattle.files.proofs.expander_count.Reads as expander-count-reads
 use Rattle.tables.proofs.all_tables.+put_all.{statement}
 use Rattle.tables.proofs.all_tables.+put_all.Tie.{close}
 

@@ -1,7 +1,7 @@
 -- is_table meets its contract: attribute 2 is the definition's test, and a vacant phy has attribute 3.
 use mathlib.Core.Path.{_∙_, ap}
 use lib.Dec.{eqb}
-use Rattle.wiring.specs.Domain.{attributeOf}
+use Rattle.files.specs.Domain.{attributeOf}
 use borrow.Author.Needs.{needs}
 use Rattle.tables.proofs.all_tables.is_table.Statement.{statement}
 use Rattle.tables.proofs.all_tables.is_table.Tie as tie

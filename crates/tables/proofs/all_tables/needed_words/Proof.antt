@@ -1,7 +1,7 @@
 -- needed_words meets its contract: the words before the expander after the last are all of them.
 use mathlib.Core.Path.{_∙_}
 use native.Mathlib.Omega.{arith}
-use Rattle.wiring.specs.Rows.{domainIn}
+use Rattle.files.specs.Rows.{domainIn}
 use Rattle.tables.proofs.Puts.{before-all}
 use borrow.Author.Needs.{needs}
 use Rattle.tables.proofs.all_tables.needed_words.Statement.{statement}

@@ -1,7 +1,7 @@
 -- put_many meets its contract: words give at most 64 expanders.
 use Prim.Native.Nat.{ℕ}
 use lib.ListN.{length-replicate}
-use Rattle.wiring.proofs.InRows.{domain-few}
+use Rattle.files.proofs.InRows.{domain-few}
 use borrow.Author.Needs.{needs}
 use native.Mathlib.Omega.{arith}
 use Rattle.tables.proofs.all_tables.put_many.Statement.{statement}

@@ -4,9 +4,9 @@ use mathlib.Core.Path.{sym, _∙_, ap}
 use lib.ListN.{drop, length-drop}
 use lib.Seq.{length-take-le}
 use borrow.Author.Tests.{not-true, not-false}
-use Rattle.wiring.specs.Domain.{Domain}
-use Rattle.wiring.specs.Rows.{domainIn}
-use Rattle.wiring.proofs.Members.{was-true}
+use Rattle.files.specs.Domain.{Domain}
+use Rattle.files.specs.Rows.{domainIn}
+use Rattle.files.proofs.Members.{was-true}
 use Rattle.tables.specs.Prepared.{orderList, filledTo}
 use Rattle.tables.proofs.Puts.{size-by, put-none, put-one}
 use borrow.Author.Needs.{needs}

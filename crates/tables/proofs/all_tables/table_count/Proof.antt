@@ -4,9 +4,9 @@ use mathlib.Core.Path.{_≡_, _∙_}
 use native.Mathlib.Omega.{arith}
 use native.Mathlib.Nat.{zero-add}
 use lib.ListN.{length, drop}
-use Rattle.wiring.specs.Domain.{Domain}
+use Rattle.files.specs.Domain.{Domain}
 use Rattle.wiring.specs.Causes.{placesFrom}
-use Rattle.wiring.specs.Rows.{domainIn}
+use Rattle.files.specs.Rows.{domainIn}
 use Rattle.tables.specs.Tables.{tablePlaces}
 use Rattle.tables.specs.Filling.{withTables}
 use Rattle.tables.proofs.Puts.{from-last, from-count, count-none, count-all}

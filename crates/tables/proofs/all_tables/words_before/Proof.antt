@@ -3,9 +3,9 @@ use Prim.Native.Nat.{_-_, _*_, _≤_}
 use mathlib.Core.Path.{_≡_, refl, _∙_, ap}
 use native.Mathlib.Omega.{arith}
 use lib.ListN.{take}
-use Rattle.wiring.specs.Domain.{Domain}
+use Rattle.files.specs.Domain.{Domain}
 use Rattle.wiring.specs.Causes.{placesFrom}
-use Rattle.wiring.specs.Rows.{domainIn}
+use Rattle.files.specs.Rows.{domainIn}
 use Rattle.tables.specs.Tables.{sizes}
 use Rattle.tables.proofs.Puts.{before-none, before-next}
 use borrow.Author.Needs.{needs}

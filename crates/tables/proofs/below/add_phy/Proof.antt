@@ -4,8 +4,8 @@ use mathlib.Core.List.{List, [], _∷_}
 use mathlib.Core.Path.{_≡_, sym, _∙_, ap}
 use lib.ListN.{length, take}
 use borrow.Author.Tests.{not-true, not-false}
-use Rattle.wiring.specs.Domain.{Domain, addressOf, numberOf}
-use Rattle.wiring.specs.Rows.{domainIn}
+use Rattle.files.specs.Domain.{Domain, addressOf, numberOf}
+use Rattle.files.specs.Rows.{domainIn}
 use Rattle.tables.specs.Filling.{addAll}
 use Rattle.tables.proofs.Growing.{addAll-none, grown-kept, grown-same}
 use Rattle.tables.proofs.BelowLists.{below-none, below-one}

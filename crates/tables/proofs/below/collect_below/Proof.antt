@@ -2,9 +2,9 @@
 use Prim.Native.Nat.{_+_, _-_, _≤_, _<_}
 use mathlib.Core.Logic.{⊎-elim}
 use mathlib.Core.Path.{_≡_, refl, sym, _∙_}
-use Rattle.wiring.specs.Domain.{Domain}
-use Rattle.wiring.specs.Rows.{domainIn}
-use Rattle.wiring.proofs.InRows.{phy-held, domain-few}
+use Rattle.files.specs.Domain.{Domain}
+use Rattle.files.specs.Rows.{domainIn}
+use Rattle.files.proofs.InRows.{phy-held, domain-few}
 use Rattle.tables.proofs.Collecting.{Collected, collect-start, collect-go, collect-skip, collect-end}
 use borrow.Author.Needs.{needs}
 use native.Mathlib.Omega.{arith}

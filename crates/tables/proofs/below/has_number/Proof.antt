@@ -3,7 +3,7 @@ use Prim.Native.Nat.{_-_, _≤_}
 use mathlib.Core.Path.{_≡_, refl}
 use native.Mathlib.Omega.{arith}
 use lib.ListN.{length, drop}
-use Rattle.wiring.specs.Lists.{isIn}
+use Rattle.files.specs.Lists.{isIn}
 use Rattle.tables.proofs.Growing.{isIn-stop, isIn-go, isIn-end}
 use Rattle.tables.proofs.below.has_number.Statement.{statement}
 use Rattle.tables.proofs.below.has_number.Tie as tie

@@ -4,7 +4,7 @@ use native.Mathlib.Omega.{arith}
 use lib.ListN.{length}
 use lib.Seq.{length-take-le}
 use Rattle.tables.specs.Judge.{tableCall}
-use Rattle.wiring.proofs.Excess.{header-cut}
+use Rattle.files.proofs.Excess.{header-cut}
 use borrow.Author.Needs.{needs}
 use Prim.Native.Nat.{ℕ, _<_}
 use borrow.Fn.Kinds.{In}
@@ -14,7 +14,7 @@ use Rattle.tables.proofs.calls.give_tables.Kinds as give-tables-kinds
 use Rattle.tables.proofs.calls.+give_tables.Lts-give_tables as give-tables-lts
 use Rattle.tables.proofs.calls.give_few.Reads as give-few-reads
 use Rattle.tables.proofs.calls.give_many.Reads as give-many-reads
-use Rattle.wiring.proofs.stated_count.Reads as stated-count-reads
+use Rattle.files.proofs.stated_count.Reads as stated-count-reads
 use Rattle.tables.proofs.calls.+give_tables.{statement}
 use Rattle.tables.proofs.calls.+give_tables.Tie.{close}
 

@@ -3,7 +3,7 @@ use mathlib.Core.Path.{sym}
 use native.Mathlib.Omega.{arith}
 use lib.ListN.{length}
 use lib.Seq.{length-take-le}
-use Rattle.wiring.proofs.Excess.{header-cut}
+use Rattle.files.proofs.Excess.{header-cut}
 use borrow.Author.Needs.{needs}
 use Prim.Native.Nat.{ℕ, _<_}
 use borrow.Fn.Kinds.{In}
@@ -13,7 +13,7 @@ use Rattle.tables.proofs.calls.judge.Kinds as judge-kinds
 use Rattle.tables.proofs.calls.+judge.Lts-judge as judge-lts
 use Rattle.tables.proofs.calls.judge_few.Reads as judge-few-reads
 use Rattle.tables.proofs.calls.judge_many.Reads as judge-many-reads
-use Rattle.wiring.proofs.stated_count.Reads as stated-count-reads
+use Rattle.files.proofs.stated_count.Reads as stated-count-reads
 use Rattle.tables.proofs.calls.+judge.{statement}
 use Rattle.tables.proofs.calls.+judge.Tie.{close}
 

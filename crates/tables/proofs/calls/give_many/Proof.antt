@@ -1,7 +1,7 @@
 -- give_many meets its contract: a file that is read has at most 64 expanders.
 use Prim.Native.Nat.{ℕ}
 use lib.ListN.{length-replicate}
-use Rattle.wiring.proofs.Read.{read-good}
+use Rattle.files.proofs.Read.{read-good}
 use Rattle.wiring.proofs.Opening.{file-room}
 use borrow.Author.Needs.{needs}
 use native.Mathlib.Omega.{arith}

@@ -4,7 +4,7 @@ use mathlib.Core.List.{_++_, flatMap}
 use mathlib.Core.Path.{_≡_, refl, _∙_}
 use native.Mathlib.Omega.{arith}
 use lib.ListN.{length, take, drop}
-use Rattle.wiring.specs.Rows.{domainIn}
+use Rattle.files.specs.Rows.{domainIn}
 use Rattle.tables.specs.Own.{own}
 use Rattle.tables.proofs.Growing.{lists-fit, lists-go, lists-end}
 use borrow.Author.Needs.{needs}

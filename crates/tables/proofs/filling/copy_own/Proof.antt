@@ -4,8 +4,8 @@ use mathlib.Core.List.{List, _++_, append-nil}
 use mathlib.Core.Path.{_≡_, _∙_, ap}
 use native.Mathlib.Omega.{arith}
 use lib.ListN.{length, getD, take, drop}
-use Rattle.wiring.specs.Domain.{Domain}
-use Rattle.wiring.specs.Rows.{domainIn}
+use Rattle.files.specs.Domain.{Domain}
+use Rattle.files.specs.Rows.{domainIn}
 use Rattle.tables.specs.Own.{own}
 use Rattle.tables.specs.Prepared.{OwnHeld}
 use Rattle.tables.proofs.Growing.{grown-kept, grown-same}

@@ -1,6 +1,6 @@
 -- fill_table meets its contract: the own lists of the order are copied, and zeros fill the rest.
 use mathlib.Core.Path.{refl}
-use Rattle.wiring.specs.Rows.{domainIn}
+use Rattle.files.specs.Rows.{domainIn}
 use Rattle.tables.proofs.Fills.{filled-room, order-filled}
 use borrow.Author.Needs.{needs}
 use Rattle.tables.proofs.filling.fill_table.Statement.{statement}

@@ -4,9 +4,9 @@ use mathlib.Core.List.{List, _++_, append-nil}
 use mathlib.Core.Path.{_≡_, _∙_, ap}
 use native.Mathlib.Omega.{arith}
 use lib.ListN.{length, getD, take, drop}
-use Rattle.wiring.specs.Domain.{Domain}
-use Rattle.wiring.specs.Rows.{domainIn}
-use Rattle.wiring.proofs.InRows.{domain-few}
+use Rattle.files.specs.Domain.{Domain}
+use Rattle.files.specs.Rows.{domainIn}
+use Rattle.files.proofs.InRows.{domain-few}
 use Rattle.tables.specs.Prepared.{belowOnce, BelowHeld}
 use Rattle.tables.proofs.Growing.{grown-kept, grown-same}
 use Rattle.tables.proofs.Cells.{cell-count, cell-list, cell-fits}

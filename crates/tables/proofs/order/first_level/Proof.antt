@@ -3,8 +3,8 @@ use Prim.Native.Nat.{ℕ}
 use mathlib.Core.List.{[], _∷_}
 use mathlib.Core.Path.{_≡_, sym, _∙_, ap}
 use borrow.Author.Tests.{not-true, not-false}
-use Rattle.wiring.specs.Domain.{Domain, addressOf, numberOf}
-use Rattle.wiring.specs.Rows.{domainIn}
+use Rattle.files.specs.Domain.{Domain, addressOf, numberOf}
+use Rattle.files.specs.Rows.{domainIn}
 use Rattle.tables.proofs.Growing.{grown-kept, grown-more}
 use Rattle.tables.proofs.BelowLists.{below-none, below-one}
 use Rattle.tables.proofs.Linked.{far-down}

@@ -2,9 +2,9 @@
 use mathlib.Core.Path.{sym, _∙_}
 use native.Mathlib.Omega.{arith}
 use borrow.Author.Tests.{lt-leb}
-use Rattle.wiring.specs.Domain.{typeOf}
-use Rattle.wiring.specs.Rows.{domainIn}
-use Rattle.wiring.proofs.Members.{was-true}
+use Rattle.files.specs.Domain.{typeOf}
+use Rattle.files.specs.Rows.{domainIn}
+use Rattle.files.proofs.Members.{was-true}
 use Rattle.tables.proofs.Growing.{grown-same, grown-kept}
 use Rattle.tables.proofs.Orders.{not-down, order-none, order-linked}
 use borrow.Author.Needs.{needs}

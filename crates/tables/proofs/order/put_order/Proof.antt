@@ -2,9 +2,9 @@
 use Prim.Native.Nat.{_-_, _≤_}
 use mathlib.Core.Path.{_≡_, refl, _∙_}
 use lib.ListN.{length, take}
-use Rattle.wiring.specs.Domain.{Domain}
-use Rattle.wiring.specs.Rows.{domainIn}
-use Rattle.wiring.proofs.InRows.{domain-few}
+use Rattle.files.specs.Domain.{Domain}
+use Rattle.files.specs.Rows.{domainIn}
+use Rattle.files.proofs.InRows.{domain-few}
 use Rattle.tables.proofs.Orders.{Queued, queue-start, queue-go, queue-stop, queue-end, order-by}
 use Rattle.tables.proofs.BelowLists.{first-few}
 use Rattle.tables.proofs.Growing.{grown-length}

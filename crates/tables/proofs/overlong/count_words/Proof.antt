@@ -4,8 +4,8 @@ use mathlib.Core.List.{List, flatMap}
 use mathlib.Core.Path.{_≡_, _∙_, ap}
 use native.Mathlib.Omega.{arith}
 use lib.ListN.{length, getD, drop, length-append}
-use Rattle.wiring.specs.Domain.{Domain}
-use Rattle.wiring.specs.Rows.{domainIn}
+use Rattle.files.specs.Domain.{Domain}
+use Rattle.files.specs.Rows.{domainIn}
 use Rattle.tables.specs.Own.{own}
 use Rattle.tables.proofs.Growing.{flat-next, flat-last}
 use Rattle.tables.proofs.overlong.count_words.Statement.{statement}

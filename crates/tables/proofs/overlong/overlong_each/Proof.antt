@@ -3,7 +3,7 @@ use Prim.Native.Nat.{_-_, _≤_}
 use mathlib.Core.Path.{_≡_, refl, _∙_}
 use lib.ListN.{length, drop}
 use Rattle.wiring.specs.Causes.{placesFrom, firstIn, firstOf}
-use Rattle.wiring.specs.Rows.{domainIn}
+use Rattle.files.specs.Rows.{domainIn}
 use Rattle.wiring.proofs.Searches.{from-next, from-end}
 use Rattle.tables.specs.Prepared.{overOwn}
 use borrow.Author.Needs.{needs}

@@ -4,10 +4,10 @@ use mathlib.Core.Bool.{false}
 use mathlib.Core.Path.{_≡_, refl, sym, _∙_, ap}
 use native.Mathlib.Nat.{sub-zero}
 use lib.ListN.{length}
-use Rattle.wiring.proofs.InRows.{phy-held}
-use Rattle.wiring.specs.Domain.{Domain}
+use Rattle.files.proofs.InRows.{phy-held}
+use Rattle.files.specs.Domain.{Domain}
 use Rattle.wiring.specs.Causes.{phyPlaces, firstIn}
-use Rattle.wiring.specs.Rows.{domainIn}
+use Rattle.files.specs.Rows.{domainIn}
 use Rattle.wiring.proofs.Searches.{phy-stop, phy-go, phy-end}
 use Rattle.tables.specs.Filling.{placesAt}
 use Rattle.tables.specs.Prepared.{overOwn}

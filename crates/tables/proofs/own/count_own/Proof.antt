@@ -3,10 +3,10 @@ use Prim.Native.Nat.{_+_, _-_, _≤_}
 use mathlib.Core.List.{List, []}
 use mathlib.Core.Path.{_≡_, refl, _∙_, ap}
 use lib.ListN.{length, drop}
-use Rattle.wiring.proofs.InRows.{phy-held}
-use Rattle.wiring.specs.declared.Phy.{Phy}
-use Rattle.wiring.specs.Domain.{expanderAt}
-use Rattle.wiring.specs.Rows.{domainIn}
+use Rattle.files.proofs.InRows.{phy-held}
+use Rattle.files.specs.declared.Phy.{Phy}
+use Rattle.files.specs.Domain.{expanderAt}
+use Rattle.files.specs.Rows.{domainIn}
 use Rattle.tables.specs.Own.{lower, ownFrom, own}
 use Rattle.tables.proofs.Owns.{owns-low, own-start, count-go, count-end, one-most}
 use borrow.Author.Needs.{needs}

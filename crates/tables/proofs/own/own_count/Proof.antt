@@ -3,7 +3,7 @@ use borrow.Author.Needs.{needs}
 use mathlib.Core.Path.{sym, ap}
 use native.Mathlib.Omega.{arith}
 use lib.ListN.{length}
-use Rattle.wiring.specs.Rows.{domainIn}
+use Rattle.files.specs.Rows.{domainIn}
 use Rattle.tables.proofs.Owns.{own-none, own-few}
 use Rattle.tables.proofs.own.own_count.Statement.{statement}
 use Rattle.tables.proofs.own.own_count.Tie as tie

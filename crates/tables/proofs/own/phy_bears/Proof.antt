@@ -3,7 +3,7 @@ use mathlib.Core.Path.{ap}
 use native.Mathlib.Omega.{arith}
 use lib.Dec.{eqb}
 use borrow.Author.Tests.{eq-eqb, ne-eqb}
-use Rattle.wiring.specs.Domain.{typeOf}
+use Rattle.files.specs.Domain.{typeOf}
 use borrow.Author.Needs.{needs}
 use Rattle.tables.proofs.own.phy_bears.Statement.{statement}
 use Rattle.tables.proofs.own.phy_bears.Tie as tie

@@ -1,7 +1,7 @@
 -- word_of meets its contract: by whether anything is attached.
 use native.Mathlib.Omega.{arith}
 use borrow.Author.Tests.{eq-eqb, ne-eqb}
-use Rattle.wiring.specs.Domain.{typeOf}
+use Rattle.files.specs.Domain.{typeOf}
 use borrow.Author.Needs.{needs}
 use Rattle.tables.proofs.own.word_of.Statement.{statement}
 use Rattle.tables.proofs.own.word_of.Tie as tie

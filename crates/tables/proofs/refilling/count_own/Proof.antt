@@ -6,8 +6,8 @@ use mathlib.Core.List.{List}
 use native.Mathlib.Omega.{arith}
 use native.Mathlib.Decide.{decLt}
 use lib.ListN.{length, take, drop}
-use Rattle.wiring.specs.Domain.{Domain}
-use Rattle.wiring.specs.Rows.{domainIn}
+use Rattle.files.specs.Domain.{Domain}
+use Rattle.files.specs.Rows.{domainIn}
 use Rattle.tables.specs.Own.{own}
 use Rattle.tables.specs.Prepared.{OwnHeld}
 use Rattle.tables.specs.Refilling.{changed}

@@ -5,7 +5,7 @@ use mathlib.Core.List.{List, flatMap}
 use native.Mathlib.Omega.{arith}
 use native.Mathlib.Nat.{zero-add}
 use lib.ListN.{length, getD, drop, replicate, length-drop}
-use Rattle.wiring.specs.Rows.{domainIn}
+use Rattle.files.specs.Rows.{domainIn}
 use Rattle.tables.specs.Own.{own}
 use Rattle.tables.specs.Refilling.{changed}
 use Rattle.tables.proofs.Changes.{rest-is, sizes-turn, lists-turn, lists-last}

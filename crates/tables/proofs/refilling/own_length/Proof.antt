@@ -2,7 +2,7 @@
 use native.Mathlib.Omega.{arith}
 use mathlib.Core.Path.{sym, ap}
 use lib.ListN.{length}
-use Rattle.wiring.specs.Rows.{domainIn}
+use Rattle.files.specs.Rows.{domainIn}
 use Rattle.tables.proofs.Owns.{own-count, own-none}
 use borrow.Author.Needs.{needs}
 use Rattle.tables.proofs.refilling.own_length.Statement.{statement}

@@ -4,9 +4,9 @@ use mathlib.Core.Path.{_≡_, refl, _∙_, ap}
 use native.Mathlib.Omega.{arith}
 use lib.ListN.{length, take}
 use Rattle.frames.proofs.Packing.{Bytes}
-use Rattle.wiring.specs.Domain.{Domain}
+use Rattle.files.specs.Domain.{Domain}
 use Rattle.wiring.specs.Causes.{placesFrom}
-use Rattle.wiring.specs.Rows.{domainIn}
+use Rattle.files.specs.Rows.{domainIn}
 use Rattle.tables.specs.Entries.{Room, entries}
 use Rattle.tables.specs.Rewriting.{Near, Rewritten}
 use Rattle.tables.specs.declared.refilling.Tally.{Tally}

@@ -4,12 +4,12 @@ use mathlib.Core.Path.{_≡_, refl, sym, _∙_, ap}
 use native.Mathlib.Omega.{arith}
 use lib.ListN.{length, List·getD-eq-default}
 use lib.Seq.{length-take-le}
-use Rattle.wiring.proofs.InRows.{phy-held}
+use Rattle.files.proofs.InRows.{phy-held}
 use Rattle.wiring.proofs.EndDevices.{short-in}
-use Rattle.wiring.specs.declared.Phy.the-variants.{Vacant}
-use Rattle.wiring.specs.Domain.{Domain, expanderAt, phyAt}
+use Rattle.files.specs.declared.Phy.the-variants.{Vacant}
+use Rattle.files.specs.Domain.{Domain, expanderAt, phyAt}
 use Rattle.wiring.specs.Causes.{phyPlaces}
-use Rattle.wiring.specs.Rows.{domainIn}
+use Rattle.files.specs.Rows.{domainIn}
 use Rattle.tables.specs.Tables.{sizes}
 use Rattle.tables.specs.Entries.{Room, entries}
 use Rattle.tables.specs.Filling.{Grown}

@@ -4,10 +4,10 @@ use mathlib.Core.Path.{refl, _∙_, ap, ap₂}
 use native.Mathlib.Omega.{arith}
 use lib.ListN.{length}
 use borrow.Author.Tests.{not-true, not-false}
-use Rattle.wiring.specs.Domain.{Domain}
+use Rattle.files.specs.Domain.{Domain}
 use Rattle.wiring.specs.Causes.{Place, place}
-use Rattle.wiring.specs.Rows.{domainIn}
-use Rattle.wiring.proofs.Members.{was-true}
+use Rattle.files.specs.Rows.{domainIn}
+use Rattle.files.proofs.Members.{was-true}
 use Rattle.tables.specs.Entries.{Room, entries}
 use Rattle.tables.proofs.Rewrites.{touched-routes, touched-size, touched-is, rewritten-old, rewritten-new}
 use borrow.Author.Needs.{needs}

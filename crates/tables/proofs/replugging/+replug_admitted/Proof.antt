@@ -5,7 +5,7 @@ use lib.ListN.{length}
 use borrow.Author.Needs.{needs}
 use borrow.Fn.Kinds.{In}
 use borrow.Fn.PlainCycle.{Measures, is, falls, and}
-use Rattle.wiring.specs.Rows.{domainIn}
+use Rattle.files.specs.Rows.{domainIn}
 use Rattle.wiring.proofs.EndDevices.{short-in}
 use Rattle.tables.proofs.Edited.{phy-there}
 use Rattle.tables.proofs.replugging.replug_admitted.Reads as replug-admitted
@@ -13,7 +13,7 @@ use Rattle.tables.proofs.replugging.replug_admitted.Kinds as replug-adm
 use Rattle.tables.proofs.replugging.+replug_admitted.Lts-replug_admitted as replug-admitted-lts
 use Rattle.tables.proofs.replugging.replug_few.Reads as replug-few-reads
 use Rattle.tables.proofs.replugging.replug_many.Reads as replug-many-reads
-use Rattle.wiring.proofs.expander_count.Reads as expander-count-reads
+use Rattle.files.proofs.expander_count.Reads as expander-count-reads
 use Rattle.tables.proofs.replugging.+replug_admitted.{statement}
 use Rattle.tables.proofs.replugging.+replug_admitted.Tie.{close}
 

@@ -2,10 +2,10 @@
 use mathlib.Core.Path.{_≡_, sym, ap, _∙_}
 use native.Mathlib.Omega.{arith}
 use lib.ListN.{length}
-use Rattle.wiring.specs.Domain.{Domain}
-use Rattle.wiring.specs.PhySet.{withWords}
+use Rattle.files.specs.Domain.{Domain}
+use Rattle.files.specs.PhySet.{withWords}
 use Rattle.wiring.specs.Checks.{checkAnswer}
-use Rattle.wiring.specs.Rows.{domainIn}
+use Rattle.files.specs.Rows.{domainIn}
 use Rattle.tables.specs.Replugging.{replug, retested}
 use Rattle.tables.proofs.Linked.{fars-known}
 use Rattle.tables.proofs.Replugs.{rows-are, fars-then, owns-then, size-then, enough-then, retested-fills, replug-refused, replug-done}

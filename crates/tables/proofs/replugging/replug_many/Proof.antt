@@ -2,7 +2,7 @@
 use Prim.Native.Nat.{ℕ}
 use native.Mathlib.Omega.{arith}
 use lib.ListN.{length-replicate}
-use Rattle.wiring.proofs.InRows.{domain-few}
+use Rattle.files.proofs.InRows.{domain-few}
 use borrow.Author.Needs.{needs}
 use Rattle.tables.proofs.replugging.replug_many.Statement.{statement}
 use Rattle.tables.proofs.replugging.replug_many.Tie as tie

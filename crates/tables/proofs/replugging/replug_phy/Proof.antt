@@ -1,8 +1,8 @@
 -- replug_phy keeps a vacant phy, and sets the fields of another.
 use Prim.Native.Nat.{ℕ}
 use mathlib.Core.Path.{sym, ap, _∙_}
-use Rattle.wiring.specs.declared.Phy.{Phy}
-use Rattle.wiring.specs.declared.Phy.the-variants.{Present}
+use Rattle.files.specs.declared.Phy.{Phy}
+use Rattle.files.specs.declared.Phy.the-variants.{Present}
 use Rattle.tables.specs.Replugging.{replug}
 use borrow.Author.Needs.{needs}
 use Rattle.tables.proofs.replugging.replug_phy.Statement.{statement}

@@ -2,10 +2,10 @@
 use Prim.Native.Nat.{_-_, _≤_}
 use mathlib.Core.Path.{_≡_, refl}
 use lib.ListN.{drop}
-use Rattle.wiring.specs.Domain.{Domain}
+use Rattle.files.specs.Domain.{Domain}
 use Rattle.wiring.specs.Causes.{placesFrom, firstIn, firstOf}
 use Rattle.wiring.specs.Addresses.{isTaken}
-use Rattle.wiring.specs.Rows.{domainIn}
+use Rattle.files.specs.Rows.{domainIn}
 use Rattle.wiring.proofs.Searches.{from-end}
 use Rattle.tables.specs.Replugging.{claimedWith}
 use Rattle.tables.proofs.Retests.{taken-start, taken-next, claim-stop, claim-go}

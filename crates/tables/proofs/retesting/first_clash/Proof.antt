@@ -2,9 +2,9 @@
 use Prim.Native.Nat.{ℕ, _-_, _≤_}
 use mathlib.Core.Path.{_≡_, sym, _∙_, ap}
 use native.Mathlib.Nat.{sub-zero}
-use Rattle.wiring.specs.Domain.{Domain}
+use Rattle.files.specs.Domain.{Domain}
 use Rattle.wiring.specs.Causes.{clashing, phyPlaces, firstIn}
-use Rattle.wiring.specs.Rows.{domainIn}
+use Rattle.files.specs.Rows.{domainIn}
 use Rattle.wiring.proofs.Searches.{phy-stop, phy-go, phy-end}
 use Rattle.tables.specs.Filling.{placesAt}
 use borrow.Author.Needs.{needs}

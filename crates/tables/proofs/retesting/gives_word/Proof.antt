@@ -4,10 +4,10 @@ use mathlib.Core.Path.{_∙_, ap}
 use mathlib.Core.Bool.{not}
 use mathlib.Core.List.{List}
 use borrow.Author.Tests.{eq-eqb, ne-eqb}
-use Rattle.wiring.specs.declared.Phy.{Phy}
-use Rattle.wiring.specs.Lists.{any}
-use Rattle.wiring.specs.Domain.{expanderAt, typeOf, attributeOf, bears}
-use Rattle.wiring.specs.Rows.{domainIn}
+use Rattle.files.specs.declared.Phy.{Phy}
+use Rattle.files.specs.Lists.{any}
+use Rattle.files.specs.Domain.{expanderAt, typeOf, attributeOf, bears}
+use Rattle.files.specs.Rows.{domainIn}
 use Rattle.tables.specs.Own.{lower, owns}
 use borrow.Author.Needs.{needs}
 use native.Mathlib.Omega.{arith}

@@ -3,11 +3,11 @@ use Prim.Native.Nat.{_-_, _≤_}
 use mathlib.Core.Path.{_≡_, sym, _∙_}
 use lib.ListN.{take, drop}
 use borrow.Author.Tests.{eq-eqb}
-use Rattle.wiring.proofs.InRows.{phy-held}
-use Rattle.wiring.specs.Lists.{any}
-use Rattle.wiring.specs.Domain.{Domain, expanderAt, typeOf}
+use Rattle.files.proofs.InRows.{phy-held}
+use Rattle.files.specs.Lists.{any}
+use Rattle.files.specs.Domain.{Domain, expanderAt, typeOf}
 use Rattle.wiring.specs.Causes.{clash, clashing}
-use Rattle.wiring.specs.Rows.{domainIn}
+use Rattle.files.specs.Rows.{domainIn}
 use Rattle.tables.proofs.Retests.{no-clash, clash-start, clash-stop, clash-go, clash-end}
 use borrow.Author.Needs.{needs}
 use native.Mathlib.Omega.{arith}

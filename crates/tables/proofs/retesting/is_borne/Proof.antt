@@ -1,10 +1,10 @@
 -- is_borne meets its contract. The loop's invariant: no phy from q on and below p bears the address.
 use Prim.Native.Nat.{_≤_}
 use mathlib.Core.Path.{_≡_, refl, sym, _∙_}
-use Rattle.wiring.proofs.InRows.{phy-held}
-use Rattle.wiring.specs.Lists.{any}
-use Rattle.wiring.specs.Domain.{Domain, expanderAt, bears}
-use Rattle.wiring.specs.Rows.{domainIn}
+use Rattle.files.proofs.InRows.{phy-held}
+use Rattle.files.specs.Lists.{any}
+use Rattle.files.specs.Domain.{Domain, expanderAt, bears}
+use Rattle.files.specs.Rows.{domainIn}
 use Rattle.tables.specs.Own.{lower}
 use Rattle.tables.proofs.Retests.{lower-stop, lower-go, lower-end}
 use borrow.Author.Needs.{needs}

@@ -3,7 +3,7 @@ use mathlib.Core.Path.{ap, ap₂}
 use mathlib.Core.Bool.{not}
 use lib.Dec.{eqb}
 use borrow.Author.Tests.{eq-eqb, ne-eqb}
-use Rattle.wiring.specs.Domain.{typeOf, addressOf, attributeOf}
+use Rattle.files.specs.Domain.{typeOf, addressOf, attributeOf}
 use Rattle.wiring.specs.Causes.{clash}
 use borrow.Author.Needs.{needs}
 use native.Mathlib.Omega.{arith}

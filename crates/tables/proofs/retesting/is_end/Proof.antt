@@ -2,7 +2,7 @@
 use mathlib.Core.Path.{ap}
 use lib.Dec.{eqb}
 use borrow.Author.Tests.{eq-eqb, ne-eqb}
-use Rattle.wiring.specs.Domain.{typeOf}
+use Rattle.files.specs.Domain.{typeOf}
 use borrow.Author.Needs.{needs}
 use native.Mathlib.Omega.{arith}
 use Rattle.tables.proofs.retesting.is_end.Statement.{statement}

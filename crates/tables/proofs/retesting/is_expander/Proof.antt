@@ -2,8 +2,8 @@
 use Prim.Native.Nat.{_+_, _-_, _≤_}
 use mathlib.Core.Path.{_≡_, sym, _∙_}
 use lib.ListN.{drop}
-use Rattle.wiring.specs.Domain.{numberOf}
-use Rattle.wiring.specs.Rows.{domainIn}
+use Rattle.files.specs.Domain.{numberOf}
+use Rattle.files.specs.Rows.{domainIn}
 use Rattle.tables.proofs.Retests.{expander-stop, expander-go, expander-end}
 use borrow.Author.Needs.{needs}
 use native.Mathlib.Omega.{arith}

@@ -5,8 +5,8 @@ use mathlib.Core.Path.{_≡_, refl, _∙_}
 use borrow.Rule.Slice.PartMut.{same-len-mid}
 use lib.ListN.{length, take, drop, length-drop, length-set}
 use lib.Seq.{length-take-le}
-use Rattle.wiring.specs.Domain.{Domain}
-use Rattle.wiring.specs.Rows.{domainIn}
+use Rattle.files.specs.Domain.{Domain}
+use Rattle.files.specs.Rows.{domainIn}
 use Rattle.tables.specs.Own.{own}
 use Rattle.tables.proofs.Owns.{own-few}
 use Rattle.tables.proofs.Retests.{own-renewed}

@@ -1,7 +1,7 @@
 -- retest meets its contract: the answers of the three searches in order.
 use mathlib.Core.Path.{refl, sym}
-use Rattle.wiring.specs.Domain.{Domain}
-use Rattle.wiring.specs.Rows.{domainIn}
+use Rattle.files.specs.Domain.{Domain}
+use Rattle.files.specs.Rows.{domainIn}
 use Rattle.wiring.proofs.Searches.{told}
 use Rattle.tables.proofs.Retests.{retested-by}
 use borrow.Author.Needs.{needs}

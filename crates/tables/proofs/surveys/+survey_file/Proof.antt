@@ -3,7 +3,7 @@ use mathlib.Core.Path.{sym}
 use native.Mathlib.Omega.{arith}
 use lib.ListN.{length}
 use lib.Seq.{length-take-le}
-use Rattle.wiring.proofs.Excess.{header-cut}
+use Rattle.files.proofs.Excess.{header-cut}
 use borrow.Author.Needs.{needs}
 use Prim.Native.Nat.{ℕ, _<_}
 use borrow.Fn.Kinds.{In}
@@ -13,7 +13,7 @@ use Rattle.tables.proofs.surveys.survey_file.Kinds as survey-kinds
 use Rattle.tables.proofs.surveys.+survey_file.Lts-survey_file as survey-lts
 use Rattle.tables.proofs.surveys.survey_few.Reads as survey-few-reads
 use Rattle.tables.proofs.surveys.survey_many.Reads as survey-many-reads
-use Rattle.wiring.proofs.stated_count.Reads as stated-count-reads
+use Rattle.files.proofs.stated_count.Reads as stated-count-reads
 use Rattle.tables.proofs.surveys.+survey_file.{statement}
 use Rattle.tables.proofs.surveys.+survey_file.Tie.{close}
 

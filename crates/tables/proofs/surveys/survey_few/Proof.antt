@@ -1,7 +1,7 @@
 -- survey_few: the second byte states how many expanders there are, so the room is enough.
 use Prim.Native.Nat.{ℕ}
 use lib.ListN.{length-replicate}
-use Rattle.wiring.proofs.Read.{stated-expanders}
+use Rattle.files.proofs.Read.{stated-expanders}
 use Rattle.wiring.proofs.Opening.{file-room}
 use borrow.Author.Needs.{needs}
 use native.Mathlib.Omega.{arith}

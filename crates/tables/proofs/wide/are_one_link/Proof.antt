@@ -3,8 +3,8 @@ use mathlib.Core.Path.{refl, sym, _∙_, ap}
 use mathlib.Core.Bool.{_&&_, and-true, and-false}
 use borrow.Author.Needs.{needs}
 use borrow.Author.Tests.{eq-eqb, ne-eqb, not-true, not-false}
-use Rattle.wiring.specs.Domain.{addressOf}
-use Rattle.wiring.specs.Rows.{domainIn}
+use Rattle.files.specs.Domain.{addressOf}
+use Rattle.files.specs.Rows.{domainIn}
 use Rattle.tables.specs.Levels.{down}
 use native.Mathlib.Omega.{arith}
 use Rattle.tables.proofs.Linked.{linked-by}

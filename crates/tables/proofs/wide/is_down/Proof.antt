@@ -5,9 +5,9 @@ use native.Mathlib.Omega.{arith}
 use lib.Dec.{le→leb}
 use borrow.Author.Tests.{eq-eqb, ne-eqb, le-leb, lt-leb}
 use Rattle.wiring.specs.Causes.{farPhy}
-use Rattle.wiring.specs.Domain.{Domain, typeOf, attributeOf, farOf, phyAt}
-use Rattle.wiring.specs.declared.Phy.{Phy}
-use Rattle.wiring.specs.Rows.{domainIn}
+use Rattle.files.specs.Domain.{Domain, typeOf, attributeOf, farOf, phyAt}
+use Rattle.files.specs.declared.Phy.{Phy}
+use Rattle.files.specs.Rows.{domainIn}
 use Rattle.tables.proofs.Linked.{far-number-is}
 use borrow.Author.Needs.{needs}
 use Rattle.tables.proofs.wide.is_down.Statement.{statement}

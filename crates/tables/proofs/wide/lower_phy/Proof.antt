@@ -1,8 +1,8 @@
 -- lower_phy meets its contract: the lowest phy with the address is told where it is lower and on the same link.
 use mathlib.Core.Path.{_∙_}
-use Rattle.wiring.specs.Rows.{domainIn}
-use Rattle.wiring.proofs.InRows.{phy-held}
-use Rattle.wiring.specs.Domain.{phyAt}
+use Rattle.files.specs.Rows.{domainIn}
+use Rattle.files.proofs.InRows.{phy-held}
+use Rattle.files.specs.Domain.{phyAt}
 use Rattle.tables.proofs.Linked.{linked-at}
 use borrow.Author.Needs.{needs}
 use native.Mathlib.Omega.{arith}

@@ -2,8 +2,8 @@
 use mathlib.Core.Path.{sym, _∙_}
 use native.Mathlib.Omega.{arith}
 use borrow.Author.Tests.{not-true, not-false}
-use Rattle.wiring.specs.Domain.{Domain}
-use Rattle.wiring.specs.Rows.{domainIn}
+use Rattle.files.specs.Domain.{Domain}
+use Rattle.files.specs.Rows.{domainIn}
 use Rattle.tables.proofs.Puts.{size-by}
 use borrow.Author.Needs.{needs}
 use Rattle.tables.proofs.word_places.size_at.Statement.{statement}

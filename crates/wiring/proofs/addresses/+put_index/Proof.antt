@@ -3,7 +3,7 @@ use mathlib.Core.Path.{sym}
 use native.Mathlib.Omega.{arith}
 use lib.ListN.{length}
 use lib.Seq.{length-take-le}
-use Rattle.wiring.proofs.Excess.{rows-cut}
+use Rattle.files.proofs.Excess.{rows-cut}
 use borrow.Author.Needs.{needs}
 use Prim.Native.Nat.{ℕ, _<_}
 use borrow.Fn.Kinds.{In}
@@ -13,7 +13,7 @@ use Rattle.wiring.proofs.addresses.put_index.Kinds as put-index-kinds
 use Rattle.wiring.proofs.addresses.+put_index.Lts-put_index as put-index-lts
 use Rattle.wiring.proofs.addresses.index_few.Reads as index-few-reads
 use Rattle.wiring.proofs.addresses.index_many.Reads as index-many-reads
-use Rattle.wiring.proofs.view.expander_count.Reads as expander-count-reads
+use Rattle.files.proofs.expander_count.Reads as expander-count-reads
 use Rattle.wiring.proofs.addresses.+put_index.{statement}
 use Rattle.wiring.proofs.addresses.+put_index.Tie.{close}
 

@@ -1,5 +1,5 @@
 -- index_many meets its contract: the tree has room for the slots of all expanders.
-use Rattle.wiring.proofs.InRows.{domain-few}
+use Rattle.files.proofs.InRows.{domain-few}
 use Rattle.wiring.proofs.Indexing.{none-yet, no-lows}
 use borrow.Author.Needs.{needs}
 use native.Mathlib.Omega.{arith}

@@ -2,7 +2,7 @@
 use Prim.Native.Nat.{_-_, _≤_}
 use mathlib.Core.Path.{_≡_, refl, _∙_}
 use lib.ListN.{length}
-use Rattle.wiring.specs.Rows.{domainIn}
+use Rattle.files.specs.Rows.{domainIn}
 use Rattle.wiring.specs.Addresses.{slotsBefore, FirstsTo, LowsBefore, tells, attachedAt, KeptBut}
 use Rattle.wiring.proofs.Indexing.{phys-start, all-indexed}
 use Rattle.wiring.proofs.Kept.{kept-none, kept-then}

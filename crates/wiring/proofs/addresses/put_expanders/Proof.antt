@@ -2,7 +2,7 @@
 use Prim.Native.Nat.{_-_, _≤_}
 use mathlib.Core.Path.{_≡_, refl, _∙_}
 use lib.ListN.{length, length-set}
-use Rattle.wiring.specs.Rows.{domainIn}
+use Rattle.files.specs.Rows.{domainIn}
 use Rattle.wiring.specs.Addresses.{FirstsTo, tells, KeptBut}
 use Rattle.wiring.proofs.Indexing.{expander-can, expander-next, expanders-end}
 use Rattle.wiring.proofs.Kept.{kept-none, kept-then, expander-kept}

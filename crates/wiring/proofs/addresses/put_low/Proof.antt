@@ -2,8 +2,8 @@
 use Prim.Native.Nat.{_-_, _≤_}
 use mathlib.Core.Path.{_≡_, refl, _∙_}
 use lib.ListN.{length}
-use Rattle.wiring.proofs.InRows.{phy-held}
-use Rattle.wiring.specs.Rows.{domainIn}
+use Rattle.files.proofs.InRows.{phy-held}
+use Rattle.files.specs.Rows.{domainIn}
 use Rattle.wiring.specs.Addresses.{LowsTo, attachedAt, KeptBut}
 use Rattle.wiring.proofs.Indexing.{lows-start, lows-end}
 use Rattle.wiring.proofs.Kept.{kept-none, kept-then}

@@ -1,6 +1,6 @@
 -- check_wiring meets its contract: the answers of the four searches in order.
 use mathlib.Core.Path.{refl, sym}
-use Rattle.wiring.specs.Rows.{domainIn}
+use Rattle.files.specs.Rows.{domainIn}
 use Rattle.wiring.proofs.Searches.{told, wired-by}
 use borrow.Author.Needs.{needs}
 use Rattle.wiring.proofs.causes.check_wiring.Statement.{statement}

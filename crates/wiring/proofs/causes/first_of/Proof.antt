@@ -4,7 +4,7 @@ use mathlib.Core.Path.{_≡_, refl}
 use lib.ListN.{drop}
 use Rattle.wiring.specs.Causes.{placesFrom, firstIn, firstOf}
 use Rattle.wiring.specs.Checks.{causeOf}
-use Rattle.wiring.specs.Rows.{domainIn}
+use Rattle.files.specs.Rows.{domainIn}
 use Rattle.wiring.proofs.Searches.{from-next, from-end}
 use borrow.Author.Needs.{needs}
 use native.Mathlib.Omega.{arith}

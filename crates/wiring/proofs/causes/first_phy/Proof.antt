@@ -4,7 +4,7 @@ use mathlib.Core.Path.{_≡_, sym, _∙_, ap}
 use mathlib.Core.Bool.{false}
 use borrow.Author.Count.{below-more}
 use Rattle.wiring.specs.Checks.{checkAnswer, causeOf}
-use Rattle.wiring.specs.Rows.{domainIn}
+use Rattle.files.specs.Rows.{domainIn}
 use Rattle.wiring.proofs.Searches.{phy-skip, phy-stop, phy-end}
 use borrow.Author.Needs.{needs}
 use native.Mathlib.Omega.{arith}

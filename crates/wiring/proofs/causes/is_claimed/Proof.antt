@@ -2,12 +2,12 @@
 use Prim.Native.Nat.{_+_, _*_}
 use mathlib.Core.Path.{_∙_, ap}
 use borrow.Author.Tests.{eq-eqb, ne-eqb}
-use Rattle.wiring.proofs.InRows.{phy-held}
+use Rattle.files.proofs.InRows.{phy-held}
 use Rattle.wiring.specs.Causes.{claimed}
-use Rattle.wiring.specs.Domain.{phyAt, typeOf}
-use Rattle.wiring.specs.Rows.{domainIn}
-use Rattle.wiring.proofs.Members.{eq→eqb}
-use Rattle.wiring.proofs.Wires.{expander-range}
+use Rattle.files.specs.Domain.{phyAt, typeOf}
+use Rattle.files.specs.Rows.{domainIn}
+use Rattle.files.proofs.Members.{eq→eqb}
+use Rattle.files.proofs.Domains.{expander-range}
 use Rattle.wiring.proofs.EndDevices.{short-in}
 use Rattle.wiring.proofs.Entries.{taken-told}
 use borrow.Author.Needs.{needs}

@@ -1,10 +1,10 @@
 -- is_fixed meets its contract: the attribute and the configurable bit tell.
 use mathlib.Core.Path.{_∙_, ap}
 use borrow.Author.Tests.{eq-eqb, ne-eqb}
-use Rattle.wiring.proofs.InRows.{phy-held}
+use Rattle.files.proofs.InRows.{phy-held}
 use Rattle.wiring.specs.Causes.{fixed}
-use Rattle.wiring.specs.Domain.{attributeOf, phyAt}
-use Rattle.wiring.specs.Rows.{domainIn}
+use Rattle.files.specs.Domain.{attributeOf, phyAt}
+use Rattle.files.specs.Rows.{domainIn}
 use borrow.Author.Needs.{needs}
 use native.Mathlib.Omega.{arith}
 use Rattle.wiring.proofs.causes.is_fixed.Statement.{statement}

@@ -2,7 +2,7 @@
 use native.Mathlib.Omega.{arith}
 use borrow.Author.Needs.{needs}
 use borrow.Author.Tests.{eq-eqb, ne-eqb, le-leb, lt-leb}
-use Rattle.wiring.specs.Domain.{typeOf, addressOf}
+use Rattle.files.specs.Domain.{typeOf, addressOf}
 use Rattle.wiring.proofs.causes.is_naming.Statement.{statement}
 use Rattle.wiring.proofs.causes.is_naming.Tie as tie
 

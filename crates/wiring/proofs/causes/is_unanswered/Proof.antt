@@ -3,10 +3,10 @@ use mathlib.Core.Bool.{not}
 use mathlib.Core.Path.{_∙_, ap}
 use lib.Dec.{le→leb}
 use borrow.Author.Tests.{eq-eqb, ne-eqb, le-leb, lt-leb}
-use Rattle.wiring.proofs.InRows.{phy-held}
+use Rattle.files.proofs.InRows.{phy-held}
 use Rattle.wiring.specs.Causes.{unanswered}
-use Rattle.wiring.specs.Domain.{typeOf, attributeOf, farOf, phyAt}
-use Rattle.wiring.specs.Rows.{domainIn}
+use Rattle.files.specs.Domain.{typeOf, attributeOf, farOf, phyAt}
+use Rattle.files.specs.Rows.{domainIn}
 use Rattle.wiring.proofs.EndDevices.{short-in}
 use Rattle.wiring.proofs.Entries.{far-told}
 use borrow.Author.Needs.{needs}

@@ -6,7 +6,7 @@ use borrow.Author.Needs.{needs}
 use Rattle.wiring.proofs.Bitsets.{all-below, left-count}
 use Rattle.wiring.proofs.Calls.{chains-few, chains-long, chains-short}
 use Rattle.wiring.specs.Checks.{checkAnswer}
-use Rattle.wiring.specs.Rows.{domainIn}
+use Rattle.files.specs.Rows.{domainIn}
 use Rattle.wiring.proofs.chains.check_chains.Statement.{statement}
 use Rattle.wiring.proofs.chains.check_chains.Tie as tie
 

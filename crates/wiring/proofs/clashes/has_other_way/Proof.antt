@@ -6,11 +6,11 @@ use mathlib.Core.Logic.{by-cases}
 use mathlib.Core.Bool.{false, not}
 use native.Mathlib.Decide.{ℕ-discrete}
 use lib.Dec.{eqb}
-use Rattle.wiring.proofs.InRows.{phy-held}
-use Rattle.wiring.specs.Domain.{phyAt, addressOf}
-use Rattle.wiring.specs.Rows.{domainIn}
+use Rattle.files.proofs.InRows.{phy-held}
+use Rattle.files.specs.Domain.{phyAt, addressOf}
+use Rattle.files.specs.Rows.{domainIn}
 use Rattle.wiring.specs.Clashes.{subtractive}
-use Rattle.wiring.proofs.Members.{was-true}
+use Rattle.files.proofs.Members.{was-true}
 use Rattle.wiring.proofs.LowerPhys.{way-found, way-none}
 use borrow.Author.Needs.{needs}
 use native.Mathlib.Omega.{arith}

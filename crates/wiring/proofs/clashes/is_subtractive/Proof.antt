@@ -1,6 +1,6 @@
 -- is_subtractive meets its contract: the type and the attribute tell.
 use borrow.Author.Tests.{eq-eqb, ne-eqb}
-use Rattle.wiring.specs.Domain.{typeOf}
+use Rattle.files.specs.Domain.{typeOf}
 use borrow.Author.Needs.{needs}
 use native.Mathlib.Omega.{arith}
 use Rattle.wiring.proofs.clashes.is_subtractive.Statement.{statement}

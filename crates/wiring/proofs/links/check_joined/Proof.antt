@@ -9,9 +9,9 @@ use borrow.Author.Tests.{not-true, not-false}
 use Rattle.wiring.proofs.Bitsets.{first-below, joined-bit, joined-stop, joined-go, joined-end}
 use Rattle.wiring.specs.Checks.{checkAnswer}
 use Rattle.wiring.specs.Links.{joinedIn}
-use Rattle.wiring.specs.Lists.{numbers, upTo}
+use Rattle.files.specs.Lists.{numbers, upTo}
 use Rattle.wiring.specs.Rounds.{RoundsRun}
-use Rattle.wiring.specs.Rows.{domainIn}
+use Rattle.files.specs.Rows.{domainIn}
 use Rattle.wiring.proofs.links.check_joined.Statement.{statement}
 use Rattle.wiring.proofs.links.check_joined.Tie as tie
 

@@ -3,7 +3,7 @@ use mathlib.Core.Path.{sym, _∙_, ap}
 use borrow.Author.Tests.{not-true, not-false}
 use Rattle.wiring.specs.Checks.{checkAnswer}
 use Rattle.wiring.proofs.Calls.{held, links-loop, links-joined}
-use Rattle.wiring.proofs.InRows.{domain-few}
+use Rattle.files.proofs.InRows.{domain-few}
 use borrow.Author.Needs.{needs}
 use Rattle.wiring.proofs.links.check_links.Statement.{statement}
 use Rattle.wiring.proofs.links.check_links.Tie as tie

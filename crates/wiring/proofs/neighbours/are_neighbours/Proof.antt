@@ -1,7 +1,7 @@
 -- are_neighbours meets its contract: the set of one has the number of the first expander with the address of the other.
 use mathlib.Core.Path.{_∙_}
 use Rattle.wiring.specs.Neighbours.{neighbours}
-use Rattle.wiring.proofs.InRows.{domain-few}
+use Rattle.files.proofs.InRows.{domain-few}
 use Rattle.wiring.proofs.Cables.{first-low, leads-cabled}
 use borrow.Author.Needs.{needs}
 use native.Mathlib.Omega.{arith}

@@ -2,9 +2,9 @@
 use mathlib.Core.Path.{_∙_, ap}
 use lib.Dec.{le→leb}
 use borrow.Author.Tests.{le-leb}
-use Rattle.wiring.proofs.InRows.{phy-held}
-use Rattle.wiring.specs.Domain.{typeOf, phyAt}
-use Rattle.wiring.specs.Rows.{domainIn}
+use Rattle.files.proofs.InRows.{phy-held}
+use Rattle.files.specs.Domain.{typeOf, phyAt}
+use Rattle.files.specs.Rows.{domainIn}
 use Rattle.wiring.proofs.Entries.{far-in}
 use Rattle.wiring.proofs.Cables.{far-no, far-high, far-one}
 use borrow.Author.Needs.{needs}

@@ -3,8 +3,8 @@ use Prim.Native.Nat.{_-_, _≤_}
 use mathlib.Core.Path.{subst}
 use lib.ListN.{take}
 use lib.Seq.{take-all}
-use Rattle.wiring.specs.Domain.{expanderAt}
-use Rattle.wiring.specs.Rows.{domainIn}
+use Rattle.files.specs.Domain.{expanderAt}
+use Rattle.files.specs.Rows.{domainIn}
 use Rattle.wiring.specs.Cables.{FarSet}
 use Rattle.wiring.proofs.Cables.{far-none, far-next}
 use borrow.Author.Needs.{needs}

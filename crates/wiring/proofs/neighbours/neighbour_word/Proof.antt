@@ -4,7 +4,7 @@ use mathlib.Core.Logic.{⊎-elim}
 use mathlib.Core.Path.{_≡_, refl, sym, _∙_, ap}
 use lib.ListN.{length}
 use Rattle.wiring.specs.Neighbours.{neighbours}
-use Rattle.wiring.specs.Rows.{domainIn}
+use Rattle.files.specs.Rows.{domainIn}
 use Rattle.wiring.proofs.NeighbourWords.{bit-go, bit-skip}
 use Rattle.wiring.proofs.Sets.{wordBelow, neighbour-word}
 use borrow.Author.Needs.{needs}

@@ -2,8 +2,8 @@
 use Prim.Native.Nat.{ℕ, _-_, _≤_}
 use mathlib.Core.Path.{_≡_, refl, subst}
 use lib.ListN.{length, length-set}
-use Rattle.wiring.specs.Domain.{expanderAt}
-use Rattle.wiring.specs.Rows.{domainIn}
+use Rattle.files.specs.Domain.{expanderAt}
+use Rattle.files.specs.Rows.{domainIn}
 use Rattle.wiring.specs.Cables.{FarSet, FarSets}
 use Rattle.wiring.proofs.EndDevices.{each-set}
 use borrow.Author.Needs.{needs}

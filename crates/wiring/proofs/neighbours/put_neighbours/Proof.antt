@@ -5,10 +5,10 @@ use mathlib.Core.List.{_++_, map}
 use mathlib.Core.Path.{_≡_, refl, _∙_, ap}
 use lib.Count.{ones, ones-le}
 use lib.ListN.{length, drop, length-set}
-use Rattle.wiring.specs.Lists.{numbers}
+use Rattle.files.specs.Lists.{numbers}
 use Rattle.wiring.specs.Neighbours.{neighbourWord, neighbourWords, bitsIn}
-use Rattle.wiring.specs.Rows.{domainIn}
-use Rattle.wiring.proofs.InRows.{domain-few}
+use Rattle.files.specs.Rows.{domainIn}
+use Rattle.files.proofs.InRows.{domain-few}
 use Rattle.wiring.proofs.NeighbourWords.{words-next, bits-next}
 use borrow.Author.Needs.{needs}
 use native.Mathlib.Omega.{arith}

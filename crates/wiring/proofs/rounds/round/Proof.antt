@@ -10,7 +10,7 @@ use Rattle.wiring.proofs.NeighbourWords.{bit-go, bit-skip}
 use Rattle.wiring.proofs.Sets.{set-word, wordBelow}
 use Rattle.wiring.specs.Neighbours.{neighbours}
 use Rattle.wiring.specs.Rounds.{members, roundTest}
-use Rattle.wiring.specs.Rows.{domainIn}
+use Rattle.files.specs.Rows.{domainIn}
 use Rattle.wiring.proofs.rounds.round.Statement.{statement}
 use Rattle.wiring.proofs.rounds.round.Tie as tie
 

@@ -7,7 +7,7 @@ use lib.ListN.{length}
 use Rattle.wiring.proofs.Bitsets.{set-below, members-set, rounds-next, rounds-end}
 use Rattle.wiring.specs.Neighbours.{neighbours}
 use Rattle.wiring.specs.Rounds.{nextSet, SetBelow, members, roundTest, rounds}
-use Rattle.wiring.specs.Rows.{domainIn}
+use Rattle.files.specs.Rows.{domainIn}
 use Rattle.wiring.proofs.rounds.run_rounds.Statement.{statement}
 use Rattle.wiring.proofs.rounds.run_rounds.Tie as tie
 

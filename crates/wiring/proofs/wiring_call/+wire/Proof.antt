@@ -4,7 +4,7 @@ use native.Mathlib.Omega.{arith}
 use lib.ListN.{length}
 use lib.Seq.{length-take-le}
 use Rattle.wiring.specs.Neighbours.{wiringCall}
-use Rattle.wiring.proofs.Excess.{header-cut}
+use Rattle.files.proofs.Excess.{header-cut}
 use borrow.Author.Needs.{needs}
 use Prim.Native.Nat.{ℕ, _<_}
 use borrow.Fn.Kinds.{In}
@@ -12,7 +12,7 @@ use borrow.Fn.PlainCycle.{Measures, is, falls, and}
 use Rattle.wiring.proofs.wiring_call.wire.Reads as wire
 use Rattle.wiring.proofs.wiring_call.wire.Kinds as wire-kinds
 use Rattle.wiring.proofs.wiring_call.+wire.Lts-wire as wire-lts
-use Rattle.wiring.proofs.rows.stated_count.Reads as stated-count-reads
+use Rattle.files.proofs.stated_count.Reads as stated-count-reads
 use Rattle.wiring.proofs.wiring_call.wire_few.Reads as wire-few-reads
 use Rattle.wiring.proofs.wiring_call.wire_many.Reads as wire-many-reads
 use Rattle.wiring.proofs.wiring_call.+wire.{statement}

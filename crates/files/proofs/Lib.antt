@@ -1,0 +1,14 @@
+pub mod Members
+pub mod Results
+pub mod Reading
+pub mod Ranges
+pub mod Read
+pub mod ShortFile
+pub mod Wider
+pub mod Filling
+pub mod Back
+pub mod RowsRead
+pub mod Domains
+pub mod InRows
+pub mod PhySets
+pub mod Excess

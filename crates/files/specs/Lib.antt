@@ -1,0 +1,10 @@
+pub mod Lists
+pub mod Domain
+pub mod Settings
+pub mod File
+pub mod ShortFile
+pub mod Read
+pub mod Units
+pub mod Rows
+pub mod Fill
+pub mod PhySet
