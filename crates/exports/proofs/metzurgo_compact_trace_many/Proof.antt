@@ -8,13 +8,16 @@ use Rattle.exports.proofs.metzurgo_compact_trace_many.Tie as tie
 
 returns : tie.Need-returns
 returns c =
-    let done = rw (c .before .before .before .before .before .before .before .before .setting .ensures) at (c .before .before .before .before .before .before .form-list .ensures) in
+    let at-setting = c .before .before .before .before .before .before .before .before .setting in
+    let at-form-list = c .before .before .before .before .before .before .form-list in
+    let done = rw (at-setting .ensures) at (at-form-list .ensures) in
     let e = sym (done .answers) ∙ ap listAnswer (c .before .before .answer .given .1) in
     (c .refusal .ensures ∙ sym (ap (packed number) e), done .words)
 
 returns-2 : tie.Need-returns-2
 returns-2 c =
-    let done = rw (c .before .before .before .before .before .before .before .setting .ensures) at (c .before .before .before .before .before .form-list .ensures) in
+    let at-setting = c .before .before .before .before .before .before .before .setting in
+    let done = rw (at-setting .ensures) at (c .before .before .before .before .before .form-list .ensures) in
     let e = sym (done .answers) ∙ ap listAnswer (c .before .answer2 .given .1) in
     (sym (ap (packed number) e), done .words)
 

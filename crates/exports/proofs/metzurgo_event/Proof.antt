@@ -36,7 +36,9 @@ same-length-3 c = search needs
 
 returns : tie.Need-returns
 returns c =
-    let done = rw (c .before .before .before .before .before .before .before .before .before .before .before .before .before .before .setting .ensures) at (c .before .before .before .before .before .before .before .before .before .before .apply-event .ensures) in
+    let at-setting = c .before .before .before .before .before .before .before .before .before .before .before .before .before .before .setting in
+    let at-apply-event = c .before .before .before .before .before .before .before .before .before .before .apply-event in
+    let done = rw (at-setting .ensures) at (at-apply-event .ensures) in
     record { answers = c .refusal .ensures ∙ ap (packed movedPacked) (ap eventAnswer (sym (c .before .before .answer .given .1)) ∙ done .answers); edits = done .edits; left = done .left }
 
 same-length-4 : tie.Need-same-length-4
@@ -50,7 +52,9 @@ same-length-6 c = search needs
 
 returns-2 : tie.Need-returns-2
 returns-2 c =
-    let done = rw (c .before .before .before .before .before .before .before .before .before .before .before .before .before .before .setting .ensures) at (c .before .before .before .before .before .before .before .before .before .before .apply-event .ensures) in
+    let at-setting = c .before .before .before .before .before .before .before .before .before .before .before .before .before .before .setting in
+    let at-apply-event = c .before .before .before .before .before .before .before .before .before .before .apply-event in
+    let done = rw (at-setting .ensures) at (at-apply-event .ensures) in
     record { answers = c .table-counts .ensures ∙ ap (packed movedPacked) (ap eventAnswer (sym (c .before .before .answer2 .given .1)) ∙ done .answers); edits = done .edits; left = done .left }
 
 pub metzurgo-event-spec : {M : Type 1} → statement M

@@ -8,13 +8,16 @@ use Rattle.exports.proofs.metzurgo_file_of_card.Tie as tie
 
 returns : tie.Need-returns
 returns c =
-    let done = rw (c .before .before .before .before .before .before .before .before .setting .ensures) at (c .before .before .before .before .before .before .file-of-card .ensures) in
+    let at-setting = c .before .before .before .before .before .before .before .before .setting in
+    let at-file-of-card = c .before .before .before .before .before .before .file-of-card in
+    let done = rw (at-setting .ensures) at (at-file-of-card .ensures) in
     let e = sym (done .answers) ∙ ap madeAnswer (c .before .before .answer .given .1) in
     (c .refusal .ensures ∙ sym (ap (packed number) e), done .bytes)
 
 returns-2 : tie.Need-returns-2
 returns-2 c =
-    let done = rw (c .before .before .before .before .before .before .before .setting .ensures) at (c .before .before .before .before .before .file-of-card .ensures) in
+    let at-setting = c .before .before .before .before .before .before .before .setting in
+    let done = rw (at-setting .ensures) at (c .before .before .before .before .before .file-of-card .ensures) in
     let e = sym (done .answers) ∙ ap madeAnswer (c .before .answer2 .given .1) in
     (sym (ap (packed number) e), done .bytes)
 

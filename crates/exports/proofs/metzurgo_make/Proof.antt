@@ -8,7 +8,8 @@ use Rattle.exports.proofs.metzurgo_make.Tie as tie
 
 returns : tie.Need-returns
 returns c =
-    let done = c .before .before .before .before .before .before .make .ensures in
+    let at-make = c .before .before .before .before .before .before .make in
+    let done = at-make .ensures in
     let e = sym (done .answers) ∙ ap madeAnswer (c .before .before .answer .given .1) in
     (c .refusal .ensures ∙ sym (ap (packed number) e), done .bytes)
 

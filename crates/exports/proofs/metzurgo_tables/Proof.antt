@@ -8,12 +8,16 @@ use Rattle.exports.proofs.metzurgo_tables.Tie as tie
 
 returns : tie.Need-returns
 returns c =
-    let done = rw (c .before .before .before .before .before .before .before .before .before .before .before .setting .ensures) at (c .before .before .before .before .before .before .before .before .give-tables .ensures) in
+    let at-setting = c .before .before .before .before .before .before .before .before .before .before .before .setting in
+    let at-give-tables = c .before .before .before .before .before .before .before .before .give-tables in
+    let done = rw (at-setting .ensures) at (at-give-tables .ensures) in
     (c .refusal .ensures ∙ ap (packed counts) (ap tablesAnswer (sym (c .before .before .answer .given .1)) ∙ done .answers), done .left)
 
 returns-2 : tie.Need-returns-2
 returns-2 c =
-    let done = rw (c .before .before .before .before .before .before .before .before .before .before .before .setting .ensures) at (c .before .before .before .before .before .before .before .before .give-tables .ensures) in
+    let at-setting = c .before .before .before .before .before .before .before .before .before .before .before .setting in
+    let at-give-tables = c .before .before .before .before .before .before .before .before .give-tables in
+    let done = rw (at-setting .ensures) at (at-give-tables .ensures) in
     (c .table-counts .ensures ∙ ap (packed counts) (ap tablesAnswer (sym (c .before .before .answer2 .given .1)) ∙ done .answers), done .left)
 
 setting-requires : tie.Need-setting-requires

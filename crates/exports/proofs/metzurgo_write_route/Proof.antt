@@ -23,8 +23,9 @@ same-length c = search needs
 
 returns : tie.Need-returns
 returns c =
-    let e = sym (c .before .before .before .before .before .before .put-route .ensures .0) ∙ ap (writeAnswer _) (c .before .before .answer .given .1) in
-    (c .refusal .ensures ∙ sym (ap (packed forty) e), c .before .before .before .before .before .before .put-route .ensures .1)
+    let at-put-route = c .before .before .before .before .before .before .put-route in
+    let e = sym (at-put-route .ensures .0) ∙ ap (writeAnswer _) (c .before .before .answer .given .1) in
+    (c .refusal .ensures ∙ sym (ap (packed forty) e), at-put-route .ensures .1)
 
 same-length-2 : tie.Need-same-length-2
 same-length-2 c = search needs

@@ -46,12 +46,14 @@ returns-2 c = search needs
 
 loop-less : tie.Need-loop-less Inv-loop μ-loop
 loop-less c =
-    let m = chunk-moves (c .before .before .before .before .before .before .put-chunk .ensures) (omega arith) in
+    let at-put-chunk = c .before .before .before .before .before .before .put-chunk in
+    let m = chunk-moves (at-put-chunk .ensures) (omega arith) in
     omega arith
 
 loop-again : tie.Need-loop-again Inv-loop μ-loop
 loop-again c =
-    let s = c .before .before .before .before .before .before .put-chunk .ensures .text .same in
+    let at-put-chunk = c .before .before .before .before .before .before .put-chunk in
+    let s = at-put-chunk .ensures .text .same in
     omega arith
 
 returns-3 : tie.Need-returns-3 Inv-loop μ-loop

@@ -29,7 +29,10 @@ same-length-2 : tie.Need-same-length-2
 same-length-2 c = search needs
 
 returns-2 : tie.Need-returns-2
-returns-2 c = let a = (c .before .before .before .before .before .before .before .before .before .before .before .before .before .args) in apart-judged (a .chain) (length (a .who .now)) (length (a .low .now)) (domainIn (a .rows .now)) (c .before .before .before .before .judge-rows .result) (omega (arith, (c .before .before .before .before .before .before .before .before .expander-count) .ensures .0, (c .before .before .before .before .before .before .before .before .before .first-repeated) .ensures)) ((c .before .before .before .before .judge-rows) .ensures .0)
+returns-2 c =
+    let at-expander-count = c .before .before .before .before .before .before .before .before .expander-count in
+    let at-first-repeated = c .before .before .before .before .before .before .before .before .before .first-repeated in
+    let a = (c .before .before .before .before .before .before .before .before .before .before .before .before .before .args) in apart-judged (a .chain) (length (a .who .now)) (length (a .low .now)) (domainIn (a .rows .now)) (c .before .before .before .before .judge-rows .result) (omega (arith, at-expander-count .ensures .0, at-first-repeated .ensures)) ((c .before .before .before .before .judge-rows) .ensures .0)
 
 pub judge-apart-spec : {M : Type 1} → statement M
 judge-apart-spec = tie.close (tie.spec first-repeated-requires expander-count-requires repeated-at-requires returns judge-rows-requires same-length same-length-2 returns-2)

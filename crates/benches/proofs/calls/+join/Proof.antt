@@ -35,18 +35,25 @@ module _ (t : ℕ) where
   stated-count-requires c κs = search needs
 
   slice-aggregate-join : join-lts.Need-slice-aggregate-join (claims t) (join-at t) join.Post
-  slice-aggregate-join c = sym (length-take-le 2 ((c .before .before .before .before .before .before .before .args) .first .now) (omega (arith, (c .before .if2) .taken)))
+  slice-aggregate-join c =
+      let at-args = c .before .before .before .before .before .before .before .args in
+      sym (length-take-le 2 (at-args .first .now) (omega (arith, (c .before .if2) .taken)))
 
   join-requires : join-lts.Need-join-requires (claims t) (join-at t) join.Post
-  join-requires c κs = (omega (arith, (c .before .before .before .before .before .before .before .before .pre) .0, (c .before .before .if2) .taken, length-take-le 2 ((c .before .before .before .before .before .before .before .before .args) .first .now) (omega (arith, (c .before .before .if2) .taken))), tt)
+  join-requires c κs =
+      let at-pre = c .before .before .before .before .before .before .before .before .pre in
+      let at-args = c .before .before .before .before .before .before .before .before .args in
+      (omega (arith, at-pre .0, (c .before .before .if2) .taken, length-take-le 2 (at-args .first .now) (omega (arith, (c .before .before .if2) .taken))), tt)
 
   same-length : join-lts.Need-same-length (claims t) (join-at t) join.Post
   same-length c = search needs
 
   returns : join-lts.Need-returns (claims t) (join-at t) join.Post
   returns c =
+      let at-stated-count = c .before .before .before .before .before .before .before .stated-count in
+      let at-if1 = c .before .before .before .before .before .before .if1 in
       let a = (c .before .before .before .before .before .before .before .before .before .before .before .args) in
-      rw (join-cut (a .setting) (a .first .now) (a .i .0) (a .p .0) (a .second .now) (a .j .0) (a .q .0) (length (a .out .now)) ((c .before .before .before .before .before .if2) .taken) (omega (arith, (c .before .before .before .before .before .before .before .stated-count) .ensures, (c .before .before .before .before .before .before .if1) .taken))) at ((c .before .before .join) .ensures)
+      rw (join-cut (a .setting) (a .first .now) (a .i .0) (a .p .0) (a .second .now) (a .j .0) (a .q .0) (length (a .out .now)) ((c .before .before .before .before .before .if2) .taken) (omega (arith, at-stated-count .ensures, at-if1 .taken))) at ((c .before .before .join) .ensures)
 
   stated-count-requires-2 : join-lts.Need-stated-count-requires-2 (claims t) (join-at t) join.Post
   stated-count-requires-2 c κs = search needs

@@ -17,7 +17,10 @@ enum-known-files-2 : tie.Need-enum-known-files-2
 enum-known-files-2 c = search needs
 
 join-ready-requires : tie.Need-join-ready-requires
-join-ready-requires c κs = let a = (c .before .before .before .before .before .before .before .before .before .before .before .before .before .before .before .before .before .before .before .before .before .before .before .args) in let r = files-ready (a .setting) (a .first .now) (a .i .0) (a .p .0) (a .second .now) (a .j .0) (a .q .0) (length (a .out .now)) _ _ (sym ((c .before .before .before .before .before .before .before .before .before .before .before .before .before .judge-files) .ensures) ∙ ap filesAnswer ((c .before .before .before .before .before .files2) .given .1)) in (r, ready-room (a .setting) (a .first .now) (a .i .0) (a .p .0) (a .second .now) (a .j .0) (a .q .0) (length (a .out .now)) _ _ r (a .rows .now) _ (a .who .now) _ (a .low .now) _ ((c .before .before .before .before .before .before .before .before .before .before .before .before .before .judge-files) .kept .1 .1 .1 .1 .1 .1 .1 .0) ((c .before .before .before .before .before .before .before .before .before .before .before .before .before .judge-files) .kept .1 .1 .1 .1 .1 .1 .1 .1 .0) ((c .before .before .before .before .before .before .before .before .before .before .before .before .before .judge-files) .kept .1 .1 .1 .1 .1 .1 .1 .1 .1 .0) (c .before .before .before .before .before .before .before .before .before .before .before .before .before .before .before .before .before .before .before .before .before .before .before .pre))
+join-ready-requires c κs =
+    let at-judge-files = c .before .before .before .before .before .before .before .before .before .before .before .before .before .judge-files in
+    let at-pre = c .before .before .before .before .before .before .before .before .before .before .before .before .before .before .before .before .before .before .before .before .before .before .before .pre in
+    let a = (c .before .before .before .before .before .before .before .before .before .before .before .before .before .before .before .before .before .before .before .before .before .before .before .args) in let r = files-ready (a .setting) (a .first .now) (a .i .0) (a .p .0) (a .second .now) (a .j .0) (a .q .0) (length (a .out .now)) _ _ (sym (at-judge-files .ensures) ∙ ap filesAnswer ((c .before .before .before .before .before .files2) .given .1)) in (r, ready-room (a .setting) (a .first .now) (a .i .0) (a .p .0) (a .second .now) (a .j .0) (a .q .0) (length (a .out .now)) _ _ r (a .rows .now) _ (a .who .now) _ (a .low .now) _ (at-judge-files .kept .1 .1 .1 .1 .1 .1 .1 .0) (at-judge-files .kept .1 .1 .1 .1 .1 .1 .1 .1 .0) (at-judge-files .kept .1 .1 .1 .1 .1 .1 .1 .1 .1 .0) at-pre)
 
 same-length : tie.Need-same-length
 same-length c = search needs
@@ -29,7 +32,9 @@ same-length-3 : tie.Need-same-length-3
 same-length-3 c = search needs
 
 returns : tie.Need-returns
-returns c = let a = (c .before .before .before .before .before .before .before .before .before .before .before .before .before .before .before .before .before .before .before .args) in join-refused _ _ _ _ (files-refused (a .setting) (a .first .now) (a .i .0) (a .p .0) (a .second .now) (a .j .0) (a .q .0) (length (a .out .now)) _ (sym ((c .before .before .before .before .before .before .before .before .before .judge-files) .ensures) ∙ ap filesAnswer ((c .before .files) .given .1))) refl
+returns c =
+    let at-judge-files = c .before .before .before .before .before .before .before .before .before .judge-files in
+    let a = (c .before .before .before .before .before .before .before .before .before .before .before .before .before .before .before .before .before .before .before .args) in join-refused _ _ _ _ (files-refused (a .setting) (a .first .now) (a .i .0) (a .p .0) (a .second .now) (a .j .0) (a .q .0) (length (a .out .now)) _ (sym (at-judge-files .ensures) ∙ ap filesAnswer ((c .before .files) .given .1))) refl
 
 same-length-4 : tie.Need-same-length-4
 same-length-4 c = search needs

@@ -33,7 +33,9 @@ is-upward-requires : tie.Need-is-upward-requires Inv-loop μ-loop
 is-upward-requires c κs = search needs
 
 returns : tie.Need-returns Inv-loop μ-loop
-returns c = any-go upward (expanderAt (domainIn ((c .before .before .before .before .before .before .before .args) .rows .now)) ((c .before .before .before .before .before .before .before .args) .i .0) .phys) ((c .before .before .before .before .loop) .p) _ ((c .before .before .before .before .loop) .inv .1 .1 .1) (omega arith) true (sym ((c .if1) .taken) ∙ (c .before .is-upward) .ensures ∙ ap upward ((c .before .before .phy-at) .ensures))
+returns c =
+    let at-args = c .before .before .before .before .before .before .before .args in
+    any-go upward (expanderAt (domainIn (at-args .rows .now)) (at-args .i .0) .phys) ((c .before .before .before .before .loop) .p) _ ((c .before .before .before .before .loop) .inv .1 .1 .1) (omega arith) true (sym ((c .if1) .taken) ∙ (c .before .is-upward) .ensures ∙ ap upward ((c .before .before .phy-at) .ensures))
 
 add-p : tie.Need-add-p Inv-loop μ-loop
 add-p c = omega arith
@@ -42,7 +44,9 @@ loop-less : tie.Need-loop-less Inv-loop μ-loop
 loop-less c = omega arith
 
 loop-again : tie.Need-loop-again Inv-loop μ-loop
-loop-again c = (omega arith, ((c .before .before .before .before .loop) .inv .1 .0, ((c .before .before .before .before .loop) .inv .1 .1 .0, any-go upward (expanderAt (domainIn ((c .before .before .before .before .before .before .before .args) .rows .now)) ((c .before .before .before .before .before .before .before .args) .i .0) .phys) ((c .before .before .before .before .loop) .p) _ ((c .before .before .before .before .loop) .inv .1 .1 .1) (omega arith) false (sym ((c .if1) .left) ∙ (c .before .is-upward) .ensures ∙ ap upward ((c .before .before .phy-at) .ensures)))))
+loop-again c =
+    let at-args = c .before .before .before .before .before .before .before .args in
+    (omega arith, ((c .before .before .before .before .loop) .inv .1 .0, ((c .before .before .before .before .loop) .inv .1 .1 .0, any-go upward (expanderAt (domainIn (at-args .rows .now)) (at-args .i .0) .phys) ((c .before .before .before .before .loop) .p) _ ((c .before .before .before .before .loop) .inv .1 .1 .1) (omega arith) false (sym ((c .if1) .left) ∙ (c .before .is-upward) .ensures ∙ ap upward ((c .before .before .phy-at) .ensures)))))
 
 returns-2 : tie.Need-returns-2 Inv-loop μ-loop
 returns-2 c = any-end upward (expanderAt (domainIn ((c .before .before .before .before .args) .rows .now)) ((c .before .before .before .before .args) .i .0) .phys) ((c .before .loop) .p) _ ((c .before .loop) .inv .1 .1 .1) (omega arith)

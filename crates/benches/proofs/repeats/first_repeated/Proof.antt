@@ -29,7 +29,9 @@ number-of-requires : tie.Need-number-of-requires Inv-loop μ-loop
 number-of-requires c κs = search needs
 
 returns : tie.Need-returns Inv-loop μ-loop
-returns c = let d = domainIn ((c .before .before .before .before .before .before .before .args) .rows .now) in repeated-stop d _ ((c .before .before .before .before .loop) .k) ((c .before .before .before .before .loop) .inv .1) (omega arith) (λ z. (c .if1) .taken ((c .before .number-of) .ensures ∙ ap (numberOf d) ((c .before .before .expander-address) .ensures) ∙ z))
+returns c =
+    let at-args = c .before .before .before .before .before .before .before .args in
+    let d = domainIn (at-args .rows .now) in repeated-stop d _ ((c .before .before .before .before .loop) .k) ((c .before .before .before .before .loop) .inv .1) (omega arith) (λ z. (c .if1) .taken ((c .before .number-of) .ensures ∙ ap (numberOf d) ((c .before .before .expander-address) .ensures) ∙ z))
 
 add-k : tie.Need-add-k Inv-loop μ-loop
 add-k c = omega arith
@@ -38,7 +40,9 @@ loop-less : tie.Need-loop-less Inv-loop μ-loop
 loop-less c = omega arith
 
 loop-again : tie.Need-loop-again Inv-loop μ-loop
-loop-again c = let d = domainIn ((c .before .before .before .before .before .before .before .args) .rows .now) in (omega arith, repeated-go d _ ((c .before .before .before .before .loop) .k) ((c .before .before .before .before .loop) .inv .1) (omega arith) (sym ((c .before .number-of) .ensures ∙ ap (numberOf d) ((c .before .before .expander-address) .ensures)) ∙ (c .if1) .left))
+loop-again c =
+    let at-args = c .before .before .before .before .before .before .before .args in
+    let d = domainIn (at-args .rows .now) in (omega arith, repeated-go d _ ((c .before .before .before .before .loop) .k) ((c .before .before .before .before .loop) .inv .1) (omega arith) (sym ((c .before .number-of) .ensures ∙ ap (numberOf d) ((c .before .before .expander-address) .ensures)) ∙ (c .if1) .left))
 
 returns-2 : tie.Need-returns-2 Inv-loop μ-loop
 returns-2 c = let d = domainIn ((c .before .before .before .before .args) .rows .now) in omega (arith, repeated-end d _ ((c .before .loop) .k) ((c .before .loop) .inv .1) (omega arith))

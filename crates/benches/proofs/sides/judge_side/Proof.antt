@@ -28,10 +28,15 @@ mul-e : tie.Need-mul-e
 mul-e c = search needs
 
 slice-reshare-prefix-judge-rows : tie.Need-slice-reshare-prefix-judge-rows
-slice-reshare-prefix-judge-rows c = let a = (c .before .before .before .before .before .before .before .before .before .before .before .args) in (opened-fits _ _ _ _ _ _ ((side-room (a .setting) (a .file .now) (a .rows .now) (a .who .now) (a .low .now) (c .before .before .before .before .before .before .before .before .before .before .before .pre)) .rows) ((c .before .before .before .before .before .read-domain) .ensures) ((c .before .read2) .given .1) ((c .before .before .before .before .before .read-domain) .kept .1 .1 .0))
+slice-reshare-prefix-judge-rows c =
+    let at-pre = c .before .before .before .before .before .before .before .before .before .before .before .pre in
+    let a = (c .before .before .before .before .before .before .before .before .before .before .before .args) in (opened-fits _ _ _ _ _ _ ((side-room (a .setting) (a .file .now) (a .rows .now) (a .who .now) (a .low .now) at-pre) .rows) ((c .before .before .before .before .before .read-domain) .ensures) ((c .before .read2) .given .1) ((c .before .before .before .before .before .read-domain) .kept .1 .1 .0))
 
 slice-aggregate-judge-rows : tie.Need-slice-aggregate-judge-rows
-slice-aggregate-judge-rows c = let a = (c .before .before .before .before .before .before .before .before .before .before .before .before .args) in sym (length-take-le _ ((c .before .before .before .before .before .before .read-domain) .last .1 .1 .0) (opened-fits _ _ _ _ _ _ ((side-room (a .setting) (a .file .now) (a .rows .now) (a .who .now) (a .low .now) (c .before .before .before .before .before .before .before .before .before .before .before .before .pre)) .rows) ((c .before .before .before .before .before .before .read-domain) .ensures) ((c .before .before .read2) .given .1) ((c .before .before .before .before .before .before .read-domain) .kept .1 .1 .0)))
+slice-aggregate-judge-rows c =
+    let at-read-domain = c .before .before .before .before .before .before .read-domain in
+    let at-pre = c .before .before .before .before .before .before .before .before .before .before .before .before .pre in
+    let a = (c .before .before .before .before .before .before .before .before .before .before .before .before .args) in sym (length-take-le _ (at-read-domain .last .1 .1 .0) (opened-fits _ _ _ _ _ _ ((side-room (a .setting) (a .file .now) (a .rows .now) (a .who .now) (a .low .now) at-pre) .rows) (at-read-domain .ensures) ((c .before .before .read2) .given .1) (at-read-domain .kept .1 .1 .0)))
 
 judge-rows-requires : tie.Need-judge-rows-requires
 judge-rows-requires c κs = search needs
@@ -43,10 +48,18 @@ enum-told : tie.Need-enum-told
 enum-told c = search needs
 
 slice-reshare-prefix-is-free : tie.Need-slice-reshare-prefix-is-free
-slice-reshare-prefix-is-free c = let a = (c .before .before .before .before .before .before .before .before .before .before .before .before .before .before .before .before .before .before .before .before .before .args) in (opened-fits _ _ _ _ _ _ ((side-room (a .setting) (a .file .now) (a .rows .now) (a .who .now) (a .low .now) (c .before .before .before .before .before .before .before .before .before .before .before .before .before .before .before .before .before .before .before .before .before .pre)) .rows) ((c .before .before .before .before .before .before .before .before .before .before .before .before .before .before .before .read-domain) .ensures) ((c .before .before .before .before .before .before .before .before .before .before .before .read2) .given .1) ((c .before .before .before .before .before .before .before .before .before .before .before .before .before .before .before .read-domain) .kept .1 .1 .0))
+slice-reshare-prefix-is-free c =
+    let at-pre = c .before .before .before .before .before .before .before .before .before .before .before .before .before .before .before .before .before .before .before .before .before .pre in
+    let at-read-domain = c .before .before .before .before .before .before .before .before .before .before .before .before .before .before .before .read-domain in
+    let at-read2 = c .before .before .before .before .before .before .before .before .before .before .before .read2 in
+    let a = (c .before .before .before .before .before .before .before .before .before .before .before .before .before .before .before .before .before .before .before .before .before .args) in (opened-fits _ _ _ _ _ _ ((side-room (a .setting) (a .file .now) (a .rows .now) (a .who .now) (a .low .now) at-pre) .rows) (at-read-domain .ensures) (at-read2 .given .1) (at-read-domain .kept .1 .1 .0))
 
 slice-aggregate-is-free : tie.Need-slice-aggregate-is-free
-slice-aggregate-is-free c = let a = (c .before .before .before .before .before .before .before .before .before .before .before .before .before .before .before .before .before .before .before .before .before .before .args) in sym (length-take-le _ ((c .before .before .before .before .before .before .before .before .before .before .before .before .before .before .before .before .read-domain) .last .1 .1 .0) (opened-fits _ _ _ _ _ _ ((side-room (a .setting) (a .file .now) (a .rows .now) (a .who .now) (a .low .now) (c .before .before .before .before .before .before .before .before .before .before .before .before .before .before .before .before .before .before .before .before .before .before .pre)) .rows) ((c .before .before .before .before .before .before .before .before .before .before .before .before .before .before .before .before .read-domain) .ensures) ((c .before .before .before .before .before .before .before .before .before .before .before .before .read2) .given .1) ((c .before .before .before .before .before .before .before .before .before .before .before .before .before .before .before .before .read-domain) .kept .1 .1 .0)))
+slice-aggregate-is-free c =
+    let at-read-domain = c .before .before .before .before .before .before .before .before .before .before .before .before .before .before .before .before .read-domain in
+    let at-pre = c .before .before .before .before .before .before .before .before .before .before .before .before .before .before .before .before .before .before .before .before .before .before .pre in
+    let at-read2 = c .before .before .before .before .before .before .before .before .before .before .before .before .read2 in
+    let a = (c .before .before .before .before .before .before .before .before .before .before .before .before .before .before .before .before .before .before .before .before .before .before .args) in sym (length-take-le _ (at-read-domain .last .1 .1 .0) (opened-fits _ _ _ _ _ _ ((side-room (a .setting) (a .file .now) (a .rows .now) (a .who .now) (a .low .now) at-pre) .rows) (at-read-domain .ensures) (at-read2 .given .1) (at-read-domain .kept .1 .1 .0)))
 
 is-free-requires : tie.Need-is-free-requires
 is-free-requires c κs = search needs
@@ -55,7 +68,9 @@ same-length : tie.Need-same-length
 same-length c = search needs
 
 returns : tie.Need-returns
-returns c = let a = (c .before .before .before .before .before .before .before .before .before .before .before .args) in side-refused (a .setting) (a .file .now) (a .i .0) (a .p .0) _ (opened-as _ _ _ _ _ _ ((side-room (a .setting) (a .file .now) (a .rows .now) (a .who .now) (a .low .now) (c .before .before .before .before .before .before .before .before .before .before .before .pre)) .rows) ((c .before .before .before .before .before .read-domain) .ensures) ((c .before .read) .given .1))
+returns c =
+    let at-pre = c .before .before .before .before .before .before .before .before .before .before .before .pre in
+    let a = (c .before .before .before .before .before .before .before .before .before .before .before .args) in side-refused (a .setting) (a .file .now) (a .i .0) (a .p .0) _ (opened-as _ _ _ _ _ _ ((side-room (a .setting) (a .file .now) (a .rows .now) (a .who .now) (a .low .now) at-pre) .rows) ((c .before .before .before .before .before .read-domain) .ensures) ((c .before .read) .given .1))
 
 same-length-2 : tie.Need-same-length-2
 same-length-2 c = search needs
@@ -67,7 +82,12 @@ same-length-4 : tie.Need-same-length-4
 same-length-4 c = search needs
 
 returns-2 : tie.Need-returns-2
-returns-2 c = let a = (c .before .before .before .before .before .before .before .before .before .before .before .before .before .before .before .before .before .before .before .before .before .before .args) in let o = opened-as _ _ _ _ _ _ ((side-room (a .setting) (a .file .now) (a .rows .now) (a .who .now) (a .low .now) (c .before .before .before .before .before .before .before .before .before .before .before .before .before .before .before .before .before .before .before .before .before .before .pre)) .rows) ((c .before .before .before .before .before .before .before .before .before .before .before .before .before .before .before .before .read-domain) .ensures) ((c .before .before .before .before .before .before .before .before .before .before .before .before .read2) .given .1) in sym (ap (λ (x : Result Domain). then x (sideOf (a .i .0) (a .p .0))) (judged-by (a .setting) (a .file .now) _ _ (o .0) (sym (judged-own _ _ _ _ _ (o .0) ((side-room (a .setting) (a .file .now) (a .rows .now) (a .who .now) (a .low .now) (c .before .before .before .before .before .before .before .before .before .before .before .before .before .before .before .before .before .before .before .before .before .before .pre)) .index _ (o .0))) ∙ sym ((c .before .before .before .before .before .before .before .judge-rows) .ensures .0) ∙ ap (checkAnswer _) ((c .before .verdict) .given .1))))
+returns-2 c =
+    let at-pre = c .before .before .before .before .before .before .before .before .before .before .before .before .before .before .before .before .before .before .before .before .before .before .pre in
+    let at-read-domain = c .before .before .before .before .before .before .before .before .before .before .before .before .before .before .before .before .read-domain in
+    let at-read2 = c .before .before .before .before .before .before .before .before .before .before .before .before .read2 in
+    let at-judge-rows = c .before .before .before .before .before .before .before .judge-rows in
+    let a = (c .before .before .before .before .before .before .before .before .before .before .before .before .before .before .before .before .before .before .before .before .before .before .args) in let o = opened-as _ _ _ _ _ _ ((side-room (a .setting) (a .file .now) (a .rows .now) (a .who .now) (a .low .now) at-pre) .rows) (at-read-domain .ensures) (at-read2 .given .1) in sym (ap (λ (x : Result Domain). then x (sideOf (a .i .0) (a .p .0))) (judged-by (a .setting) (a .file .now) _ _ (o .0) (sym (judged-own _ _ _ _ _ (o .0) ((side-room (a .setting) (a .file .now) (a .rows .now) (a .who .now) (a .low .now) at-pre) .index _ (o .0))) ∙ sym (at-judge-rows .ensures .0) ∙ ap (checkAnswer _) ((c .before .verdict) .given .1))))
 
 same-length-5 : tie.Need-same-length-5
 same-length-5 c = search needs
@@ -79,7 +99,12 @@ same-length-7 : tie.Need-same-length-7
 same-length-7 c = search needs
 
 returns-3 : tie.Need-returns-3
-returns-3 c = let a = (c .before .before .before .before .before .before .before .before .before .before .before .before .before .before .before .before .before .before .before .before .before .before .before .args) in let o = opened-as _ _ _ _ _ _ ((side-room (a .setting) (a .file .now) (a .rows .now) (a .who .now) (a .low .now) (c .before .before .before .before .before .before .before .before .before .before .before .before .before .before .before .before .before .before .before .before .before .before .before .pre)) .rows) ((c .before .before .before .before .before .before .before .before .before .before .before .before .before .before .before .before .before .read-domain) .ensures) ((c .before .before .before .before .before .before .before .before .before .before .before .before .before .read2) .given .1) in side-good (a .setting) (a .file .now) (a .i .0) (a .p .0) _ _ _ (judged-by (a .setting) (a .file .now) _ _ (o .0) (sym (judged-own _ _ _ _ _ (o .0) ((side-room (a .setting) (a .file .now) (a .rows .now) (a .who .now) (a .low .now) (c .before .before .before .before .before .before .before .before .before .before .before .before .before .before .before .before .before .before .before .before .before .before .before .pre)) .index _ (o .0))) ∙ sym ((c .before .before .before .before .before .before .before .before .judge-rows) .ensures .0) ∙ ap (checkAnswer _) ((c .before .before .enum-told) .given .1))) (o .1 .1) ((c .is-free) .ensures)
+returns-3 c =
+    let at-pre = c .before .before .before .before .before .before .before .before .before .before .before .before .before .before .before .before .before .before .before .before .before .before .before .pre in
+    let at-read-domain = c .before .before .before .before .before .before .before .before .before .before .before .before .before .before .before .before .before .read-domain in
+    let at-read2 = c .before .before .before .before .before .before .before .before .before .before .before .before .before .read2 in
+    let at-judge-rows = c .before .before .before .before .before .before .before .before .judge-rows in
+    let a = (c .before .before .before .before .before .before .before .before .before .before .before .before .before .before .before .before .before .before .before .before .before .before .before .args) in let o = opened-as _ _ _ _ _ _ ((side-room (a .setting) (a .file .now) (a .rows .now) (a .who .now) (a .low .now) at-pre) .rows) (at-read-domain .ensures) (at-read2 .given .1) in side-good (a .setting) (a .file .now) (a .i .0) (a .p .0) _ _ _ (judged-by (a .setting) (a .file .now) _ _ (o .0) (sym (judged-own _ _ _ _ _ (o .0) ((side-room (a .setting) (a .file .now) (a .rows .now) (a .who .now) (a .low .now) at-pre) .index _ (o .0))) ∙ sym (at-judge-rows .ensures .0) ∙ ap (checkAnswer _) ((c .before .before .enum-told) .given .1))) (o .1 .1) ((c .is-free) .ensures)
 
 pub judge-side-spec : {M : Type 1} → statement M
 judge-side-spec = tie.close (tie.spec read-domain-requires enum-known-read enum-known-read-2 cast-e mul-e slice-reshare-prefix-judge-rows slice-aggregate-judge-rows judge-rows-requires enum-known-verdict enum-told slice-reshare-prefix-is-free slice-aggregate-is-free is-free-requires same-length returns same-length-2 same-length-3 same-length-4 returns-2 same-length-5 same-length-6 same-length-7 returns-3)

@@ -48,10 +48,15 @@ put-address-requires : tie.Need-put-address-requires
 put-address-requires c κs = search needs
 
 same-length : tie.Need-same-length
-same-length c = same-len-mid ((c .before .before .before .before .before .before .before .args) .at + 24) (length (set (set ((c .before .before .before .before .before .before .before .args) .out .now) ((c .before .before .before .before .before .before .before .args) .at + 12) ((c .before .before .before .before .type-two) .result)) ((c .before .before .before .before .before .before .before .args) .at + 32) ((c .before .before .before .before .before .before .before .args) .q .0)) - ((c .before .before .before .before .before .before .before .args) .at + 24)) (set (set ((c .before .before .before .before .before .before .before .args) .out .now) ((c .before .before .before .before .before .before .before .args) .at + 12) ((c .before .before .before .before .type-two) .result)) ((c .before .before .before .before .before .before .before .args) .at + 32) ((c .before .before .before .before .before .before .before .args) .q .0)) ((c .before .before .put-address) .last .0) ((c .before .before .put-address) .kept .0) ∙ simp length-set
+same-length c =
+    let at-args = c .before .before .before .before .before .before .before .args in
+    same-len-mid (at-args .at + 24) (length (set (set (at-args .out .now) (at-args .at + 12) ((c .before .before .before .before .type-two) .result)) (at-args .at + 32) (at-args .q .0)) - (at-args .at + 24)) (set (set (at-args .out .now) (at-args .at + 12) ((c .before .before .before .before .type-two) .result)) (at-args .at + 32) (at-args .q .0)) ((c .before .before .put-address) .last .0) ((c .before .before .put-address) .kept .0) ∙ simp length-set
 
 returns : tie.Need-returns
-returns c = let t = (c .before .before .before .before .type-two) .ensures in let l : length (set (set ((c .before .before .before .before .before .before .before .args) .out .now) ((c .before .before .before .before .before .before .before .args) .at + 12) ((c .before .before .before .before .type-two) .result)) ((c .before .before .before .before .before .before .before .args) .at + 32) ((c .before .before .before .before .before .before .before .args) .q .0)) ≡ length ((c .before .before .before .before .before .before .before .args) .out .now) = simp length-set in subst (λ (b : ℕ). putMid ((c .before .before .before .before .before .before .before .args) .at + 24) (length (set (set ((c .before .before .before .before .before .before .before .args) .out .now) ((c .before .before .before .before .before .before .before .args) .at + 12) b) ((c .before .before .before .before .before .before .before .args) .at + 32) ((c .before .before .before .before .before .before .before .args) .q .0)) - ((c .before .before .before .before .before .before .before .args) .at + 24)) (set (set ((c .before .before .before .before .before .before .before .args) .out .now) ((c .before .before .before .before .before .before .before .args) .at + 12) b) ((c .before .before .before .before .before .before .before .args) .at + 32) ((c .before .before .before .before .before .before .before .args) .q .0)) ((c .before .before .put-address) .last .0) ≡ cabledAt ((c .before .before .before .before .before .before .before .args) .out .now) ((c .before .before .before .before .before .before .before .args) .at) ((c .before .before .before .before .before .before .before .args) .s) ((c .before .before .before .before .before .before .before .args) .q .0)) (sym t) (cable-put ((c .before .before .before .before .before .before .before .args) .out .now) ((c .before .before .before .before .before .before .before .args) .at) ((c .before .before .before .before .before .before .before .args) .s) ((c .before .before .before .before .before .before .before .args) .q .0) (length (set (set ((c .before .before .before .before .before .before .before .args) .out .now) ((c .before .before .before .before .before .before .before .args) .at + 12) (typedTwo (byte ((c .before .before .before .before .before .before .before .args) .out .now) ((c .before .before .before .before .before .before .before .args) .at + 12)))) ((c .before .before .before .before .before .before .before .args) .at + 32) ((c .before .before .before .before .before .before .before .args) .q .0)) - ((c .before .before .before .before .before .before .before .args) .at + 24)) ((c .before .before .put-address) .last .0) ((c .before .before .before .before .before .before .before .pre)) (ap (λ (n : ℕ). n - ((c .before .before .before .before .before .before .before .args) .at + 24)) (length-set (set ((c .before .before .before .before .before .before .before .args) .out .now) ((c .before .before .before .before .before .before .before .args) .at + 12) (typedTwo (byte ((c .before .before .before .before .before .before .before .args) .out .now) ((c .before .before .before .before .before .before .before .args) .at + 12)))) ((c .before .before .before .before .before .before .before .args) .at + 32) ((c .before .before .before .before .before .before .before .args) .q .0) ∙ length-set ((c .before .before .before .before .before .before .before .args) .out .now) ((c .before .before .before .before .before .before .before .args) .at + 12) (typedTwo (byte ((c .before .before .before .before .before .before .before .args) .out .now) ((c .before .before .before .before .before .before .before .args) .at + 12))))) (rw t at ((c .before .before .put-address) .ensures)))
+returns c =
+    let at-args = c .before .before .before .before .before .before .before .args in
+    let at-pre = c .before .before .before .before .before .before .before .pre in
+    let t = (c .before .before .before .before .type-two) .ensures in let l : length (set (set (at-args .out .now) (at-args .at + 12) ((c .before .before .before .before .type-two) .result)) (at-args .at + 32) (at-args .q .0)) ≡ length (at-args .out .now) = simp length-set in subst (λ (b : ℕ). putMid (at-args .at + 24) (length (set (set (at-args .out .now) (at-args .at + 12) b) (at-args .at + 32) (at-args .q .0)) - (at-args .at + 24)) (set (set (at-args .out .now) (at-args .at + 12) b) (at-args .at + 32) (at-args .q .0)) ((c .before .before .put-address) .last .0) ≡ cabledAt (at-args .out .now) (at-args .at) (at-args .s) (at-args .q .0)) (sym t) (cable-put (at-args .out .now) (at-args .at) (at-args .s) (at-args .q .0) (length (set (set (at-args .out .now) (at-args .at + 12) (typedTwo (byte (at-args .out .now) (at-args .at + 12)))) (at-args .at + 32) (at-args .q .0)) - (at-args .at + 24)) ((c .before .before .put-address) .last .0) (at-pre) (ap (λ (n : ℕ). n - (at-args .at + 24)) (length-set (set (at-args .out .now) (at-args .at + 12) (typedTwo (byte (at-args .out .now) (at-args .at + 12)))) (at-args .at + 32) (at-args .q .0) ∙ length-set (at-args .out .now) (at-args .at + 12) (typedTwo (byte (at-args .out .now) (at-args .at + 12))))) (rw t at ((c .before .before .put-address) .ensures)))
 
 pub cable-at-spec : {M : Type 1} → statement M
 cable-at-spec = tie.close (tie.spec add-type-two slice-read-type-two type-two-requires add-out slice-write-out add-out-2 slice-write-out-2 add-put-address sub-put-address part-put-address-start part-put-address-end put-address-requires same-length returns)

@@ -20,31 +20,54 @@ add-n : tie.Need-add-n
 add-n c = omega (arith, (c .before .before .before .before .before .pre) .1 .1)
 
 copy-requires : tie.Need-copy-requires
-copy-requires c κs = omega (arith, (c .before .before .before .before .before .before .pre) .1 .0)
+copy-requires c κs =
+    let at-pre = c .before .before .before .before .before .before .pre in
+    omega (arith, at-pre .1 .0)
 
 sub-copy : tie.Need-sub-copy
-sub-copy c = omega (arith, (c .before .before .before .before .before .before .before .before .before .before .pre) .0 .1)
+sub-copy c =
+    let at-pre = c .before .before .before .before .before .before .before .before .before .before .pre in
+    omega (arith, at-pre .0 .1)
 
 part-copy-start : tie.Need-part-copy-start
-part-copy-start c = omega (arith, (c .before .before .before .before .before .before .before .before .before .before .pre) .0 .1)
+part-copy-start c =
+    let at-pre = c .before .before .before .before .before .before .before .before .before .before .pre in
+    omega (arith, at-pre .0 .1)
 
 part-copy-end : tie.Need-part-copy-end
-part-copy-end c = omega (arith, (c .before .before .before .before .before .before .before .before .before .before .pre) .0 .1)
+part-copy-end c =
+    let at-pre = c .before .before .before .before .before .before .before .before .before .before .pre in
+    omega (arith, at-pre .0 .1)
 
 copy-requires-2 : tie.Need-copy-requires-2
-copy-requires-2 c κs = rw (rest-whole ((c .before .before .before .before .before .before .before .before .before .before .before .args) .second .now) 2) (omega (arith, length-drop 2 ((c .before .before .before .before .before .before .before .before .before .before .before .args) .second .now), (c .before .before .before .before .copy) .kept .0, (c .before .before .before .before .before .before .before .before .before .before .before .pre) .1 .0))
+copy-requires-2 c κs =
+    let at-args = c .before .before .before .before .before .before .before .before .before .before .before .args in
+    let at-pre = c .before .before .before .before .before .before .before .before .before .before .before .pre in
+    rw (rest-whole (at-args .second .now) 2) (omega (arith, length-drop 2 (at-args .second .now), (c .before .before .before .before .copy) .kept .0, at-pre .1 .0))
 
 slice-write-out : tie.Need-slice-write-out
-slice-write-out c = omega (arith, (c .before .before .copy2) .kept .0, (c .before .before .before .before .before .before .before .copy) .kept .0, (c .before .before .before .before .before .before .before .before .before .before .before .before .before .before .pre) .0 .0, (c .before .before .before .before .before .before .before .before .before .before .before .before .before .before .pre) .1 .0)
+slice-write-out c =
+    let at-copy = c .before .before .before .before .before .before .before .copy in
+    let at-pre = c .before .before .before .before .before .before .before .before .before .before .before .before .before .before .pre in
+    omega (arith, (c .before .before .copy2) .kept .0, at-copy .kept .0, at-pre .0 .0, at-pre .1 .0)
 
 slice-write-out-2 : tie.Need-slice-write-out-2
-slice-write-out-2 c = simp length-set (omega (arith, (c .before .before .copy2) .kept .0, (c .before .before .before .before .before .before .before .copy) .kept .0, (c .before .before .before .before .before .before .before .before .before .before .before .before .before .before .pre) .0 .0, (c .before .before .before .before .before .before .before .before .before .before .before .before .before .before .pre) .1 .0))
+slice-write-out-2 c =
+    let at-copy = c .before .before .before .before .before .before .before .copy in
+    let at-pre = c .before .before .before .before .before .before .before .before .before .before .before .before .before .before .pre in
+    simp length-set (omega (arith, (c .before .before .copy2) .kept .0, at-copy .kept .0, at-pre .0 .0, at-pre .1 .0))
 
 same-length : tie.Need-same-length
-same-length c = simp length-set ((c .before .before .copy2) .kept .0 ∙ (c .before .before .before .before .before .before .before .copy) .kept .0)
+same-length c =
+    let at-copy = c .before .before .before .before .before .before .before .copy in
+    simp length-set ((c .before .before .copy2) .kept .0 ∙ at-copy .kept .0)
 
 returns : tie.Need-returns
-returns c = let f = (c .before .before .before .before .before .before .before .before .before .before .before .before .before .before .args) .first .now in let s = (c .before .before .before .before .before .before .before .before .before .before .before .before .before .before .args) .second .now in let n = getD f 1 0 + getD s 1 0 in let b = rw (rest-whole s 2) at ((c .before .before .copy2) .ensures) in ap (λ (v : List ℕ). set (set v 0 0x10) 1 n) (b ∙ ap (λ (v : List ℕ). paste v (length f) (drop 2 s) (length (drop 2 s))) ((c .before .before .before .before .before .before .before .copy) .ensures)) ∙ both-put ((c .before .before .before .before .before .before .before .before .before .before .before .before .before .before .args) .out .now) f s n ((c .before .before .before .before .before .before .before .before .before .before .before .before .before .before .pre) .0 .0) ((c .before .before .before .before .before .before .before .before .before .before .before .before .before .before .pre) .0 .1) ((c .before .before .before .before .before .before .before .before .before .before .before .before .before .before .pre) .1 .0)
+returns c =
+    let at-args = c .before .before .before .before .before .before .before .before .before .before .before .before .before .before .args in
+    let at-copy = c .before .before .before .before .before .before .before .copy in
+    let at-pre = c .before .before .before .before .before .before .before .before .before .before .before .before .before .before .pre in
+    let f = at-args .first .now in let s = at-args .second .now in let n = getD f 1 0 + getD s 1 0 in let b = rw (rest-whole s 2) at ((c .before .before .copy2) .ensures) in ap (λ (v : List ℕ). set (set v 0 0x10) 1 n) (b ∙ ap (λ (v : List ℕ). paste v (length f) (drop 2 s) (length (drop 2 s))) (at-copy .ensures)) ∙ both-put (at-args .out .now) f s n (at-pre .0 .0) (at-pre .0 .1) (at-pre .1 .0)
 
 pub put-both-spec : {M : Type 1} → statement M
 put-both-spec = tie.close (tie.spec shared-slice-read-n shared-slice-read-n-2 add-n copy-requires sub-copy part-copy-start part-copy-end copy-requires-2 slice-write-out slice-write-out-2 same-length returns)

@@ -25,16 +25,22 @@ add-put-phys : tie.Need-add-put-phys
 add-put-phys c = omega arith
 
 put-phys-requires : tie.Need-put-phys-requires
-put-phys-requires c κs = ((c .before .before .before .before .before .before .before .before .pre .1 .1, omega arith), simp length-set (c .before .before .before .clear .kept .0 ∙ c .before .before .before .before .before .before .before .before .pre .0 .1))
+put-phys-requires c κs =
+    let at-pre = c .before .before .before .before .before .before .before .before .pre in
+    ((at-pre .1 .1, omega arith), simp length-set (c .before .before .before .clear .kept .0 ∙ at-pre .0 .1))
 
 same-length : tie.Need-same-length
-same-length c = c .before .before .put-phys .kept .0 ∙ simp length-set (c .before .before .before .before .before .before .clear .kept .0)
+same-length c =
+    let at-clear = c .before .before .before .before .before .before .clear in
+    c .before .before .put-phys .kept .0 ∙ simp length-set (at-clear .kept .0)
 
 returns : tie.Need-returns
 returns c =
+    let at-clear = c .before .before .before .before .before .before .clear in
+    let at-head-word = c .before .before .before .before .before .before .before .before .head-word in
     let a = c .before .before .before .before .before .before .before .before .before .before .before .args in
     let p = c .before .before .before .before .before .before .before .before .before .before .before .pre in
-    row-made (bitsOf (a .card .now)) (a .at) (c .before .before .before .before .before .before .clear .last .0) _ _ (a .u) _ (c .before .before .put-phys .result) (p .1 .0) (p .1 .1) (c .before .before .before .before .before .before .before .before .head-word .ensures) (c .before .before .before .before .before .before .clear .ensures ∙ ap (λ (k : ℕ). replicate k 0) (p .0 .1)) refl (c .before .before .put-phys .ensures)
+    row-made (bitsOf (a .card .now)) (a .at) (at-clear .last .0) _ _ (a .u) _ (c .before .before .put-phys .result) (p .1 .0) (p .1 .1) (at-head-word .ensures) (at-clear .ensures ∙ ap (λ (k : ℕ). replicate k 0) (p .0 .1)) refl (c .before .before .put-phys .ensures)
 
 pub put-row-spec : {M : Type 1} → statement M
 put-row-spec = tie.close (tie.spec head-word-requires clear-requires slice-write-row slice-write-row-2 add-put-phys put-phys-requires same-length returns)

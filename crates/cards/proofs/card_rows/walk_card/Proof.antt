@@ -79,12 +79,14 @@ loop-less c = omega arith
 
 loop-again : tie.Need-loop-again Inv-loop μ-loop
 loop-again c =
+    let at-unit-from = c .before .before .before .before .before .before .before .before .unit-from in
+    let at-pre = c .before .before .before .before .before .before .before .before .before .before .before .before .before .pre in
     let l = c .before .before .before .before .before .before .before .before .before .before .loop in
     let a = c .before .before .before .before .before .before .before .before .before .before .before .before .before .args in
     let r = c .before .before .before .before .before .before .put-row in
     let w = walk-goes (a .most) (bitsOf (a .card .now)) (a .rows .now) (domainOn (bitsOf (a .card .now))) (a .n) (l .i) (l .at) (l .rows) (l .seen) (l .fine) (l .check) (l .inv .1)
-    (bits-bitsOf (a .card .now)) (c .before .before .before .before .before .before .before .before .unit-from .result) (r .result) (r .last .0) (258 * l .i) (258 * l .i + 258 - 258 * l .i) (c .before .before .check-unit .result) (c .before .first .result) (omega arith) (r .ensures) (c .before .before .before .before .before .before .before .before .unit-from .ensures .0)
-    (c .before .before .check-unit .ensures) (c .before .first .ensures) (omega (arith, c .before .before .before .before .before .before .before .before .before .before .before .before .before .pre .0 .1, l .inv .0 .0 .1)) refl (omega arith) (omega (arith, c .before .before .before .before .before .before .before .before .before .before .before .before .before .pre .1, l .inv .0 .1 .0)) in (
+    (bits-bitsOf (a .card .now)) (at-unit-from .result) (r .result) (r .last .0) (258 * l .i) (258 * l .i + 258 - 258 * l .i) (c .before .before .check-unit .result) (c .before .first .result) (omega arith) (r .ensures) (at-unit-from .ensures .0)
+    (c .before .before .check-unit .ensures) (c .before .first .ensures) (omega (arith, at-pre .0 .1, l .inv .0 .0 .1)) refl (omega arith) (omega (arith, at-pre .1, l .inv .0 .1 .0)) in (
       (
         (omega arith, simp length-set (l .inv .0 .0 .1)),
         (same-len-mid (258 * l .i) (258 * l .i + 258 - 258 * l .i) (l .rows) (r .last .0) (r .kept .0) ∙ l .inv .0 .1 .0, omega (arith, w .1)),

@@ -37,10 +37,11 @@ same-length c = search needs
 
 returns-2 : tie.Need-returns-2
 returns-2 c =
-    let d : Domain = domainIn (c .before .before .before .before .before .before .before .before .args .rows .now) in
+    let at-args = c .before .before .before .before .before .before .before .before .args in
+    let d : Domain = domainIn (at-args .rows .now) in
     let l = length-card d in
     let s = c .before .before .before .before .before .card-size .ensures .0 in
-    fitted (cardOf d) (c .before .before .before .before .before .before .before .before .args .card .now) _ _ (omega arith) (omega arith) (c .before .before .put-card .ensures ∙ ap (λ (n : ℕ). cardOf d ++ drop (bytesFor n) (c .before .before .before .before .before .before .before .before .args .card .now)) (sym s))
+    fitted (cardOf d) (at-args .card .now) _ _ (omega arith) (omega arith) (c .before .before .put-card .ensures ∙ ap (λ (n : ℕ). cardOf d ++ drop (bytesFor n) (at-args .card .now)) (sym s))
 
 pub card-of-rows-spec : {M : Type 1} → statement M
 card-of-rows-spec =

@@ -43,11 +43,20 @@ same-length c = search needs
 
 returns : tie.Need-returns
 returns c =
-    let d : Domain = domainIn (c .before .before .before .before .before .before .before .before .before .before .before .before .before .before .before .before .before .before .before .before .before .before .before .before .args .rows .now) in
-    let at : c .before .before .before .before .before .before .put-expanders .result ≡ cardSize d = c .before .before .before .before .before .before .put-expanders .ensures .1 .0 in
-    let n : c .before .before .before .before .before .before .before .before .before .before .before .before .before .before .before .less-one .result ≡ length d - 1 = c .before .before .before .before .before .before .before .before .before .before .before .before .before .before .before .less-one .ensures ∙ ap (λ (m : ℕ). m - 1) (c .before .before .before .before .before .before .before .before .before .before .before .before .before .before .before .before .expander-count .ensures .0) in
-    card-put d (c .before .before .before .before .before .before .before .before .before .before .before .before .before .before .before .before .before .before .before .before .before .before .before .before .args .card .now) _ _ _ _ _ _ _ _ (λ j. c .before .before .before .before .before .before .before .before .before .before .before .before .before .before .before .before .before .before .before .before .before .before .before .slice-known .given j .fits) (λ j. c .slice-known6 .given j .fits) (c .before .before .before .before .before .before .before .before .before .before .before .before .before .before .before .before .before .before .before .before .before .before .before .before .pre) n at (omega arith)
-    (c .before .before .before .before .before .before .before .before .before .before .before .before .before .before .before .before .before .before .before .before .put-bits .ensures) (c .before .before .before .before .before .before .before .before .before .before .before .before .before .before .put-bits2 .ensures) (c .before .before .before .before .before .before .before .before .before .before .put-bits3 .ensures) (c .before .before .before .before .before .before .put-expanders .ensures .0) (c .before .before .put-bits4 .ensures)
+    let at-args = c .before .before .before .before .before .before .before .before .before .before .before .before .before .before .before .before .before .before .before .before .before .before .before .before .args in
+    let at-put-expanders = c .before .before .before .before .before .before .put-expanders in
+    let at-less-one = c .before .before .before .before .before .before .before .before .before .before .before .before .before .before .before .less-one in
+    let at-expander-count = c .before .before .before .before .before .before .before .before .before .before .before .before .before .before .before .before .expander-count in
+    let at-slice-known = c .before .before .before .before .before .before .before .before .before .before .before .before .before .before .before .before .before .before .before .before .before .before .before .slice-known in
+    let at-pre = c .before .before .before .before .before .before .before .before .before .before .before .before .before .before .before .before .before .before .before .before .before .before .before .before .pre in
+    let at-put-bits = c .before .before .before .before .before .before .before .before .before .before .before .before .before .before .before .before .before .before .before .before .put-bits in
+    let at-put-bits2 = c .before .before .before .before .before .before .before .before .before .before .before .before .before .before .put-bits2 in
+    let at-put-bits3 = c .before .before .before .before .before .before .before .before .before .before .put-bits3 in
+    let d : Domain = domainIn (at-args .rows .now) in
+    let at : at-put-expanders .result ≡ cardSize d = at-put-expanders .ensures .1 .0 in
+    let n : at-less-one .result ≡ length d - 1 = at-less-one .ensures ∙ ap (λ (m : ℕ). m - 1) (at-expander-count .ensures .0) in
+    card-put d (at-args .card .now) _ _ _ _ _ _ _ _ (λ j. at-slice-known .given j .fits) (λ j. c .slice-known6 .given j .fits) at-pre n at (omega arith)
+    (at-put-bits .ensures) (at-put-bits2 .ensures) (at-put-bits3 .ensures) (at-put-expanders .ensures .0) (c .before .before .put-bits4 .ensures)
 
 pub put-card-spec : {M : Type 1} → statement M
 put-card-spec =

@@ -46,10 +46,12 @@ loop-less c = omega arith
 
 loop-again : tie.Need-loop-again Inv-loop μ-loop
 loop-again c =
+    let at-args = c .before .before .before .before .before .before .before .before .before .before .before .before .before .args in
+    let at-put-head = c .before .before .before .before .before .before .put-head in
     let l = c .before .before .before .before .before .before .before .before .before .loop in
-    let d : Domain = domainIn (c .before .before .before .before .before .before .before .before .before .before .before .before .before .args .rows .now) in
+    let d : Domain = domainIn (at-args .rows .now) in
     let e = total-next d (l .i) (omega arith) in
-    let k = c .before .before .before .before .before .before .put-head .kept .0 in
+    let k = at-put-head .kept .0 in
     let m = c .before .before .put-phys .kept .0 in
     let f = c .before .before .put-phys .ensures in (
       omega arith,
@@ -63,7 +65,7 @@ loop-again c =
               omega arith,
               (
                 omega arith,
-                expanders-turn d (l .i) (l .at) _ (bitsOf (l .card)) _ _ _ (omega arith) (l .inv .1 .1 .1 .1 .1 .1) (c .before .before .before .before .before .before .put-head .ensures) (f .0) (f .1 .0),
+                expanders-turn d (l .i) (l .at) _ (bitsOf (l .card)) _ _ _ (omega arith) (l .inv .1 .1 .1 .1 .1 .1) (at-put-head .ensures) (f .0) (f .1 .0),
               ),
             ),
           ),

@@ -56,10 +56,17 @@ same-length c = search needs
 
 returns : tie.Need-returns
 returns c =
-    let e : Expander = expanderAt (domainIn (c .before .before .before .before .before .before .before .before .before .before .before .before .before .before .before .before .before .before .before .before .before .before .before .args .rows .now)) (c .before .before .before .before .before .before .before .before .before .before .before .before .before .before .before .before .before .before .before .before .before .before .before .args .i .0) in
-    head-put-as e (c .before .before .before .before .before .before .before .before .before .before .before .before .before .before .before .before .before .before .before .before .before .before .before .args .at) _ _ _ _ _ _ _ _ _ (c .before .before .before .before .before .before .before .before .before .before .before .before .before .before .before .before .before .before .before .expander-address .ensures) (c .before .before .before .before .before .before .before .before .before .before .before .before .before .before .index-count .ensures) (c .before .before .before .before .before .before .before .before .before .configurable-bit .ensures)
+    let at-args = c .before .before .before .before .before .before .before .before .before .before .before .before .before .before .before .before .before .before .before .before .before .before .before .args in
+    let at-expander-address = c .before .before .before .before .before .before .before .before .before .before .before .before .before .before .before .before .before .before .before .expander-address in
+    let at-index-count = c .before .before .before .before .before .before .before .before .before .before .before .before .before .before .index-count in
+    let at-configurable-bit = c .before .before .before .before .before .before .before .before .before .configurable-bit in
+    let at-put-bits = c .before .before .before .before .before .before .before .before .before .before .before .before .before .before .before .before .before .before .put-bits in
+    let at-put-bits2 = c .before .before .before .before .before .before .before .before .before .before .before .before .before .put-bits2 in
+    let at-put-bits3 = c .before .before .before .before .before .before .before .before .put-bits3 in
+    let e : Expander = expanderAt (domainIn (at-args .rows .now)) (at-args .i .0) in
+    head-put-as e (at-args .at) _ _ _ _ _ _ _ _ _ (at-expander-address .ensures) (at-index-count .ensures) (at-configurable-bit .ensures)
     (c .before .before .before .less-one .ensures ∙ ap (λ (m : ℕ). m - 1) (c .before .before .before .before .phy-count .ensures .0))
-    (c .before .before .before .before .before .before .before .before .before .before .before .before .before .before .before .before .before .before .put-bits .ensures) (c .before .before .before .before .before .before .before .before .before .before .before .before .before .put-bits2 .ensures) (c .before .before .before .before .before .before .before .before .put-bits3 .ensures) (c .before .before .put-bits4 .ensures)
+    (at-put-bits .ensures) (at-put-bits2 .ensures) (at-put-bits3 .ensures) (c .before .before .put-bits4 .ensures)
 
 pub put-head-spec : {M : Type 1} → statement M
 put-head-spec =

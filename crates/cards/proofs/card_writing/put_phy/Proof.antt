@@ -35,13 +35,19 @@ same-length : tie.Need-same-length
 same-length c = search needs
 
 returns : tie.Need-returns
-returns c = vacant-put (c .before .before .before .before .before .before .before .before .before .f .given .0 .0) (c .before .before .before .before .before .before .before .before .before .before .before .before .args .at) _ _ _ (c .before .before .before .before .before .before .put-bits .ensures) (c .before .before .put-bits2 .ensures) ∙ ap (λ (φ : Phy). sets (bitsOf (c .before .before .before .before .before .before .before .before .before .before .before .before .args .card .now)) (c .before .before .before .before .before .before .before .before .before .before .before .before .args .at) (phyBits φ)) (sym (c .before .before .before .before .before .before .before .before .before .f .given .1))
+returns c =
+    let at-f = c .before .before .before .before .before .before .before .before .before .f in
+    let at-args = c .before .before .before .before .before .before .before .before .before .before .before .before .args in
+    let at-put-bits = c .before .before .before .before .before .before .put-bits in
+    vacant-put (at-f .given .0 .0) (at-args .at) _ _ _ (at-put-bits .ensures) (c .before .before .put-bits2 .ensures) ∙ ap (λ (φ : Phy). sets (bitsOf (at-args .card .now)) (at-args .at) (phyBits φ)) (sym (at-f .given .1))
 
 same-length-2 : tie.Need-same-length-2
 same-length-2 c = search needs
 
 returns-2 : tie.Need-returns-2
-returns-2 c = c .before .before .put-present .ensures ∙ ap (λ (φ : Phy). sets (bitsOf (c .before .before .before .before .before .before .before .before .args .card .now)) (c .before .before .before .before .before .before .before .before .args .at) (phyBits φ)) (sym (c .before .before .before .before .before .f2 .given .1))
+returns-2 c =
+    let at-args = c .before .before .before .before .before .before .before .before .args in
+    c .before .before .put-present .ensures ∙ ap (λ (φ : Phy). sets (bitsOf (at-args .card .now)) (at-args .at) (phyBits φ)) (sym (c .before .before .before .before .before .f2 .given .1))
 
 pub put-phy-spec : {M : Type 1} → statement M
 put-phy-spec =

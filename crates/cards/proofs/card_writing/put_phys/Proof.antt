@@ -50,9 +50,10 @@ loop-less c = omega arith
 
 loop-again : tie.Need-loop-again Inv-loop μ-loop
 loop-again c =
+    let at-args = c .before .before .before .before .before .before .before .before .before .before .before .args in
     let l = c .before .before .before .before .before .before .before .loop in
-    let φs : List Phy = expanderAt (domainIn (c .before .before .before .before .before .before .before .before .before .before .before .args .rows .now)) (c .before .before .before .before .before .before .before .before .before .before .before .args .i .0) .phys in
-    let φ : Phy = phyAt (domainIn (c .before .before .before .before .before .before .before .before .before .before .before .args .rows .now)) (c .before .before .before .before .before .before .before .before .before .before .before .args .i .0) (l .p) in
+    let φs : List Phy = expanderAt (domainIn (at-args .rows .now)) (at-args .i .0) .phys in
+    let φ : Phy = phyAt (domainIn (at-args .rows .now)) (at-args .i .0) (l .p) in
     let e = sizes-next φs (l .p) (omega arith) in
     let f : c .phy-size .result ≡ phySize φ = c .phy-size .ensures .0 ∙ ap phySize (c .before .before .before .before .before .phy-at .ensures) in
     let k = c .before .before .before .put-phy .kept .0 in

@@ -31,7 +31,11 @@ same-length : tie.Need-same-length
 same-length c = search needs
 
 returns : tie.Need-returns
-returns c = present-none (c .before .before .before .before .before .before .before .before .before .before .before .before .before .before .before .before .before .args .x) (c .before .before .before .before .before .before .before .before .before .before .before .before .before .before .before .before .before .args .at) _ _ _ _ (c .before .before .before .before .before .before .before .before .before .before .before .before .before .before .put-bits .ensures) (c .before .before .before .before .before .before .before .before .before .put-bits2 .ensures) (c .before .before .before .before .put-bits3 .ensures) (c .if1 .taken)
+returns c =
+    let at-args = c .before .before .before .before .before .before .before .before .before .before .before .before .before .before .before .before .before .args in
+    let at-put-bits = c .before .before .before .before .before .before .before .before .before .before .before .before .before .before .put-bits in
+    let at-put-bits2 = c .before .before .before .before .before .before .before .before .before .put-bits2 in
+    present-none (at-args .x) (at-args .at) _ _ _ _ (at-put-bits .ensures) (at-put-bits2 .ensures) (c .before .before .before .before .put-bits3 .ensures) (c .if1 .taken)
 
 add-put-bits-3 : tie.Need-add-put-bits-3
 add-put-bits-3 c = search needs
@@ -52,7 +56,14 @@ same-length-2 : tie.Need-same-length-2
 same-length-2 c = search needs
 
 returns-2 : tie.Need-returns-2
-returns-2 c = present-all (c .before .before .before .before .before .before .before .before .before .before .before .before .before .before .before .before .before .before .before .before .before .before .before .before .before .before .args .x) (c .before .before .before .before .before .before .before .before .before .before .before .before .before .before .before .before .before .before .before .before .before .before .before .before .before .before .args .at) _ _ _ _ (c .before .before .before .before .before .before .before .before .before .before .before .before .before .before .before .before .before .before .before .before .before .before .before .put-bits .ensures) (c .before .before .before .before .before .before .before .before .before .before .before .before .before .before .before .before .before .before .put-bits2 .ensures) (c .before .before .before .before .before .before .before .before .before .before .before .before .before .put-bits3 .ensures) (c .before .before .before .before .before .before .before .before .before .if1 .left) _ _ (c .before .before .before .before .before .before .before .put-bits4 .ensures) (c .before .before .put-bits5 .ensures)
+returns-2 c =
+    let at-args = c .before .before .before .before .before .before .before .before .before .before .before .before .before .before .before .before .before .before .before .before .before .before .before .before .before .before .args in
+    let at-put-bits = c .before .before .before .before .before .before .before .before .before .before .before .before .before .before .before .before .before .before .before .before .before .before .before .put-bits in
+    let at-put-bits2 = c .before .before .before .before .before .before .before .before .before .before .before .before .before .before .before .before .before .before .put-bits2 in
+    let at-put-bits3 = c .before .before .before .before .before .before .before .before .before .before .before .before .before .put-bits3 in
+    let at-if1 = c .before .before .before .before .before .before .before .before .before .if1 in
+    let at-put-bits4 = c .before .before .before .before .before .before .before .put-bits4 in
+    present-all (at-args .x) (at-args .at) _ _ _ _ (at-put-bits .ensures) (at-put-bits2 .ensures) (at-put-bits3 .ensures) (at-if1 .left) _ _ (at-put-bits4 .ensures) (c .before .before .put-bits5 .ensures)
 
 pub put-present-spec : {M : Type 1} → statement M
 put-present-spec =

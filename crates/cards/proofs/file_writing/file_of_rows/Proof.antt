@@ -21,9 +21,10 @@ put-file-requires c κs = let s = c .before .before .file-size .ensures .0 in om
 
 returns-2 : tie.Need-returns-2
 returns-2 c =
-    let d : Domain = domainIn (c .before .before .before .before .before .before .before .before .args .rows .now) in
+    let at-args = c .before .before .before .before .before .before .before .before .args in
+    let d : Domain = domainIn (at-args .rows .now) in
     let s = c .before .before .before .before .before .file-size .ensures .0 in
-    fitted (fileOf d) (c .before .before .before .before .before .before .before .before .args .file .now) _ _ (omega arith) s (c .before .before .put-file .ensures ∙ ap (λ (n : ℕ). fileOf d ++ drop n (c .before .before .before .before .before .before .before .before .args .file .now)) (sym s))
+    fitted (fileOf d) (at-args .file .now) _ _ (omega arith) s (c .before .before .put-file .ensures ∙ ap (λ (n : ℕ). fileOf d ++ drop n (at-args .file .now)) (sym s))
 
 file-size-requires : tie.Need-file-size-requires
 file-size-requires c κs = search needs

@@ -25,7 +25,10 @@ same-length : tie.Need-same-length
 same-length c = c .before .before .put-units .kept .0 ∙ simp length-set
 
 returns : tie.Need-returns
-returns c = file-put (domainIn (c .before .before .before .before .before .before .before .args .rows .now)) _ (c .before .before .before .before .before .before .before .args .file .now) _ (c .before .before .before .before .expander-count .ensures .0) (c .before .before .before .before .before .before .before .pre) (c .before .before .put-units .ensures)
+returns c =
+    let at-args = c .before .before .before .before .before .before .before .args in
+    let at-pre = c .before .before .before .before .before .before .before .pre in
+    file-put (domainIn (at-args .rows .now)) _ (at-args .file .now) _ (c .before .before .before .before .expander-count .ensures .0) at-pre (c .before .before .put-units .ensures)
 
 expander-count-requires : tie.Need-expander-count-requires
 expander-count-requires c κs = search needs

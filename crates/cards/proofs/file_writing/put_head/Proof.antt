@@ -49,24 +49,31 @@ part-put-general-end c =
 
 same-length : tie.Need-same-length
 same-length c =
+    let at-put-address = c .before .before .before .before .before .before .put-address in
     let a = c .before .before .before .before .before .before .before .before .before .before .before .before .before .before .args in
     let t = a .to in
-    let s = putMid t (t + 8 - t) (a .file .now) (c .before .before .before .before .before .before .put-address .last .0) in
-    same-len-mid (t + 8) (t + 36 - (t + 8)) s (c .before .before .put-general .last .0) (c .before .before .put-general .kept .0) ∙ same-len-mid t (t + 8 - t) (a .file .now) (c .before .before .before .before .before .before .put-address .last .0) (c .before .before .before .before .before .before .put-address .kept .0)
+    let s = putMid t (t + 8 - t) (a .file .now) (at-put-address .last .0) in
+    same-len-mid (t + 8) (t + 36 - (t + 8)) s (c .before .before .put-general .last .0) (c .before .before .put-general .kept .0) ∙ same-len-mid t (t + 8 - t) (a .file .now) (at-put-address .last .0) (at-put-address .kept .0)
 
 returns : tie.Need-returns
 returns c =
+    let at-put-address = c .before .before .before .before .before .before .put-address in
+    let at-expander-address = c .before .before .before .before .before .before .before .expander-address in
+    let at-index-count = c .before .before .before .before .before .before .before .before .before .before .before .index-count in
+    let at-phy-count = c .before .before .before .before .before .before .before .before .before .before .phy-count in
+    let at-configurable-bit = c .before .before .before .before .before .before .before .before .before .configurable-bit in
+    let at-pre = c .before .before .before .before .before .before .before .before .before .before .before .before .before .before .pre in
     let a = c .before .before .before .before .before .before .before .before .before .before .before .before .before .before .args in
     let t = a .to in
     let e : Expander = expanderAt (domainIn (a .rows .now)) (a .i .0) in
-    let s = putMid t (t + 8 - t) (a .file .now) (c .before .before .before .before .before .before .put-address .last .0) in
-    let n = same-len-mid t (t + 8 - t) (a .file .now) (c .before .before .before .before .before .before .put-address .last .0) (c .before .before .before .before .before .before .put-address .kept .0) in
-    let x = c .before .before .before .before .before .before .before .expander-address .result in
-    let g = general-same e _ _ _ (c .before .before .before .before .before .before .before .before .before .before .before .index-count .ensures) (c .before .before .before .before .before .before .before .before .before .before .phy-count .ensures .0) (c .before .before .before .before .before .before .before .before .before .configurable-bit .ensures) in
-    let gen : General = record { indexes = c .before .before .before .before .before .before .before .before .before .before .before .index-count .result; phys = c .before .before .before .before .before .before .before .before .before .before .phy-count .result; configurable = c .before .before .before .before .before .before .before .before .before .configurable-bit .result } in
-    let f1 = c .before .before .before .before .before .before .put-address .ensures ∙ front-whole (bytesOf 8 x) (take (t + 8 - t) (drop t (a .file .now))) (simp (length-take, length-drop) (omega (arith, length-bytesOf 8 x))) in
+    let s = putMid t (t + 8 - t) (a .file .now) (at-put-address .last .0) in
+    let n = same-len-mid t (t + 8 - t) (a .file .now) (at-put-address .last .0) (at-put-address .kept .0) in
+    let x = at-expander-address .result in
+    let g = general-same e _ _ _ (at-index-count .ensures) (at-phy-count .ensures .0) (at-configurable-bit .ensures) in
+    let gen : General = record { indexes = at-index-count .result; phys = at-phy-count .result; configurable = at-configurable-bit .result } in
+    let f1 = at-put-address .ensures ∙ front-whole (bytesOf 8 x) (take (t + 8 - t) (drop t (a .file .now))) (simp (length-take, length-drop) (omega (arith, length-bytesOf 8 x))) in
     let f2 = c .before .before .put-general .ensures in
-    head-put e (a .file .now) s _ (c .before .before .before .before .before .before .put-address .last .0) (c .before .before .put-general .last .0) t (t + 8 - t) (t + 36 - (t + 8)) x gen (c .before .before .before .before .before .before .before .before .before .before .before .before .before .before .pre .1) n (c .before .before .before .before .before .before .before .expander-address .ensures) g (omega arith) f1 refl (omega arith) f2 refl
+    head-put e (a .file .now) s _ (at-put-address .last .0) (c .before .before .put-general .last .0) t (t + 8 - t) (t + 36 - (t + 8)) x gen (at-pre .1) n (at-expander-address .ensures) g (omega arith) f1 refl (omega arith) f2 refl
 
 index-count-requires : tie.Need-index-count-requires
 index-count-requires c κs = search needs

@@ -27,9 +27,10 @@ loop-holds c = (omega arith, (c .expander-count .ensures, (omega arith, (refl, (
 
 put-head-requires : tie.Need-put-head-requires Inv-loop μ-loop
 put-head-requires c κs =
+    let at-args = c .before .before .before .before .before .before .args in
     let l = c .before .before .loop in
     let q = l .inv .1 .0 .0 in
-    let t = length-next (domainIn (c .before .before .before .before .before .before .args .rows .now)) (l .i) (omega arith) in
+    let t = length-next (domainIn (at-args .rows .now)) (l .i) (omega arith) in
     (omega arith, omega arith)
 
 add-put-frames : tie.Need-add-put-frames Inv-loop μ-loop
@@ -37,9 +38,10 @@ add-put-frames c = omega arith
 
 put-frames-requires : tie.Need-put-frames-requires Inv-loop μ-loop
 put-frames-requires c κs =
+    let at-args = c .before .before .before .before .before .before .before .before .before .before .args in
     let l = c .before .before .before .before .before .before .loop in
     let q = l .inv .1 .0 .0 in
-    let t = length-next (domainIn (c .before .before .before .before .before .before .before .before .before .before .args .rows .now)) (l .i) (omega arith) in
+    let t = length-next (domainIn (at-args .rows .now)) (l .i) (omega arith) in
     let k = c .before .before .before .put-head .kept .0 in
     (omega arith, omega arith)
 
@@ -60,8 +62,10 @@ loop-less c = omega arith
 
 loop-again : tie.Need-loop-again Inv-loop μ-loop
 loop-again c =
+    let at-args = c .before .before .before .before .before .before .before .before .before .before .before .before .before .before .args in
+    let at-put-head = c .before .before .before .before .before .before .before .put-head in
     let l = c .before .before .before .before .before .before .before .before .before .before .loop in
-    let d : Domain = domainIn (c .before .before .before .before .before .before .before .before .before .before .before .before .before .before .args .rows .now) in
+    let d : Domain = domainIn (at-args .rows .now) in
     let q = l .inv .1 .0 .0 in
     let t = length-next d (l .i) (omega arith) in
     let m = c .phy-count .ensures .0 in (
@@ -71,10 +75,10 @@ loop-again c =
         (
           omega (arith, c .phy-count .ensures .1),
           (
-            c .before .before .before .put-frames .kept .0 ∙ c .before .before .before .before .before .before .before .put-head .kept .0 ∙ l .inv .1 .1 .1 .0,
+            c .before .before .before .put-frames .kept .0 ∙ at-put-head .kept .0 ∙ l .inv .1 .1 .1 .0,
             (
               omega arith,
-              units-go d (l .i) (l .to) (l .file) _ _ _ _ (omega arith) m (l .inv .1 .1 .1 .1 .1) (c .before .before .before .before .before .before .before .put-head .ensures) (c .before .before .before .put-frames .ensures),
+              units-go d (l .i) (l .to) (l .file) _ _ _ _ (omega arith) m (l .inv .1 .1 .1 .1 .1) (at-put-head .ensures) (c .before .before .before .put-frames .ensures),
             ),
           ),
         ),

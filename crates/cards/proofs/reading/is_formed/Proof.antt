@@ -21,24 +21,28 @@ returns-2 c = formed-zeros (c .before .before .before .before .before .args .car
 
 returns-3 : tie.Need-returns-3
 returns-3 c =
+    let at-args = c .before .before .before .before .before .before .args in
     let p = c .before .before .before .before .before .before .pre in
-    formed-bad (c .before .before .before .before .before .before .args .card .now) (sym (c .before .before .before .before .bits-at .ensures .0) ∙ c .before .before .before .if1 .left) (sym (c .before .before .bits-at2 .ensures .0) ∙ c .before .if2 .left) (sym (p .1 .0) ∙ not-true _ (c .if3 .taken))
+    formed-bad (at-args .card .now) (sym (c .before .before .before .before .bits-at .ensures .0) ∙ c .before .before .before .if1 .left) (sym (c .before .before .bits-at2 .ensures .0) ∙ c .before .if2 .left) (sym (p .1 .0) ∙ not-true _ (c .if3 .taken))
 
 add-if4 : tie.Need-add-if4
 add-if4 c = omega arith
 
 returns-4 : tie.Need-returns-4
 returns-4 c =
+    let at-args = c .before .before .before .before .before .before .before .args in
     let p = c .before .before .before .before .before .before .before .pre in
-    formed-long (c .before .before .before .before .before .before .before .args .card .now) (sym (c .before .before .before .before .before .bits-at .ensures .0) ∙ c .before .before .before .before .if1 .left) (sym (c .before .before .before .bits-at2 .ensures .0) ∙ c .before .before .if2 .left) (sym (p .1 .0) ∙ not-false _ (c .before .if3 .left)) _ (p .1 .1) (c .if4 .taken)
+    formed-long (at-args .card .now) (sym (c .before .before .before .before .before .bits-at .ensures .0) ∙ c .before .before .before .before .if1 .left) (sym (c .before .before .before .bits-at2 .ensures .0) ∙ c .before .before .if2 .left) (sym (p .1 .0) ∙ not-false _ (c .before .if3 .left)) _ (p .1 .1) (c .if4 .taken)
 
 byte-from-requires : tie.Need-byte-from-requires
 byte-from-requires c κs = omega arith
 
 returns-5 : tie.Need-returns-5
 returns-5 c =
+    let at-args = c .before .before .before .before .before .before .before .before .args in
+    let at-bits-at = c .before .before .before .before .before .before .bits-at in
     let p = c .before .before .before .before .before .before .before .before .pre in
-    formed-fill (c .before .before .before .before .before .before .before .before .args .card .now) (sym (c .before .before .before .before .before .before .bits-at .ensures .0) ∙ c .before .before .before .before .before .if1 .left) (sym (c .before .before .before .before .bits-at2 .ensures .0) ∙ c .before .before .before .if2 .left) (sym (p .1 .0) ∙ not-false _ (c .before .before .if3 .left)) _ (p .1 .1) _ (c .before .if4 .left) (c .byte-from .ensures .0)
+    formed-fill (at-args .card .now) (sym (at-bits-at .ensures .0) ∙ c .before .before .before .before .before .if1 .left) (sym (c .before .before .before .before .bits-at2 .ensures .0) ∙ c .before .before .before .if2 .left) (sym (p .1 .0) ∙ not-false _ (c .before .before .if3 .left)) _ (p .1 .1) _ (c .before .if4 .left) (c .byte-from .ensures .0)
 
 pub is-formed-spec : {M : Type 1} → statement M
 is-formed-spec = tie.close (tie.spec bits-at-requires returns bits-at-requires-2 returns-2 returns-3 add-if4 returns-4 byte-from-requires returns-5)

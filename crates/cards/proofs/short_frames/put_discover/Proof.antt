@@ -56,26 +56,34 @@ part-put-address-start-2 c = omega arith
 
 part-put-address-end-2 : tie.Need-part-put-address-end-2
 part-put-address-end-2 c =
-    let d = c .before .before .before .before .before .before .before .before .before .before .before .args .d in
-    let l = same-len-mid 16 8 (set (set (set (set (set (set (c .before .before .before .before .before .before .before .before .clear .last .0) 0 0x41) 1 0x10) 9 (d .identifier .0)) 12 (d .device % 8 * 16)) 32 (d .far .0)) 44 (d .attribute % 16)) (c .before .before .put-address .last .0) (c .before .before .put-address .kept .0) in
-    omega (arith, c .before .before .before .before .before .before .before .before .clear .kept .0, length-stored (c .before .before .before .before .before .before .before .before .clear .last .0) 0x41 0x10 (d .identifier .0) (d .device % 8 * 16) (d .far .0) (d .attribute % 16), l)
+    let at-args = c .before .before .before .before .before .before .before .before .before .before .before .args in
+    let at-clear = c .before .before .before .before .before .before .before .before .clear in
+    let d = at-args .d in
+    let l = same-len-mid 16 8 (set (set (set (set (set (set (at-clear .last .0) 0 0x41) 1 0x10) 9 (d .identifier .0)) 12 (d .device % 8 * 16)) 32 (d .far .0)) 44 (d .attribute % 16)) (c .before .before .put-address .last .0) (c .before .before .put-address .kept .0) in
+    omega (arith, at-clear .kept .0, length-stored (at-clear .last .0) 0x41 0x10 (d .identifier .0) (d .device % 8 * 16) (d .far .0) (d .attribute % 16), l)
 
 put-address-requires-2 : tie.Need-put-address-requires-2
 put-address-requires-2 c κs = search needs
 
 same-length : tie.Need-same-length
 same-length c =
-    let d = c .before .before .before .before .before .before .before .before .before .before .before .before .before .before .before .args .d in
-    let s : List ℕ = set (set (set (set (set (set (c .before .before .before .before .before .before .before .before .before .before .before .before .clear .last .0) 0 0x41) 1 0x10) 9 (d .identifier .0)) 12 (d .device % 8 * 16)) 32 (d .far .0)) 44 (d .attribute % 16) in
-    same-len-mid 24 8 (putMid 16 8 s (c .before .before .before .before .before .before .put-address .last .0)) (c .before .before .put-address2 .last .0) (c .before .before .put-address2 .kept .0)
-    ∙ same-len-mid 16 8 s (c .before .before .before .before .before .before .put-address .last .0) (c .before .before .before .before .before .before .put-address .kept .0)
-    ∙ length-stored (c .before .before .before .before .before .before .before .before .before .before .before .before .clear .last .0) 0x41 0x10 (d .identifier .0) (d .device % 8 * 16) (d .far .0) (d .attribute % 16) ∙ c .before .before .before .before .before .before .before .before .before .before .before .before .clear .kept .0
+    let at-args = c .before .before .before .before .before .before .before .before .before .before .before .before .before .before .before .args in
+    let at-clear = c .before .before .before .before .before .before .before .before .before .before .before .before .clear in
+    let at-put-address = c .before .before .before .before .before .before .put-address in
+    let d = at-args .d in
+    let s : List ℕ = set (set (set (set (set (set (at-clear .last .0) 0 0x41) 1 0x10) 9 (d .identifier .0)) 12 (d .device % 8 * 16)) 32 (d .far .0)) 44 (d .attribute % 16) in
+    same-len-mid 24 8 (putMid 16 8 s (at-put-address .last .0)) (c .before .before .put-address2 .last .0) (c .before .before .put-address2 .kept .0)
+    ∙ same-len-mid 16 8 s (at-put-address .last .0) (at-put-address .kept .0)
+    ∙ length-stored (at-clear .last .0) 0x41 0x10 (d .identifier .0) (d .device % 8 * 16) (d .far .0) (d .attribute % 16) ∙ at-clear .kept .0
 
 returns : tie.Need-returns
 unfolding shortDiscover bytesOf
 returns c =
-    let z : c .before .before .before .before .before .before .before .before .before .before .before .before .clear .last .0 ≡ replicate 52 0 = c .before .before .before .before .before .before .before .before .before .before .before .before .clear .ensures ∙ ap (λ (n : ℕ). replicate n 0) (c .before .before .before .before .before .before .before .before .before .before .before .before .before .before .before .pre) in
-    simp (c .before .before .put-address2 .ensures, c .before .before .before .before .before .before .put-address .ensures, z)
+    let at-clear = c .before .before .before .before .before .before .before .before .before .before .before .before .clear in
+    let at-pre = c .before .before .before .before .before .before .before .before .before .before .before .before .before .before .before .pre in
+    let at-put-address = c .before .before .before .before .before .before .put-address in
+    let z : at-clear .last .0 ≡ replicate 52 0 = at-clear .ensures ∙ ap (λ (n : ℕ). replicate n 0) at-pre in
+    simp (c .before .before .put-address2 .ensures, at-put-address .ensures, z)
 
 pub put-discover-spec : {M : Type 1} → statement M
 put-discover-spec = tie.close (tie.spec clear-requires slice-write-frame slice-write-frame-2 slice-write-frame-3 mul-frame slice-write-frame-4 slice-write-frame-5 slice-write-frame-6 sub-put-address part-put-address-start part-put-address-end put-address-requires sub-put-address-2 part-put-address-start-2 part-put-address-end-2 put-address-requires-2 same-length returns)

@@ -39,7 +39,8 @@ same-length c = simp length-set (c .before .before .before .before .clear .kept 
 returns : tie.Need-returns
 unfolding shortGeneral bytesOf
 returns c =
-    let z : c .before .before .before .before .clear .last .0 ≡ replicate 28 0 = c .before .before .before .before .clear .ensures ∙ ap (λ (n : ℕ). replicate n 0) (c .before .before .before .before .before .before .before .pre) in
+    let at-pre = c .before .before .before .before .before .before .before .pre in
+    let z : c .before .before .before .before .clear .last .0 ≡ replicate 28 0 = c .before .before .before .before .clear .ensures ∙ ap (λ (n : ℕ). replicate n 0) at-pre in
     simp z
 
 pub put-general-spec : {M : Type 1} → statement M

@@ -45,10 +45,11 @@ loop-less c = omega arith
 
 loop-again : tie.Need-loop-again Inv-loop μ-loop
 loop-again c =
+    let at-args = c .before .before .before .before .before .before .args in
     let l = c .before .before .before .loop in
-    let φs : List Phy = expanderAt (domainIn (c .before .before .before .before .before .before .args .rows .now)) (c .before .before .before .before .before .before .args .i .0) .phys in
+    let φs : List Phy = expanderAt (domainIn (at-args .rows .now)) (at-args .i .0) .phys in
     let e = sizes-next φs (l .p) (omega arith) in
-    let f : c .phy-size .result ≡ phySize (phyAt (domainIn (c .before .before .before .before .before .before .args .rows .now)) (c .before .before .before .before .before .before .args .i .0) (l .p)) = c .phy-size .ensures .0 ∙ ap phySize (c .before .phy-at .ensures) in
+    let f : c .phy-size .result ≡ phySize (phyAt (domainIn (at-args .rows .now)) (at-args .i .0) (l .p)) = c .phy-size .ensures .0 ∙ ap phySize (c .before .phy-at .ensures) in
     (omega arith, (l .inv .1 .0, (l .inv .1 .1 .0, (omega arith, omega arith))))
 
 returns : tie.Need-returns Inv-loop μ-loop

@@ -53,10 +53,15 @@ module _ (t : ℕ) where
   slice-relend-prefix-apply-event c = omega (arith, (c .if3) .taken)
 
   slice-aggregate-apply-event : apply-event-lts.Need-slice-aggregate-apply-event (claims t) (apply-event-at t) apply-event.Post
-  slice-aggregate-apply-event c = sym (length-take-le 2 ((c .before .before .before .before .before .before .before .before .before .args) .file .now) (omega (arith, (c .before .if3) .taken)))
+  slice-aggregate-apply-event c =
+      let at-args = c .before .before .before .before .before .before .before .before .before .args in
+      sym (length-take-le 2 (at-args .file .now) (omega (arith, (c .before .if3) .taken)))
 
   apply-event-requires : apply-event-lts.Need-apply-event-requires (claims t) (apply-event-at t) apply-event.Post
-  apply-event-requires c κs = (omega (arith, (c .before .before .before .before .before .before .before .before .before .before .before .pre) .0, (c .before .before .before .if3) .taken, length-take-le 2 ((c .before .before .before .before .before .before .before .before .before .before .before .args) .file .now) (omega (arith, (c .before .before .before .if3) .taken))), tt)
+  apply-event-requires c κs =
+      let at-pre = c .before .before .before .before .before .before .before .before .before .before .before .pre in
+      let at-args = c .before .before .before .before .before .before .before .before .before .before .before .args in
+      (omega (arith, at-pre .0, (c .before .before .before .if3) .taken, length-take-le 2 (at-args .file .now) (omega (arith, (c .before .before .before .if3) .taken))), tt)
 
   same-length-4 : apply-event-lts.Need-same-length-4 (claims t) (apply-event-at t) apply-event.Post
   same-length-4 c = search needs
@@ -69,8 +74,12 @@ module _ (t : ℕ) where
 
   returns-2 : apply-event-lts.Need-returns-2 (claims t) (apply-event-at t) apply-event.Post
   returns-2 c =
+      let at-if3 = c .before .before .before .before .before .before .before .before .before .before .if3 in
+      let at-stated-count = c .before .before .before .before .before .before .before .before .before .before .before .before .before .stated-count in
+      let at-if2 = c .before .before .before .before .before .before .before .before .before .before .before .if2 in
+      let at-apply-event = c .before .before .before .before .before .before .apply-event in
       let a = c .before .before .before .before .before .before .before .before .before .before .before .before .before .before .before .before .before .before .args in
-      header-done (a .setting) (a .file .now) _ (a .v) _ _ _ ((c .before .before .before .before .before .before .before .before .before .before .if3) .taken) (omega (arith, (c .before .before .before .before .before .before .before .before .before .before .before .before .before .stated-count) .ensures, (c .before .before .before .before .before .before .before .before .before .before .before .if2) .taken)) ((c .before .before .before .before .before .before .apply-event) .ensures)
+      header-done (a .setting) (a .file .now) _ (a .v) _ _ _ (at-if3 .taken) (omega (arith, at-stated-count .ensures, at-if2 .taken)) (at-apply-event .ensures)
 
   apply-many-requires : apply-event-lts.Need-apply-many-requires (claims t) (apply-event-at t) apply-event.Post
   apply-many-requires c κs = search needs

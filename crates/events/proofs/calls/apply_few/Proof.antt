@@ -22,10 +22,12 @@ slice-aggregate-apply-in-3 c = search needs
 
 apply-in-requires : tie.Need-apply-in-requires
 apply-in-requires c κs =
+    let at-stated-count = c .before .before .before .before .before .before .before .stated-count in
+    let at-if1 = c .before .before .before .before .before .before .if1 in
     let s = c .before .before .before .before .before .before .before .before .before .before .before .before in
     let a = s .args in
     let f = a .file .now in
-    file-room (a .setting) 2 f _ _ _ (λ d e. omega (arith, stated-expanders (a .setting) f d e, (c .before .before .before .before .before .before .before .stated-count) .ensures, (c .before .before .before .before .before .before .if1) .taken)) (omega (arith, length-replicate {A = ℕ} 516 0)) (omega (arith, length-replicate {A = ℕ} 320 0)) (omega (arith, length-replicate {A = ℕ} 256 0))
+    file-room (a .setting) 2 f _ _ _ (λ d e. omega (arith, stated-expanders (a .setting) f d e, at-stated-count .ensures, at-if1 .taken)) (omega (arith, length-replicate {A = ℕ} 516 0)) (omega (arith, length-replicate {A = ℕ} 320 0)) (omega (arith, length-replicate {A = ℕ} 256 0))
 
 same-length : tie.Need-same-length
 same-length c = search needs

@@ -24,18 +24,22 @@ mul-e c = search needs
 
 slice-relend-prefix-apply-rows : tie.Need-slice-relend-prefix-apply-rows
 slice-relend-prefix-apply-rows c =
+    let at-read-domain = c .before .before .before .before .before .before .before .before .read-domain in
     let s = c .before .before .before .before .before .before .before .before .before .before .before .before .before .before .before .before .before in
-    opened-fits _ _ _ _ _ _ (s .pre .rows) ((c .before .before .before .before .before .before .before .before .read-domain) .ensures) ((c .before .before .before .before .read2) .given .1) ((c .before .before .before .before .before .before .before .before .read-domain) .kept .1 .1 .0)
+    opened-fits _ _ _ _ _ _ (s .pre .rows) (at-read-domain .ensures) ((c .before .before .before .before .read2) .given .1) (at-read-domain .kept .1 .1 .0)
 
 slice-aggregate-apply-rows : tie.Need-slice-aggregate-apply-rows
 slice-aggregate-apply-rows c =
+    let at-read-domain = c .before .before .before .before .before .before .before .before .before .read-domain in
     let s = c .before .before .before .before .before .before .before .before .before .before .before .before .before .before .before .before .before .before in
-    sym (length-take-le _ ((c .before .before .before .before .before .before .before .before .before .read-domain) .last .1 .1 .0) (opened-fits _ _ _ _ _ _ (s .pre .rows) ((c .before .before .before .before .before .before .before .before .before .read-domain) .ensures) ((c .before .before .before .before .before .read2) .given .1) ((c .before .before .before .before .before .before .before .before .before .read-domain) .kept .1 .1 .0)))
+    sym (length-take-le _ (at-read-domain .last .1 .1 .0) (opened-fits _ _ _ _ _ _ (s .pre .rows) (at-read-domain .ensures) ((c .before .before .before .before .before .read2) .given .1) (at-read-domain .kept .1 .1 .0)))
 
 apply-rows-requires : tie.Need-apply-rows-requires
 apply-rows-requires c κs =
+    let at-read-domain = c .before .before .before .before .before .before .before .before .before .before .before .read-domain in
+    let at-read2 = c .before .before .before .before .before .before .before .read2 in
     let s = c .before .before .before .before .before .before .before .before .before .before .before .before .before .before .before .before .before .before .before .before in
-    let o = opened-as _ _ _ _ _ _ (s .pre .rows) ((c .before .before .before .before .before .before .before .before .before .before .before .read-domain) .ensures) ((c .before .before .before .before .before .before .before .read2) .given .1) in
+    let o = opened-as _ _ _ _ _ _ (s .pre .rows) (at-read-domain .ensures) (at-read2 .given .1) in
     (o .0, s .pre .index _ (o .0))
 
 same-length : tie.Need-same-length

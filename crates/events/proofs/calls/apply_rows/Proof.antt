@@ -19,10 +19,11 @@ phy-offset-requires c κs = search needs
 
 edit-frame-requires : tie.Need-edit-frame-requires
 edit-frame-requires c κs =
+    let at-replug-rows = c .before .before .before .before .before .before .before .before .before .before .before .before .before .before .before .before .replug-rows in
     let s = c .before .before .before .before .before .before .before .before .before .before .before .before .before .before .before .before .before .before .before .before .before .before .before .before .before .before .before .before in
     let a = s .args in
     let p = (c .before .phy-offset) .ensures in
-    let w = applied-within (a .setting) (a .file .now) _ (a .first .now) (a .low .now) (a .v) _ _ _ (s .pre .0) (s .pre .1) (omega (arith, s .good .1 .1 .1 .1 .0)) ((c .before .before .before .before .before .before .before .before .before .before .before .before .before .before .before .before .replug-rows) .ensures .1 .0) _ _ ((c .before .before .before .before .got2) .given .1) in
+    let w = applied-within (a .setting) (a .file .now) _ (a .first .now) (a .low .now) (a .v) _ _ _ (s .pre .0) (s .pre .1) (omega (arith, s .good .1 .1 .1 .1 .0)) (at-replug-rows .ensures .1 .0) _ _ ((c .before .before .before .before .got2) .given .1) in
     omega (arith, p, w)
 
 same-length : tie.Need-same-length
@@ -42,9 +43,10 @@ same-length-5 c = search needs
 
 returns : tie.Need-returns
 returns c =
+    let at-replug-rows = c .before .before .before .before .before .before .before .before .before .before .before .before .before .replug-rows in
     let s = c .before .before .before .before .before .before .before .before .before .before .before .before .before .before .before .before .before .before .before .before .before .before .before .before .before in
     let a = s .args in
-    applied-refused (a .setting) (a .file .now) _ (a .first .now) (a .low .now) (a .v) _ _ _ (s .pre .0) (s .pre .1) (omega (arith, s .good .1 .1 .1 .1 .0)) ((c .before .before .before .before .before .before .before .before .before .before .before .before .before .replug-rows) .ensures .1 .0) _ ((c .before .got) .given .1)
+    applied-refused (a .setting) (a .file .now) _ (a .first .now) (a .low .now) (a .v) _ _ _ (s .pre .0) (s .pre .1) (omega (arith, s .good .1 .1 .1 .1 .0)) (at-replug-rows .ensures .1 .0) _ ((c .before .got) .given .1)
 
 same-length-6 : tie.Need-same-length-6
 same-length-6 c = search needs
@@ -66,9 +68,11 @@ same-length-11 c = search needs
 
 returns-2 : tie.Need-returns-2
 returns-2 c =
+    let at-replug-rows = c .before .before .before .before .before .before .before .before .before .before .before .before .before .before .before .before .before .before .before .replug-rows in
+    let at-got2 = c .before .before .before .before .before .before .before .got2 in
     let s = c .before .before .before .before .before .before .before .before .before .before .before .before .before .before .before .before .before .before .before .before .before .before .before .before .before .before .before .before .before .before .before in
     let a = s .args in
-    applied-counted (a .setting) (a .file .now) _ (a .first .now) (a .low .now) (a .v) _ _ _ (s .pre .0) (s .pre .1) (omega (arith, s .good .1 .1 .1 .1 .0)) ((c .before .before .before .before .before .before .before .before .before .before .before .before .before .before .before .before .before .before .before .replug-rows) .ensures .1 .0) _ _ ((c .before .before .before .before .before .before .before .got2) .given .1) _ _ ((c .before .before .before .before .phy-offset) .ensures) ((c .before .before .edit-frame) .ensures)
+    applied-counted (a .setting) (a .file .now) _ (a .first .now) (a .low .now) (a .v) _ _ _ (s .pre .0) (s .pre .1) (omega (arith, s .good .1 .1 .1 .1 .0)) (at-replug-rows .ensures .1 .0) _ _ (at-got2 .given .1) _ _ ((c .before .before .before .before .phy-offset) .ensures) ((c .before .before .edit-frame) .ensures)
 
 pub apply-rows-spec : {M : Type 1} → statement M
 apply-rows-spec = tie.close (tie.spec replug-rows-requires enum-known-got enum-known-got-2 phy-offset-requires edit-frame-requires same-length same-length-2 same-length-3 same-length-4 same-length-5 returns same-length-6 same-length-7 same-length-8 same-length-9 same-length-10 same-length-11 returns-2)

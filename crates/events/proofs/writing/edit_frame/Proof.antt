@@ -44,8 +44,9 @@ same-length-2 c =
 
 returns-2 : tie.Need-returns-2
 returns-2 c =
+    let at-drive-type = c .before .before .before .before .before .before .before .drive-type in
     let a = c .before .before .before .before .before .before .before .before .before .args in
-    (c .before .before .attach-at) .ensures ∙ plug-put (a .a) (a .at) (a .file .now) _ _ ((c .before .before .before .before .before .before .before .drive-type) .ensures .0) ((c .before .before .before .before .before .with-type) .ensures) (λ z. omega (arith, (c .before .before .before .before .if1) .left))
+    (c .before .before .attach-at) .ensures ∙ plug-put (a .a) (a .at) (a .file .now) _ _ (at-drive-type .ensures .0) ((c .before .before .before .before .before .with-type) .ensures) (λ z. omega (arith, (c .before .before .before .before .if1) .left))
 
 pub edit-frame-spec : {M : Type 1} → statement M
 edit-frame-spec = tie.close (tie.spec drive-type-requires add-with-type slice-read-with-type with-type-requires add-file slice-write-file same-length returns attach-at-requires same-length-2 returns-2)

@@ -32,7 +32,9 @@ cast-put-rig : tie.Need-cast-put-rig
 cast-put-rig c = let a = (c .before .before .before .before .before .before .args) in let k = makable (a .a) (a .b) (a .list .now) (was-false (noRig (a .a) (a .b) (a .list .now)) (sym ((c .before .before .before .is-no-rig) .ensures) ∙ (c .before .before .if1) .left)) in omega (arith, k .indexes)
 
 slice-aggregate-put-rig-2 : tie.Need-slice-aggregate-put-rig-2
-slice-aggregate-put-rig-2 c = sym (length-take-le _ ((c .before .before .before .before .before .before .before .args) .list .now) (omega (arith, (c .before .before .trimmed-count) .ensures .0, trimmed-few ((c .before .before .before .before .before .before .before .args) .list .now))))
+slice-aggregate-put-rig-2 c =
+    let at-args = c .before .before .before .before .before .before .before .args in
+    sym (length-take-le _ (at-args .list .now) (omega (arith, (c .before .before .trimmed-count) .ensures .0, trimmed-few (at-args .list .now))))
 
 put-rig-requires : tie.Need-put-rig-requires
 put-rig-requires c κs = let a = (c .before .before .before .before .before .before .before .args) in let k = makable (a .a) (a .b) (a .list .now) (was-false (noRig (a .a) (a .b) (a .list .now)) (sym ((c .before .before .before .before .is-no-rig) .ensures) ∙ (c .before .before .before .if1) .left)) in let t = (c .before .before .trimmed-count) in let l = length-take-le (t .result) (a .list .now) (omega (arith, t .ensures .0, trimmed-few (a .list .now))) in (length-replicate {A = ℕ} 516 0, omega (arith, k .phys, t .ensures .0))
@@ -47,7 +49,15 @@ same-length : tie.Need-same-length
 same-length c = search needs
 
 returns-2 : tie.Need-returns-2
-returns-2 c = make-some ((c .before .before .before .before .before .before .before .before .before .before .before .before .before .before .args) .a) ((c .before .before .before .before .before .before .before .before .before .before .before .before .before .before .args) .b) ((c .before .before .before .before .before .before .before .before .before .before .before .before .before .before .args) .list .now) ((c .before .before .before .before .before .before .before .before .before .before .before .before .before .before .args) .file .now) _ _ _ _ _ (sym ((c .before .before .before .before .before .before .before .before .before .before .before .is-no-rig) .ensures) ∙ (c .before .before .before .before .before .before .before .before .before .before .if1) .left) ((c .before .before .before .before .before .before .before .before .before .before .before .before .before .before .fits) .a .fits) ((c .before .before .before .before .before .before .before .before .before .before .before .before .before .before .fits) .b .fits) (λ j. (c .before .before .before .before .before .before .before .before .before .before .before .before .before .shared-slice-known) .given j .fits) refl ((c .before .before .before .before .before .before .before .before .before .trimmed-count) .ensures .1) ((c .before .before .before .before .before .before .put-rig) .ensures) ((c .before .before .file-of-rows) .ensures)
+returns-2 c =
+    let at-args = c .before .before .before .before .before .before .before .before .before .before .before .before .before .before .args in
+    let at-is-no-rig = c .before .before .before .before .before .before .before .before .before .before .before .is-no-rig in
+    let at-if1 = c .before .before .before .before .before .before .before .before .before .before .if1 in
+    let at-fits = c .before .before .before .before .before .before .before .before .before .before .before .before .before .before .fits in
+    let at-shared-slice-known = c .before .before .before .before .before .before .before .before .before .before .before .before .before .shared-slice-known in
+    let at-trimmed-count = c .before .before .before .before .before .before .before .before .before .trimmed-count in
+    let at-put-rig = c .before .before .before .before .before .before .put-rig in
+    make-some (at-args .a) (at-args .b) (at-args .list .now) (at-args .file .now) _ _ _ _ _ (sym (at-is-no-rig .ensures) ∙ at-if1 .left) (at-fits .a .fits) (at-fits .b .fits) (λ j. at-shared-slice-known .given j .fits) refl (at-trimmed-count .ensures .1) (at-put-rig .ensures) ((c .before .before .file-of-rows) .ensures)
 
 pub make-spec : {M : Type 1} → statement M
 make-spec = tie.close (tie.spec is-no-rig-requires no-rig-requires returns trimmed-count-requires slice-aggregate-put-rig cast-put-rig slice-aggregate-put-rig-2 put-rig-requires slice-aggregate-file-of-rows file-of-rows-requires same-length returns-2)

@@ -55,22 +55,25 @@ put-phys-requires c κs =
 
 same-length : tie.Need-same-length
 same-length c =
+    let at-clear = c .before .before .before .before .before .before .clear in
     let a = c .before .before .before .before .before .before .before .before .before .before .before .before .args in
     let k = 2 + 2 * a .u .phys in
-    let l = same-len-mid k (length (a .row .now) - k) (a .row .now) (c .before .before .before .before .before .before .clear .last .0) (c .before .before .before .before .before .before .clear .kept .0) in
+    let l = same-len-mid k (length (a .row .now) - k) (a .row .now) (at-clear .last .0) (at-clear .kept .0) in
     c .before .before .put-phys .kept .0 ∙ simp length-set l
 
 returns : tie.Need-returns
 returns c =
+    let at-clear = c .before .before .before .before .before .before .clear in
+    let at-head-word = c .before .before .before .before .before .before .before .before .before .head-word in
     let a = c .before .before .before .before .before .before .before .before .before .before .before .before .args in
     let k = 2 + 2 * a .u .phys in
-    let l = same-len-mid k (length (a .row .now) - k) (a .row .now) (c .before .before .before .before .before .before .clear .last .0) (c .before .before .before .before .before .before .clear .kept .0) in
+    let l = same-len-mid k (length (a .row .now) - k) (a .row .now) (at-clear .last .0) (at-clear .kept .0) in
     let n : length (a .row .now) ≡ 258 = omega arith in
     let e : 258 - k ≡ 256 - 2 * a .u .phys = omega arith in
-    let m : length (putMid k (length (a .row .now) - k) (a .row .now) (c .before .before .before .before .before .before .clear .last .0)) ≡ 258 = l ∙ n in
-    let z = tail-cleared k (length (a .row .now) - k) (a .row .now) (c .before .before .before .before .before .before .clear .last .0) n (omega arith) (omega arith) (c .before .before .before .before .before .before .clear .ensures) in
+    let m : length (putMid k (length (a .row .now) - k) (a .row .now) (at-clear .last .0)) ≡ 258 = l ∙ n in
+    let z = tail-cleared k (length (a .row .now) - k) (a .row .now) (at-clear .last .0) n (omega arith) (omega arith) (at-clear .ensures) in
     record {
-      words = c .before .before .put-phys .ensures .words ∙ row-made (a .u) (putMid k (length (a .row .now) - k) (a .row .now) (c .before .before .before .before .before .before .clear .last .0)) _ (a .file .now) (a .i .0) (a .at) m (rw e at z) (c .before .before .before .before .before .before .before .before .before .head-word .ensures) (omega arith);
+      words = c .before .before .put-phys .ensures .words ∙ row-made (a .u) (putMid k (length (a .row .now) - k) (a .row .now) (at-clear .last .0)) _ (a .file .now) (a .i .0) (a .at) m (rw e at z) (at-head-word .ensures) (omega arith);
       place = c .before .before .put-phys .ensures .place;
     }
 

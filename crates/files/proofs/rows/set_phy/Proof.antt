@@ -34,7 +34,9 @@ mul-rows : tie.Need-mul-rows
 mul-rows c = search needs
 
 slice-write-rows : tie.Need-slice-write-rows
-slice-write-rows c = omega (arith, in-rows ((c .before .before .before .before .before .before .before .before .args) .rows .now) ((c .before .before .before .before .before .before .before .before .args) .i .0) ((c .before .before .before .before .before .before .before .before .args) .p .0) (omega arith))
+slice-write-rows c =
+    let at-args = c .before .before .before .before .before .before .before .before .args in
+    omega (arith, in-rows (at-args .rows .now) (at-args .i .0) (at-args .p .0) (omega arith))
 
 phy-word-requires : tie.Need-phy-word-requires
 phy-word-requires c κs = search needs
@@ -46,13 +48,17 @@ mul-rows-2 : tie.Need-mul-rows-2
 mul-rows-2 c = search needs
 
 slice-write-rows-2 : tie.Need-slice-write-rows-2
-slice-write-rows-2 c = simp length-set (omega (arith, in-rows ((c .before .before .before .before .before .before .before .before .before .args) .rows .now) ((c .before .before .before .before .before .before .before .before .before .args) .i .0) ((c .before .before .before .before .before .before .before .before .before .args) .p .0) (omega arith)))
+slice-write-rows-2 c =
+    let at-args = c .before .before .before .before .before .before .before .before .before .args in
+    simp length-set (omega (arith, in-rows (at-args .rows .now) (at-args .i .0) (at-args .p .0) (omega arith)))
 
 same-length : tie.Need-same-length
 same-length c = search needs
 
 returns : tie.Need-returns
-returns c = phy-set-by ((c .before .before .before .before .before .before .before .before .before .args) .rows .now) ((c .before .before .before .before .before .before .before .before .before .args) .i .0) ((c .before .before .before .before .before .before .before .before .before .args) .p .0) ((c .before .before .before .before .before .before .before .before .before .args) .phy) _ _ ((c .before .phy-address) .ensures) ((c .phy-word) .ensures) (omega arith)
+returns c =
+    let at-args = c .before .before .before .before .before .before .before .before .before .args in
+    phy-set-by (at-args .rows .now) (at-args .i .0) (at-args .p .0) (at-args .phy) _ _ ((c .before .phy-address) .ensures) ((c .phy-word) .ensures) (omega arith)
 
 same-length-2 : tie.Need-same-length-2
 same-length-2 c = search needs

@@ -35,10 +35,15 @@ expander-address-requires : tie.Need-expander-address-requires Inv-loop μ-loop
 expander-address-requires c κs = search needs
 
 returns : tie.Need-returns Inv-loop μ-loop
-returns c = heads-address (domainIn ((c .before .before .before .before .before .before .before .before .before .args) .rows .now)) (domainIn ((c .before .before .before .before .before .before .before .before .before .args) .rows .now)) ((c .before .before .before .before .before .loop) .i) ((c .before .before .before .before .before .loop) .at) ((c .before .before .before .before .before .before .before .before .before .args) .ws .now) ((c .before .before .before .before .before .loop) .inv .1 .1) (omega (arith, (c .before .before .before .before .before .before .expander-count) .ensures .0)) _ ((c .before .before .word-at) .ensures) _ ((c .before .expander-address) .ensures) ((c .if1) .taken)
+returns c =
+    let at-args = c .before .before .before .before .before .before .before .before .before .args in
+    let at-expander-count = c .before .before .before .before .before .before .expander-count in
+    heads-address (domainIn (at-args .rows .now)) (domainIn (at-args .rows .now)) ((c .before .before .before .before .before .loop) .i) ((c .before .before .before .before .before .loop) .at) (at-args .ws .now) ((c .before .before .before .before .before .loop) .inv .1 .1) (omega (arith, at-expander-count .ensures .0)) _ ((c .before .before .word-at) .ensures) _ ((c .before .expander-address) .ensures) ((c .if1) .taken)
 
 add-word-at : tie.Need-add-word-at Inv-loop μ-loop
-add-word-at c = omega (arith, (c .before .before .before .before .before .before .expander-count) .ensures .1)
+add-word-at c =
+    let at-expander-count = c .before .before .before .before .before .before .expander-count in
+    omega (arith, at-expander-count .ensures .1)
 
 word-at-requires-2 : tie.Need-word-at-requires-2 Inv-loop μ-loop
 word-at-requires-2 c κs = search needs
@@ -50,28 +55,53 @@ head-field-requires : tie.Need-head-field-requires Inv-loop μ-loop
 head-field-requires c κs = search needs
 
 returns-2 : tie.Need-returns-2 Inv-loop μ-loop
-returns-2 c = heads-field (domainIn ((c .before .before .before .before .before .before .before .before .before .before .before .before .before .args) .rows .now)) (domainIn ((c .before .before .before .before .before .before .before .before .before .before .before .before .before .args) .rows .now)) ((c .before .before .before .before .before .before .before .before .before .loop) .i) ((c .before .before .before .before .before .before .before .before .before .loop) .at) ((c .before .before .before .before .before .before .before .before .before .before .before .before .before .args) .ws .now) ((c .before .before .before .before .before .before .before .before .before .loop) .inv .1 .1) (omega (arith, (c .before .before .before .before .before .before .before .before .before .before .expander-count) .ensures .0)) _ ((c .before .before .before .before .before .before .word-at) .ensures) _ ((c .before .before .before .before .before .expander-address) .ensures) ((c .before .before .before .before .if1) .left) _ ((c .before .before .before .word-at2) .ensures) _ (head-of (domainIn ((c .before .before .before .before .before .before .before .before .before .before .before .before .before .args) .rows .now)) ((c .before .before .before .before .before .before .before .before .before .loop) .i) _ _ _ ((c .before .head-field) .ensures) ((c .before .before .index-count) .ensures) ((c .before .before .before .before .before .before .before .phy-count) .ensures .0)) ((c .if2) .taken)
+returns-2 c =
+    let at-args = c .before .before .before .before .before .before .before .before .before .before .before .before .before .args in
+    let at-loop = c .before .before .before .before .before .before .before .before .before .loop in
+    let at-expander-count = c .before .before .before .before .before .before .before .before .before .before .expander-count in
+    let at-word-at = c .before .before .before .before .before .before .word-at in
+    let at-phy-count = c .before .before .before .before .before .before .before .phy-count in
+    heads-field (domainIn (at-args .rows .now)) (domainIn (at-args .rows .now)) (at-loop .i) (at-loop .at) (at-args .ws .now) (at-loop .inv .1 .1) (omega (arith, at-expander-count .ensures .0)) _ (at-word-at .ensures) _ ((c .before .before .before .before .before .expander-address) .ensures) ((c .before .before .before .before .if1) .left) _ ((c .before .before .before .word-at2) .ensures) _ (head-of (domainIn (at-args .rows .now)) (at-loop .i) _ _ _ ((c .before .head-field) .ensures) ((c .before .before .index-count) .ensures) (at-phy-count .ensures .0)) ((c .if2) .taken)
 
 add-are-right-phys : tie.Need-add-are-right-phys Inv-loop μ-loop
-add-are-right-phys c = omega (arith, (c .before .before .before .before .before .before .before .before .before .before .expander-count) .ensures .1)
+add-are-right-phys c =
+    let at-expander-count = c .before .before .before .before .before .before .before .before .before .before .expander-count in
+    omega (arith, at-expander-count .ensures .1)
 
 are-right-phys-requires : tie.Need-are-right-phys-requires Inv-loop μ-loop
-are-right-phys-requires c κs = omega (arith, (c .before .before .before .before .before .before .before .before .before .before .expander-count) .ensures .1)
+are-right-phys-requires c κs =
+    let at-expander-count = c .before .before .before .before .before .before .before .before .before .before .expander-count in
+    omega (arith, at-expander-count .ensures .1)
 
 returns-3 : tie.Need-returns-3 Inv-loop μ-loop
-returns-3 c = heads-phys (domainIn ((c .before .before .before .before .before .before .before .before .before .before .before .before .before .before .before .args) .rows .now)) (domainIn ((c .before .before .before .before .before .before .before .before .before .before .before .before .before .before .before .args) .rows .now)) ((c .before .before .before .before .before .before .before .before .before .before .before .loop) .i) ((c .before .before .before .before .before .before .before .before .before .before .before .loop) .at) ((c .before .before .before .before .before .before .before .before .before .before .before .before .before .before .before .args) .ws .now) ((c .before .before .before .before .before .before .before .before .before .before .before .loop) .inv .1 .1) (omega (arith, (c .before .before .before .before .before .before .before .before .before .before .before .before .expander-count) .ensures .0)) _ ((c .before .before .before .before .before .before .before .before .word-at) .ensures) _ ((c .before .before .before .before .before .before .before .expander-address) .ensures) ((c .before .before .before .before .before .before .if1) .left) _ ((c .before .before .before .before .before .word-at2) .ensures) _ (head-of (domainIn ((c .before .before .before .before .before .before .before .before .before .before .before .before .before .before .before .args) .rows .now)) ((c .before .before .before .before .before .before .before .before .before .before .before .loop) .i) _ _ _ ((c .before .before .before .head-field) .ensures) ((c .before .before .before .before .index-count) .ensures) ((c .before .before .before .before .before .before .before .before .before .phy-count) .ensures .0)) ((c .before .before .if2) .left) (sym ((c .before .are-right-phys) .ensures) ∙ not-true _ ((c .if3) .taken))
+returns-3 c =
+    let at-args = c .before .before .before .before .before .before .before .before .before .before .before .before .before .before .before .args in
+    let at-loop = c .before .before .before .before .before .before .before .before .before .before .before .loop in
+    let at-expander-count = c .before .before .before .before .before .before .before .before .before .before .before .before .expander-count in
+    let at-word-at = c .before .before .before .before .before .before .before .before .word-at in
+    let at-expander-address = c .before .before .before .before .before .before .before .expander-address in
+    let at-if1 = c .before .before .before .before .before .before .if1 in
+    let at-phy-count = c .before .before .before .before .before .before .before .before .before .phy-count in
+    heads-phys (domainIn (at-args .rows .now)) (domainIn (at-args .rows .now)) (at-loop .i) (at-loop .at) (at-args .ws .now) (at-loop .inv .1 .1) (omega (arith, at-expander-count .ensures .0)) _ (at-word-at .ensures) _ (at-expander-address .ensures) (at-if1 .left) _ ((c .before .before .before .before .before .word-at2) .ensures) _ (head-of (domainIn (at-args .rows .now)) (at-loop .i) _ _ _ ((c .before .before .before .head-field) .ensures) ((c .before .before .before .before .index-count) .ensures) (at-phy-count .ensures .0)) ((c .before .before .if2) .left) (sym ((c .before .are-right-phys) .ensures) ∙ not-true _ ((c .if3) .taken))
 
 cast-at : tie.Need-cast-at Inv-loop μ-loop
 cast-at c = omega arith
 
 mul-at : tie.Need-mul-at Inv-loop μ-loop
-mul-at c = omega (arith, (c .before .before .before .before .before .before .before .before .before .phy-count) .ensures .1)
+mul-at c =
+    let at-phy-count = c .before .before .before .before .before .before .before .before .before .phy-count in
+    omega (arith, at-phy-count .ensures .1)
 
 add-at : tie.Need-add-at Inv-loop μ-loop
-add-at c = omega (arith, (c .before .before .before .before .before .before .before .before .before .phy-count) .ensures .1)
+add-at c =
+    let at-phy-count = c .before .before .before .before .before .before .before .before .before .phy-count in
+    omega (arith, at-phy-count .ensures .1)
 
 add-at-2 : tie.Need-add-at-2 Inv-loop μ-loop
-add-at-2 c = omega (arith, (c .before .before .before .before .before .before .before .before .before .phy-count) .ensures .1, (c .before .before .before .before .before .before .before .before .before .before .before .before .expander-count) .ensures .1)
+add-at-2 c =
+    let at-phy-count = c .before .before .before .before .before .before .before .before .before .phy-count in
+    let at-expander-count = c .before .before .before .before .before .before .before .before .before .before .before .before .expander-count in
+    omega (arith, at-phy-count .ensures .1, at-expander-count .ensures .1)
 
 add-i : tie.Need-add-i Inv-loop μ-loop
 add-i c = omega arith
@@ -80,7 +110,15 @@ loop-less : tie.Need-loop-less Inv-loop μ-loop
 loop-less c = omega arith
 
 loop-again : tie.Need-loop-again Inv-loop μ-loop
-loop-again c = (omega arith, (omega (arith, (c .before .before .before .before .before .before .before .before .before .phy-count) .ensures .1), heads-go (domainIn ((c .before .before .before .before .before .before .before .before .before .before .before .before .before .before .before .args) .rows .now)) (domainIn ((c .before .before .before .before .before .before .before .before .before .before .before .before .before .before .before .args) .rows .now)) ((c .before .before .before .before .before .before .before .before .before .before .before .loop) .i) ((c .before .before .before .before .before .before .before .before .before .before .before .loop) .at) ((c .before .before .before .before .before .before .before .before .before .before .before .before .before .before .before .args) .ws .now) ((c .before .before .before .before .before .before .before .before .before .before .before .loop) .inv .1 .1) (omega (arith, (c .before .before .before .before .before .before .before .before .before .before .before .before .expander-count) .ensures .0)) _ ((c .before .before .before .before .before .before .before .before .word-at) .ensures) _ ((c .before .before .before .before .before .before .before .expander-address) .ensures) ((c .before .before .before .before .before .before .if1) .left) _ ((c .before .before .before .before .before .word-at2) .ensures) _ (head-of (domainIn ((c .before .before .before .before .before .before .before .before .before .before .before .before .before .before .before .args) .rows .now)) ((c .before .before .before .before .before .before .before .before .before .before .before .loop) .i) _ _ _ ((c .before .before .before .head-field) .ensures) ((c .before .before .before .before .index-count) .ensures) ((c .before .before .before .before .before .before .before .before .before .phy-count) .ensures .0)) ((c .before .before .if2) .left) _ _ (sym ((c .before .are-right-phys) .ensures) ∙ not-false _ ((c .if3) .left)) ((c .before .before .before .before .before .before .before .before .before .phy-count) .ensures .0) refl))
+loop-again c =
+    let at-phy-count = c .before .before .before .before .before .before .before .before .before .phy-count in
+    let at-args = c .before .before .before .before .before .before .before .before .before .before .before .before .before .before .before .args in
+    let at-loop = c .before .before .before .before .before .before .before .before .before .before .before .loop in
+    let at-expander-count = c .before .before .before .before .before .before .before .before .before .before .before .before .expander-count in
+    let at-word-at = c .before .before .before .before .before .before .before .before .word-at in
+    let at-expander-address = c .before .before .before .before .before .before .before .expander-address in
+    let at-if1 = c .before .before .before .before .before .before .if1 in
+    (omega arith, (omega (arith, at-phy-count .ensures .1), heads-go (domainIn (at-args .rows .now)) (domainIn (at-args .rows .now)) (at-loop .i) (at-loop .at) (at-args .ws .now) (at-loop .inv .1 .1) (omega (arith, at-expander-count .ensures .0)) _ (at-word-at .ensures) _ (at-expander-address .ensures) (at-if1 .left) _ ((c .before .before .before .before .before .word-at2) .ensures) _ (head-of (domainIn (at-args .rows .now)) (at-loop .i) _ _ _ ((c .before .before .before .head-field) .ensures) ((c .before .before .before .before .index-count) .ensures) (at-phy-count .ensures .0)) ((c .before .before .if2) .left) _ _ (sym ((c .before .are-right-phys) .ensures) ∙ not-false _ ((c .if3) .left)) (at-phy-count .ensures .0) refl))
 
 returns-4 : tie.Need-returns-4 Inv-loop μ-loop
 returns-4 c = heads-end (domainIn ((c .before .before .before .before .before .args) .rows .now)) (domainIn ((c .before .before .before .before .before .args) .rows .now)) ((c .before .loop) .i) ((c .before .loop) .at) ((c .before .before .before .before .before .args) .ws .now) ((c .before .loop) .inv .1 .1) (omega (arith, (c .before .before .expander-count) .ensures .0))

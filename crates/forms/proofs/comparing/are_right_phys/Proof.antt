@@ -35,22 +35,37 @@ phy-address-requires : tie.Need-phy-address-requires Inv-loop μ-loop
 phy-address-requires c κs = search needs
 
 returns : tie.Need-returns Inv-loop μ-loop
-returns c = phys-address (domainIn ((c .before .before .before .before .before .before .before .before .before .args) .rows .now)) (expanderAt (domainIn ((c .before .before .before .before .before .before .before .before .before .args) .rows .now)) ((c .before .before .before .before .before .before .before .before .before .args) .i .0) .phys) ((c .before .before .before .before .before .loop) .p) ((c .before .before .before .before .before .loop) .to) ((c .before .before .before .before .before .before .before .before .before .args) .ws .now) ((c .before .before .before .before .before .loop) .inv .1 .1) _ _ (omega (arith, (c .before .before .before .before .before .before .phy-count) .ensures .0)) ((c .before .before .word-at) .ensures) ((c .before .phy-address) .ensures ∙ ap addressOf ((c .before .before .before .phy-at) .ensures)) ((c .if1) .taken)
+returns c =
+    let at-args = c .before .before .before .before .before .before .before .before .before .args in
+    let at-phy-count = c .before .before .before .before .before .before .phy-count in
+    phys-address (domainIn (at-args .rows .now)) (expanderAt (domainIn (at-args .rows .now)) (at-args .i .0) .phys) ((c .before .before .before .before .before .loop) .p) ((c .before .before .before .before .before .loop) .to) (at-args .ws .now) ((c .before .before .before .before .before .loop) .inv .1 .1) _ _ (omega (arith, at-phy-count .ensures .0)) ((c .before .before .word-at) .ensures) ((c .before .phy-address) .ensures ∙ ap addressOf ((c .before .before .before .phy-at) .ensures)) ((c .if1) .taken)
 
 add-word-at : tie.Need-add-word-at Inv-loop μ-loop
-add-word-at c = omega (arith, (c .before .before .before .before .before .before .phy-count) .ensures .1)
+add-word-at c =
+    let at-phy-count = c .before .before .before .before .before .before .phy-count in
+    omega (arith, at-phy-count .ensures .1)
 
 word-at-requires-2 : tie.Need-word-at-requires-2 Inv-loop μ-loop
 word-at-requires-2 c κs = search needs
 
 is-right-field-requires : tie.Need-is-right-field-requires Inv-loop μ-loop
-is-right-field-requires c κs = subst SmallPhy (sym ((c .before .before .before .before .phy-at) .ensures)) (rows-small ((c .before .before .before .before .before .before .before .before .before .before .args) .rows .now) ((c .before .before .before .before .before .before .before .before .before .before .args) .i .0) ((c .before .before .before .before .before .before .loop) .p))
+is-right-field-requires c κs =
+    let at-args = c .before .before .before .before .before .before .before .before .before .before .args in
+    let at-loop = c .before .before .before .before .before .before .loop in
+    subst SmallPhy (sym ((c .before .before .before .before .phy-at) .ensures)) (rows-small (at-args .rows .now) (at-args .i .0) (at-loop .p))
 
 returns-2 : tie.Need-returns-2 Inv-loop μ-loop
-returns-2 c = phys-field (domainIn ((c .before .before .before .before .before .before .before .before .before .before .before .before .args) .rows .now)) (expanderAt (domainIn ((c .before .before .before .before .before .before .before .before .before .before .before .before .args) .rows .now)) ((c .before .before .before .before .before .before .before .before .before .before .before .before .args) .i .0) .phys) ((c .before .before .before .before .before .before .before .before .loop) .p) ((c .before .before .before .before .before .before .before .before .loop) .to) ((c .before .before .before .before .before .before .before .before .before .before .before .before .args) .ws .now) ((c .before .before .before .before .before .before .before .before .loop) .inv .1 .1) _ _ (omega (arith, (c .before .before .before .before .before .before .before .before .before .phy-count) .ensures .0)) ((c .before .before .before .before .before .word-at) .ensures) ((c .before .before .before .before .phy-address) .ensures ∙ ap addressOf ((c .before .before .before .before .before .before .phy-at) .ensures)) ((c .before .before .before .if1) .left) (rights _ _ _ _ _ _ ((c .before .before .before .before .before .before .phy-at) .ensures) ((c .before .before .word-at2) .ensures) ((c .before .is-right-field) .ensures) (not-true _ ((c .if2) .taken)))
+returns-2 c =
+    let at-args = c .before .before .before .before .before .before .before .before .before .before .before .before .args in
+    let at-loop = c .before .before .before .before .before .before .before .before .loop in
+    let at-phy-count = c .before .before .before .before .before .before .before .before .before .phy-count in
+    let at-phy-at = c .before .before .before .before .before .before .phy-at in
+    phys-field (domainIn (at-args .rows .now)) (expanderAt (domainIn (at-args .rows .now)) (at-args .i .0) .phys) (at-loop .p) (at-loop .to) (at-args .ws .now) (at-loop .inv .1 .1) _ _ (omega (arith, at-phy-count .ensures .0)) ((c .before .before .before .before .before .word-at) .ensures) ((c .before .before .before .before .phy-address) .ensures ∙ ap addressOf (at-phy-at .ensures)) ((c .before .before .before .if1) .left) (rights _ _ _ _ _ _ (at-phy-at .ensures) ((c .before .before .word-at2) .ensures) ((c .before .is-right-field) .ensures) (not-true _ ((c .if2) .taken)))
 
 add-to : tie.Need-add-to Inv-loop μ-loop
-add-to c = omega (arith, (c .before .before .before .before .before .before .before .before .before .phy-count) .ensures .1)
+add-to c =
+    let at-phy-count = c .before .before .before .before .before .before .before .before .before .phy-count in
+    omega (arith, at-phy-count .ensures .1)
 
 add-p : tie.Need-add-p Inv-loop μ-loop
 add-p c = omega arith
@@ -59,7 +74,12 @@ loop-less : tie.Need-loop-less Inv-loop μ-loop
 loop-less c = omega arith
 
 loop-again : tie.Need-loop-again Inv-loop μ-loop
-loop-again c = (omega arith, (omega arith, phys-go (domainIn ((c .before .before .before .before .before .before .before .before .before .before .before .before .args) .rows .now)) (expanderAt (domainIn ((c .before .before .before .before .before .before .before .before .before .before .before .before .args) .rows .now)) ((c .before .before .before .before .before .before .before .before .before .before .before .before .args) .i .0) .phys) ((c .before .before .before .before .before .before .before .before .loop) .p) ((c .before .before .before .before .before .before .before .before .loop) .to) ((c .before .before .before .before .before .before .before .before .before .before .before .before .args) .ws .now) ((c .before .before .before .before .before .before .before .before .loop) .inv .1 .1) _ _ (omega (arith, (c .before .before .before .before .before .before .before .before .before .phy-count) .ensures .0)) ((c .before .before .before .before .before .word-at) .ensures) ((c .before .before .before .before .phy-address) .ensures ∙ ap addressOf ((c .before .before .before .before .before .before .phy-at) .ensures)) ((c .before .before .before .if1) .left) (rights _ _ _ _ _ _ ((c .before .before .before .before .before .before .phy-at) .ensures) ((c .before .before .word-at2) .ensures) ((c .before .is-right-field) .ensures) (not-false _ ((c .if2) .left)))))
+loop-again c =
+    let at-args = c .before .before .before .before .before .before .before .before .before .before .before .before .args in
+    let at-loop = c .before .before .before .before .before .before .before .before .loop in
+    let at-phy-count = c .before .before .before .before .before .before .before .before .before .phy-count in
+    let at-phy-at = c .before .before .before .before .before .before .phy-at in
+    (omega arith, (omega arith, phys-go (domainIn (at-args .rows .now)) (expanderAt (domainIn (at-args .rows .now)) (at-args .i .0) .phys) (at-loop .p) (at-loop .to) (at-args .ws .now) (at-loop .inv .1 .1) _ _ (omega (arith, at-phy-count .ensures .0)) ((c .before .before .before .before .before .word-at) .ensures) ((c .before .before .before .before .phy-address) .ensures ∙ ap addressOf (at-phy-at .ensures)) ((c .before .before .before .if1) .left) (rights _ _ _ _ _ _ (at-phy-at .ensures) ((c .before .before .word-at2) .ensures) ((c .before .is-right-field) .ensures) (not-false _ ((c .if2) .left)))))
 
 returns-3 : tie.Need-returns-3 Inv-loop μ-loop
 returns-3 c = phys-end (domainIn ((c .before .before .before .before .before .args) .rows .now)) _ ((c .before .loop) .p) ((c .before .loop) .to) ((c .before .before .before .before .before .args) .ws .now) ((c .before .loop) .inv .1 .1) (omega (arith, (c .before .before .phy-count) .ensures .0))

@@ -21,13 +21,17 @@ expander-address-requires : tie.Need-expander-address-requires
 expander-address-requires c κs = search needs
 
 returns-2 : tie.Need-returns-2
-returns-2 c = wrong-far (domainIn ((c .before .before .before .before .before .before .args) .rows .now)) ((c .before .before .before .before .before .before .args) .x) ((c .before .before .before .before .before .before .args) .v) _ (omega arith) refl (λ z. (c .if2) .taken ((c .before .before .expander-address) .ensures ∙ z))
+returns-2 c =
+    let at-args = c .before .before .before .before .before .before .args in
+    wrong-far (domainIn (at-args .rows .now)) (at-args .x) (at-args .v) _ (omega arith) refl (λ z. (c .if2) .taken ((c .before .before .expander-address) .ensures ∙ z))
 
 pack-requires-2 : tie.Need-pack-requires-2
 pack-requires-2 c κs = search needs
 
 returns-3 : tie.Need-returns-3
-returns-3 c = right-far (domainIn ((c .before .before .before .before .before .before .before .args) .rows .now)) ((c .before .before .before .before .before .before .before .args) .x) ((c .before .before .before .before .before .before .before .args) .v) _ _ (omega arith) refl (sym ((c .before .before .before .expander-address) .ensures) ∙ (c .before .if2) .left) ((c .pack2) .ensures)
+returns-3 c =
+    let at-args = c .before .before .before .before .before .before .before .args in
+    right-far (domainIn (at-args .rows .now)) (at-args .x) (at-args .v) _ _ (omega arith) refl (sym ((c .before .before .before .expander-address) .ensures) ∙ (c .before .if2) .left) ((c .pack2) .ensures)
 
 pub is-right-present-spec : {M : Type 1} → statement M
 is-right-present-spec = tie.close (tie.spec pack-requires returns cast-n expander-address-requires returns-2 pack-requires-2 returns-3)

@@ -44,17 +44,26 @@ module _ (t : ℕ) where
   returns c = search needs
 
   slice-aggregate-make-form : make-form-lts.Need-slice-aggregate-make-form (claims t) (make-form-at t) make-form.Post
-  slice-aggregate-make-form c = sym (length-take-le 2 ((c .before .before .before .before .before .before .before .args) .file .now) (omega (arith, (c .before .if3) .taken)))
+  slice-aggregate-make-form c =
+      let at-args = c .before .before .before .before .before .before .before .args in
+      sym (length-take-le 2 (at-args .file .now) (omega (arith, (c .before .if3) .taken)))
 
   make-form-requires : make-form-lts.Need-make-form-requires (claims t) (make-form-at t) make-form.Post
-  make-form-requires c κs = (omega (arith, (c .before .before .before .before .before .before .before .before .pre) .0, (c .before .before .if3) .taken, length-take-le 2 ((c .before .before .before .before .before .before .before .before .args) .file .now) (omega (arith, (c .before .before .if3) .taken))), tt)
+  make-form-requires c κs =
+      let at-pre = c .before .before .before .before .before .before .before .before .pre in
+      let at-args = c .before .before .before .before .before .before .before .before .args in
+      (omega (arith, at-pre .0, (c .before .before .if3) .taken, length-take-le 2 (at-args .file .now) (omega (arith, (c .before .before .if3) .taken))), tt)
 
   same-length-2 : make-form-lts.Need-same-length-2 (claims t) (make-form-at t) make-form.Post
   same-length-2 c = search needs
 
   returns-2 : make-form-lts.Need-returns-2 (claims t) (make-form-at t) make-form.Post
   unfolding formCall
-  returns-2 c = rw (header-cut ((c .before .before .before .before .before .before .before .before .before .before .before .args) .setting) ((c .before .before .before .before .before .before .before .before .before .before .before .args) .file .now) ((c .before .before .before .before .before .if3) .taken) (omega (arith, (c .before .before .before .before .before .before .before .before .stated-count) .ensures, (c .before .before .before .before .before .before .if2) .taken))) at ((c .before .before .make-form) .ensures)
+  returns-2 c =
+      let at-args = c .before .before .before .before .before .before .before .before .before .before .before .args in
+      let at-stated-count = c .before .before .before .before .before .before .before .before .stated-count in
+      let at-if2 = c .before .before .before .before .before .before .if2 in
+      rw (header-cut (at-args .setting) (at-args .file .now) ((c .before .before .before .before .before .if3) .taken) (omega (arith, at-stated-count .ensures, at-if2 .taken))) at ((c .before .before .make-form) .ensures)
 
   make-many-requires : make-form-lts.Need-make-many-requires (claims t) (make-form-at t) make-form.Post
   make-many-requires c κs = search needs

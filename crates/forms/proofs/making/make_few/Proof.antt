@@ -23,7 +23,9 @@ slice-aggregate-make-in-3 : tie.Need-slice-aggregate-make-in-3
 slice-aggregate-make-in-3 c = search needs
 
 make-in-requires : tie.Need-make-in-requires
-make-in-requires c κs = file-room ((c .before .before .before .before .before .before .before .before .args) .setting) 2 ((c .before .before .before .before .before .before .before .before .args) .file .now) _ _ _ (λ d e. omega (arith, stated-expanders ((c .before .before .before .before .before .before .before .before .args) .setting) ((c .before .before .before .before .before .before .before .before .args) .file .now) d e, (c .before .before .before .before .before .stated-count) .ensures)) (omega (arith, length-replicate {A = ℕ} 516 0)) (omega (arith, length-replicate {A = ℕ} 320 0)) (omega (arith, length-replicate {A = ℕ} 256 0))
+make-in-requires c κs =
+    let at-args = c .before .before .before .before .before .before .before .before .args in
+    file-room (at-args .setting) 2 (at-args .file .now) _ _ _ (λ d e. omega (arith, stated-expanders (at-args .setting) (at-args .file .now) d e, (c .before .before .before .before .before .stated-count) .ensures)) (omega (arith, length-replicate {A = ℕ} 516 0)) (omega (arith, length-replicate {A = ℕ} 320 0)) (omega (arith, length-replicate {A = ℕ} 256 0))
 
 same-length : tie.Need-same-length
 same-length c = search needs
@@ -41,7 +43,10 @@ slice-aggregate-make-in-6 : tie.Need-slice-aggregate-make-in-6
 slice-aggregate-make-in-6 c = search needs
 
 make-in-requires-2 : tie.Need-make-in-requires-2
-make-in-requires-2 c κs = file-room ((c .before .before .before .before .before .before .before .before .args) .setting) 8 ((c .before .before .before .before .before .before .before .before .args) .file .now) _ _ _ (λ d e. omega (arith, stated-expanders ((c .before .before .before .before .before .before .before .before .args) .setting) ((c .before .before .before .before .before .before .before .before .args) .file .now) d e, (c .before .before .before .before .before .before .before .before .pre))) (omega (arith, length-replicate {A = ℕ} 2064 0)) (omega (arith, length-replicate {A = ℕ} 1088 0)) (omega (arith, length-replicate {A = ℕ} 1024 0))
+make-in-requires-2 c κs =
+    let at-args = c .before .before .before .before .before .before .before .before .args in
+    let at-pre = c .before .before .before .before .before .before .before .before .pre in
+    file-room (at-args .setting) 8 (at-args .file .now) _ _ _ (λ d e. omega (arith, stated-expanders (at-args .setting) (at-args .file .now) d e, at-pre)) (omega (arith, length-replicate {A = ℕ} 2064 0)) (omega (arith, length-replicate {A = ℕ} 1088 0)) (omega (arith, length-replicate {A = ℕ} 1024 0))
 
 same-length-2 : tie.Need-same-length-2
 same-length-2 c = search needs

@@ -26,10 +26,15 @@ mul-e : tie.Need-mul-e
 mul-e c = search needs
 
 slice-reshare-prefix-make-rows : tie.Need-slice-reshare-prefix-make-rows
-slice-reshare-prefix-make-rows c = opened-fits _ _ _ _ _ _ ((c .before .before .before .before .before .before .before .before .before .before .before .before .pre) .rows) ((c .before .before .before .before .before .read-domain) .ensures) ((c .before .read2) .given .1) ((c .before .before .before .before .before .read-domain) .kept .1 .1 .0)
+slice-reshare-prefix-make-rows c =
+    let at-pre = c .before .before .before .before .before .before .before .before .before .before .before .before .pre in
+    opened-fits _ _ _ _ _ _ (at-pre .rows) ((c .before .before .before .before .before .read-domain) .ensures) ((c .before .read2) .given .1) ((c .before .before .before .before .before .read-domain) .kept .1 .1 .0)
 
 slice-aggregate-make-rows : tie.Need-slice-aggregate-make-rows
-slice-aggregate-make-rows c = sym (length-take-le _ ((c .before .before .before .before .before .before .read-domain) .last .1 .1 .0) (opened-fits _ _ _ _ _ _ ((c .before .before .before .before .before .before .before .before .before .before .before .before .before .pre) .rows) ((c .before .before .before .before .before .before .read-domain) .ensures) ((c .before .before .read2) .given .1) ((c .before .before .before .before .before .before .read-domain) .kept .1 .1 .0)))
+slice-aggregate-make-rows c =
+    let at-read-domain = c .before .before .before .before .before .before .read-domain in
+    let at-pre = c .before .before .before .before .before .before .before .before .before .before .before .before .before .pre in
+    sym (length-take-le _ (at-read-domain .last .1 .1 .0) (opened-fits _ _ _ _ _ _ (at-pre .rows) (at-read-domain .ensures) ((c .before .before .read2) .given .1) (at-read-domain .kept .1 .1 .0)))
 
 make-rows-requires : tie.Need-make-rows-requires
 make-rows-requires c κs = search needs
@@ -38,7 +43,10 @@ same-length : tie.Need-same-length
 same-length c = search needs
 
 returns : tie.Need-returns
-returns c = made-refused _ _ _ ((c .before .before .before .before .before .before .before .before .before .before .before .before .args) .words .now) _ (opened-as _ _ _ _ _ _ ((c .before .before .before .before .before .before .before .before .before .before .before .before .pre) .rows) ((c .before .before .before .before .before .read-domain) .ensures) ((c .before .read) .given .1))
+returns c =
+    let at-args = c .before .before .before .before .before .before .before .before .before .before .before .before .args in
+    let at-pre = c .before .before .before .before .before .before .before .before .before .before .before .before .pre in
+    made-refused _ _ _ (at-args .words .now) _ (opened-as _ _ _ _ _ _ (at-pre .rows) ((c .before .before .before .before .before .read-domain) .ensures) ((c .before .read) .given .1))
 
 same-length-2 : tie.Need-same-length-2
 same-length-2 c = search needs
@@ -53,7 +61,12 @@ same-length-5 : tie.Need-same-length-5
 same-length-5 c = search needs
 
 returns-2 : tie.Need-returns-2
-returns-2 c = let o = opened-as _ _ _ _ _ _ ((c .before .before .before .before .before .before .before .before .before .before .before .before .before .before .before .before .before .before .before .before .before .before .before .pre) .rows) ((c .before .before .before .before .before .before .before .before .before .before .before .before .before .before .before .before .read-domain) .ensures) ((c .before .before .before .before .before .before .before .before .before .before .before .before .read2) .given .1) in made-read _ _ _ _ _ _ _ (o .0) (judged-own _ _ _ _ _ (o .0) ((c .before .before .before .before .before .before .before .before .before .before .before .before .before .before .before .before .before .before .before .before .before .before .before .pre) .index _ (o .0))) ((c .before .before .before .before .before .before .make-rows) .ensures)
+returns-2 c =
+    let at-pre = c .before .before .before .before .before .before .before .before .before .before .before .before .before .before .before .before .before .before .before .before .before .before .before .pre in
+    let at-read-domain = c .before .before .before .before .before .before .before .before .before .before .before .before .before .before .before .before .read-domain in
+    let at-read2 = c .before .before .before .before .before .before .before .before .before .before .before .before .read2 in
+    let at-make-rows = c .before .before .before .before .before .before .make-rows in
+    let o = opened-as _ _ _ _ _ _ (at-pre .rows) (at-read-domain .ensures) (at-read2 .given .1) in made-read _ _ _ _ _ _ _ (o .0) (judged-own _ _ _ _ _ (o .0) (at-pre .index _ (o .0))) (at-make-rows .ensures)
 
 pub make-in-spec : {M : Type 1} → statement M
 make-in-spec = tie.close (tie.spec read-domain-requires enum-known-read enum-known-read-2 cast-e mul-e slice-reshare-prefix-make-rows slice-aggregate-make-rows make-rows-requires same-length returns same-length-2 same-length-3 same-length-4 same-length-5 returns-2)

@@ -20,7 +20,9 @@ slice-aggregate-make-in-3 : tie.Need-slice-aggregate-make-in-3
 slice-aggregate-make-in-3 c = search needs
 
 make-in-requires : tie.Need-make-in-requires
-make-in-requires c κs = file-room ((c .before .before .before .before .before .before .args) .setting) 64 ((c .before .before .before .before .before .before .args) .file .now) _ _ _ (λ d e. let g = read-good ((c .before .before .before .before .before .before .args) .setting) ((c .before .before .before .before .before .before .args) .file .now) d e in omega (arith, g .few, g .range .expanders .1)) (omega (arith, length-replicate {A = ℕ} 16512 0)) (omega (arith, length-replicate {A = ℕ} 8256 0)) (omega (arith, length-replicate {A = ℕ} 8192 0))
+make-in-requires c κs =
+    let at-args = c .before .before .before .before .before .before .args in
+    file-room (at-args .setting) 64 (at-args .file .now) _ _ _ (λ d e. let g = read-good (at-args .setting) (at-args .file .now) d e in omega (arith, g .few, g .range .expanders .1)) (omega (arith, length-replicate {A = ℕ} 16512 0)) (omega (arith, length-replicate {A = ℕ} 8256 0)) (omega (arith, length-replicate {A = ℕ} 8192 0))
 
 same-length : tie.Need-same-length
 same-length c = search needs

@@ -33,16 +33,23 @@ same-length-2 : tie.Need-same-length-2
 same-length-2 c = search needs
 
 returns : tie.Need-returns
-returns c = rows-short _ (domainIn ((c .before .before .before .before .before .before .before .before .before .before .before .before .before .before .before .before .args) .rows .now)) ((c .before .before .before .before .before .before .before .before .before .before .before .before .before .before .before .before .args) .words .now) ((c .before .before .before .before .before .before .before .before .before .before .before .before .before .before .before .before .args) .words .now) _ (sym ((c .before .before .before .before .before .before .before .before .before .judge-rows) .ensures .0) ∙ ap (checkAnswer _) ((c .before .before .before .enum-told) .given .1)) (omega (arith, (c .before .before .form-size) .ensures .0)) ((c .refused) .ensures)
+returns c =
+    let at-args = c .before .before .before .before .before .before .before .before .before .before .before .before .before .before .before .before .args in
+    let at-judge-rows = c .before .before .before .before .before .before .before .before .before .judge-rows in
+    rows-short _ (domainIn (at-args .rows .now)) (at-args .words .now) (at-args .words .now) _ (sym (at-judge-rows .ensures .0) ∙ ap (checkAnswer _) ((c .before .before .before .enum-told) .given .1)) (omega (arith, (c .before .before .form-size) .ensures .0)) ((c .refused) .ensures)
 
 put-form-requires : tie.Need-put-form-requires
-put-form-requires c κs = ((c .before .before .before .before .before .before .before .before .before .before .judge-rows) .ensures .1 .written (judged-room _ _ _ _ _ (sym ((c .before .before .before .before .before .before .before .before .before .before .judge-rows) .ensures .0) ∙ ap (checkAnswer _) ((c .before .before .before .before .enum-told) .given .1))) .index .firsts, omega (arith, (c .before .before .before .form-size) .ensures .0))
+put-form-requires c κs =
+    let at-judge-rows = c .before .before .before .before .before .before .before .before .before .before .judge-rows in
+    (at-judge-rows .ensures .1 .written (judged-room _ _ _ _ _ (sym (at-judge-rows .ensures .0) ∙ ap (checkAnswer _) ((c .before .before .before .before .enum-told) .given .1))) .index .firsts, omega (arith, (c .before .before .before .form-size) .ensures .0))
 
 expander-count-requires : tie.Need-expander-count-requires
 expander-count-requires c κs = search needs
 
 cast-w : tie.Need-cast-w
-cast-w c = omega (arith, (c .before .before .before .before .before .before .before .form-size) .ensures .1)
+cast-w c =
+    let at-form-size = c .before .before .before .before .before .before .before .form-size in
+    omega (arith, at-form-size .ensures .1)
 
 same-length-3 : tie.Need-same-length-3
 same-length-3 c = search needs
@@ -51,7 +58,10 @@ same-length-4 : tie.Need-same-length-4
 same-length-4 c = search needs
 
 returns-2 : tie.Need-returns-2
-returns-2 c = rows-refused _ (domainIn ((c .before .before .before .before .before .before .before .before .before .before .before .before .before .before .args) .rows .now)) ((c .before .before .before .before .before .before .before .before .before .before .before .before .before .before .args) .words .now) ((c .before .before .before .before .before .before .before .before .before .before .before .before .before .before .args) .words .now) _ (sym ((c .before .before .before .before .before .before .before .judge-rows) .ensures .0) ∙ ap (checkAnswer _) ((c .before .verdict) .given .1))
+returns-2 c =
+    let at-args = c .before .before .before .before .before .before .before .before .before .before .before .before .before .before .args in
+    let at-judge-rows = c .before .before .before .before .before .before .before .judge-rows in
+    rows-refused _ (domainIn (at-args .rows .now)) (at-args .words .now) (at-args .words .now) _ (sym (at-judge-rows .ensures .0) ∙ ap (checkAnswer _) ((c .before .verdict) .given .1))
 
 same-length-5 : tie.Need-same-length-5
 same-length-5 c = search needs
@@ -63,7 +73,12 @@ same-length-7 : tie.Need-same-length-7
 same-length-7 c = search needs
 
 returns-3 : tie.Need-returns-3
-returns-3 c = rows-made _ (domainIn ((c .before .before .before .before .before .before .before .before .before .before .before .before .before .before .before .before .before .before .before .before .before .args) .rows .now)) ((c .before .before .before .before .before .before .before .before .before .before .before .before .before .before .before .before .before .before .before .before .before .args) .words .now) _ _ _ (sym ((c .before .before .before .before .before .before .before .before .before .before .before .before .before .before .judge-rows) .ensures .0) ∙ ap (checkAnswer _) ((c .before .before .before .before .before .before .before .before .enum-told) .given .1)) (omega (arith, (c .before .before .before .before .before .before .before .form-size) .ensures .0)) ((c .expander-count) .ensures .0) ((c .before .before .before .before .before .before .before .form-size) .ensures .0) ((c .before .before .before .put-form) .ensures)
+returns-3 c =
+    let at-args = c .before .before .before .before .before .before .before .before .before .before .before .before .before .before .before .before .before .before .before .before .before .args in
+    let at-judge-rows = c .before .before .before .before .before .before .before .before .before .before .before .before .before .before .judge-rows in
+    let at-enum-told = c .before .before .before .before .before .before .before .before .enum-told in
+    let at-form-size = c .before .before .before .before .before .before .before .form-size in
+    rows-made _ (domainIn (at-args .rows .now)) (at-args .words .now) _ _ _ (sym (at-judge-rows .ensures .0) ∙ ap (checkAnswer _) (at-enum-told .given .1)) (omega (arith, at-form-size .ensures .0)) ((c .expander-count) .ensures .0) (at-form-size .ensures .0) ((c .before .before .before .put-form) .ensures)
 
 pub make-rows-spec : {M : Type 1} → statement M
 make-rows-spec = tie.close (tie.spec judge-rows-requires enum-known-verdict enum-told form-size-requires refused-requires same-length same-length-2 returns put-form-requires expander-count-requires cast-w same-length-3 same-length-4 returns-2 same-length-5 same-length-6 same-length-7 returns-3)

@@ -44,16 +44,23 @@ module _ (t : ℕ) where
   returns c = search needs
 
   slice-aggregate-form-list : form-list-lts.Need-slice-aggregate-form-list (claims t) (form-list-at t) form-list.Post
-  slice-aggregate-form-list c = sym (length-take-le 0 ((c .before .before .before .before .before .before .before .before .before .args) .form .now) (omega arith))
+  slice-aggregate-form-list c =
+      let at-args = c .before .before .before .before .before .before .before .before .before .args in
+      sym (length-take-le 0 (at-args .form .now) (omega arith))
 
   form-list-requires : form-list-lts.Need-form-list-requires (claims t) (form-list-at t) form-list.Post
-  form-list-requires c κs = (omega (arith, (c .before .before .before .before .before .before .before .before .before .before .pre) .0, (c .before .before .if2) .taken, length-take-le 0 ((c .before .before .before .before .before .before .before .before .before .before .args) .form .now) (omega arith)), tt)
+  form-list-requires c κs =
+      let at-pre = c .before .before .before .before .before .before .before .before .before .before .pre in
+      let at-args = c .before .before .before .before .before .before .before .before .before .before .args in
+      (omega (arith, at-pre .0, (c .before .before .if2) .taken, length-take-le 0 (at-args .form .now) (omega arith)), tt)
 
   same-length-2 : form-list-lts.Need-same-length-2 (claims t) (form-list-at t) form-list.Post
   same-length-2 c = search needs
 
   returns-2 : form-list-lts.Need-returns-2 (claims t) (form-list-at t) form-list.Post
-  returns-2 c = list-cut ((c .before .before .before .before .before .before .before .before .before .before .before .before .before .args) .setting) ((c .before .before .before .before .before .before .before .before .before .before .before .before .before .args) .form .now) ((c .before .before .before .before .before .if2) .taken) _ _ _ _ _ _ _ _ ((c .before .before .form-list) .ensures)
+  returns-2 c =
+      let at-args = c .before .before .before .before .before .before .before .before .before .before .before .before .before .args in
+      list-cut (at-args .setting) (at-args .form .now) ((c .before .before .before .before .before .if2) .taken) _ _ _ _ _ _ _ _ ((c .before .before .form-list) .ensures)
 
   list-many-requires : form-list-lts.Need-list-many-requires (claims t) (form-list-at t) form-list.Post
   list-many-requires c κs = (c .before .before .before .count-expanders) .ensures

@@ -18,7 +18,10 @@ slice-aggregate-list-in-3 : tie.Need-slice-aggregate-list-in-3
 slice-aggregate-list-in-3 c = search needs
 
 list-in-requires : tie.Need-list-in-requires
-list-in-requires c κs = form-room ((c .before .before .before .before .before .before .before .before .before .before .args) .form .now) _ _ _ _ 2 ((c .before .before .before .before .before .before .before .before .before .before .pre) .0) (omega arith) (omega (arith, length-replicate {A = ℕ} 516 0)) (omega (arith, length-replicate {A = ℕ} 320 0)) (omega (arith, length-replicate {A = ℕ} 256 0))
+list-in-requires c κs =
+    let at-args = c .before .before .before .before .before .before .before .before .before .before .args in
+    let at-pre = c .before .before .before .before .before .before .before .before .before .before .pre in
+    form-room (at-args .form .now) _ _ _ _ 2 (at-pre .0) (omega arith) (omega (arith, length-replicate {A = ℕ} 516 0)) (omega (arith, length-replicate {A = ℕ} 320 0)) (omega (arith, length-replicate {A = ℕ} 256 0))
 
 same-length : tie.Need-same-length
 same-length c = search needs
@@ -36,7 +39,10 @@ slice-aggregate-list-in-6 : tie.Need-slice-aggregate-list-in-6
 slice-aggregate-list-in-6 c = search needs
 
 list-in-requires-2 : tie.Need-list-in-requires-2
-list-in-requires-2 c κs = form-room ((c .before .before .before .before .before .before .before .before .before .before .args) .form .now) _ _ _ _ 8 ((c .before .before .before .before .before .before .before .before .before .before .pre) .0) (omega arith) (omega (arith, length-replicate {A = ℕ} 2064 0)) (omega (arith, length-replicate {A = ℕ} 1088 0)) (omega (arith, length-replicate {A = ℕ} 1024 0))
+list-in-requires-2 c κs =
+    let at-args = c .before .before .before .before .before .before .before .before .before .before .args in
+    let at-pre = c .before .before .before .before .before .before .before .before .before .before .pre in
+    form-room (at-args .form .now) _ _ _ _ 8 (at-pre .0) (omega arith) (omega (arith, length-replicate {A = ℕ} 2064 0)) (omega (arith, length-replicate {A = ℕ} 1088 0)) (omega (arith, length-replicate {A = ℕ} 1024 0))
 
 same-length-2 : tie.Need-same-length-2
 same-length-2 c = search needs

@@ -18,7 +18,10 @@ slice-aggregate-list-in-3 : tie.Need-slice-aggregate-list-in-3
 slice-aggregate-list-in-3 c = search needs
 
 list-in-requires : tie.Need-list-in-requires
-list-in-requires c κs = form-room ((c .before .before .before .before .before .before .before .before .before .args) .form .now) _ _ _ _ 64 ((c .before .before .before .before .before .before .before .before .before .pre) .0) (omega arith) (omega (arith, length-replicate {A = ℕ} 16512 0)) (omega (arith, length-replicate {A = ℕ} 8256 0)) (omega (arith, length-replicate {A = ℕ} 8192 0))
+list-in-requires c κs =
+    let at-args = c .before .before .before .before .before .before .before .before .before .args in
+    let at-pre = c .before .before .before .before .before .before .before .before .before .pre in
+    form-room (at-args .form .now) _ _ _ _ 64 (at-pre .0) (omega arith) (omega (arith, length-replicate {A = ℕ} 16512 0)) (omega (arith, length-replicate {A = ℕ} 8256 0)) (omega (arith, length-replicate {A = ℕ} 8192 0))
 
 same-length : tie.Need-same-length
 same-length c = search needs

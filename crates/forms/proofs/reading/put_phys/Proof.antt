@@ -78,7 +78,10 @@ loop-less : tie.Need-loop-less Inv-loop μ-loop
 loop-less c = omega arith
 
 loop-again : tie.Need-loop-again Inv-loop μ-loop
-loop-again c = (omega arith, (simp length-set ((c .before .before .before .before .before .before .loop) .inv .1 .0), put-go ((c .before .before .before .before .before .before .before .before .before .args) .ws .now) ((c .before .before .before .before .before .before .before .before .before .args) .n) ((c .before .before .before .before .before .before .loop) .p) ((c .before .before .before .before .before .before .before .before .before .args) .from) ((c .before .before .before .before .before .before .loop) .row) _ _ _ _ _ (omega arith) ((c .before .before .before .before .word-at) .ensures) ((c .before .before .before .word-at2) .ensures) ((c .before .before .phy-back) .ensures) ((c .before .phy-address) .ensures) ((c .phy-word) .ensures) ∙ (c .before .before .before .before .before .before .loop) .inv .1 .1))
+loop-again c =
+    let at-loop = c .before .before .before .before .before .before .loop in
+    let at-args = c .before .before .before .before .before .before .before .before .before .args in
+    (omega arith, (simp length-set (at-loop .inv .1 .0), put-go (at-args .ws .now) (at-args .n) (at-loop .p) (at-args .from) (at-loop .row) _ _ _ _ _ (omega arith) ((c .before .before .before .before .word-at) .ensures) ((c .before .before .before .word-at2) .ensures) ((c .before .before .phy-back) .ensures) ((c .before .phy-address) .ensures) ((c .phy-word) .ensures) ∙ at-loop .inv .1 .1))
 
 same-length : tie.Need-same-length Inv-loop μ-loop
 same-length c = search needs

@@ -42,19 +42,29 @@ cast-result : tie.Need-cast-result
 cast-result c = omega arith
 
 mul-result : tie.Need-mul-result
-mul-result c = omega (arith, (c .before .before .before .before .before .before .before .count-in) .ensures .1)
+mul-result c =
+    let at-count-in = c .before .before .before .before .before .before .before .count-in in
+    omega (arith, at-count-in .ensures .1)
 
 add-result : tie.Need-add-result
-add-result c = omega (arith, (c .before .before .before .before .before .before .before .count-in) .ensures .1)
+add-result c =
+    let at-count-in = c .before .before .before .before .before .before .before .count-in in
+    omega (arith, at-count-in .ensures .1)
 
 add-result-2 : tie.Need-add-result-2
-add-result-2 c = omega (arith, (c .before .before .before .before .before .before .before .count-in) .ensures .1)
+add-result-2 c =
+    let at-count-in = c .before .before .before .before .before .before .before .count-in in
+    omega (arith, at-count-in .ensures .1)
 
 same-length : tie.Need-same-length
 same-length c = (c .before .before .put-phys) .kept .0 ∙ simp length-set refl
 
 returns : tie.Need-returns
-returns c = (row-held ((c .before .before .before .before .before .before .before .before .before .before .args) .ws .now) ((c .before .before .before .before .before .before .before .before .before .before .args) .at) _ _ _ _ ((c .before .before .before .before .before .before .before .count-in) .ensures .0) ((c .before .before .before .before .before .word-at2) .ensures) (ap (λ (x : ℕ). x / 281474976710656 % 65536) ((c .before .before .before .before .before .before .word-at) .ensures)) ((c .before .before .before .before .head-word) .ensures) ((c .before .before .before .before .before .before .before .before .before .before .args) .row .now) _ (omega arith) ((c .before .before .before .before .before .before .before .count-in) .ensures .1) ((c .before .before .put-phys) .ensures), ap (λ (n : ℕ). (c .before .before .before .before .before .before .before .before .before .before .args) .at + (2 + 2 * n)) ((c .before .before .before .before .before .before .before .count-in) .ensures .0))
+returns c =
+    let at-args = c .before .before .before .before .before .before .before .before .before .before .args in
+    let at-count-in = c .before .before .before .before .before .before .before .count-in in
+    let at-word-at = c .before .before .before .before .before .before .word-at in
+    (row-held (at-args .ws .now) (at-args .at) _ _ _ _ (at-count-in .ensures .0) ((c .before .before .before .before .before .word-at2) .ensures) (ap (λ (x : ℕ). x / 281474976710656 % 65536) (at-word-at .ensures)) ((c .before .before .before .before .head-word) .ensures) (at-args .row .now) _ (omega arith) (at-count-in .ensures .1) ((c .before .before .put-phys) .ensures), ap (λ (n : ℕ). at-args .at + (2 + 2 * n)) (at-count-in .ensures .0))
 
 pub put-row-spec : {M : Type 1} → statement M
 put-row-spec = tie.close (tie.spec count-in-requires add-word-at word-at-requires cast-r word-at-requires-2 slice-write-row head-word-requires slice-write-row-2 add-put-phys put-phys-requires cast-result mul-result add-result add-result-2 same-length returns)

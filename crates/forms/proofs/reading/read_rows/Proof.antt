@@ -51,7 +51,9 @@ loop-less : tie.Need-loop-less Inv-loop μ-loop
 loop-less c = omega arith
 
 loop-again : tie.Need-loop-again Inv-loop μ-loop
-loop-again c = let l = (c .before .before .before .before .before .loop) in let r = (c .before .before .put-row) in let s : length (r .last .0) ≡ 258 = r .kept .0 ∙ simp (length-take, length-drop) (omega arith) in (omega arith, (omega (arith, r .ensures .1), (same-len-mid (258 * l .i) (258 * l .i + 258 - 258 * l .i) (l .rows) (r .last .0) (r .kept .0) ∙ l .inv .1 .1 .0, filled-go ((c .before .before .before .before .before .before .before .before .args) .ws .now) (l .rows) (l .i) (l .at) (l .inv .1 .1 .1) (r .last .0) _ (258 * l .i) (258 * l .i + 258 - 258 * l .i) (r .ensures .0) s (r .ensures .1) refl (omega arith) (omega arith) (omega arith))))
+loop-again c =
+    let at-args = c .before .before .before .before .before .before .before .before .args in
+    let l = (c .before .before .before .before .before .loop) in let r = (c .before .before .put-row) in let s : length (r .last .0) ≡ 258 = r .kept .0 ∙ simp (length-take, length-drop) (omega arith) in (omega arith, (omega (arith, r .ensures .1), (same-len-mid (258 * l .i) (258 * l .i + 258 - 258 * l .i) (l .rows) (r .last .0) (r .kept .0) ∙ l .inv .1 .1 .0, filled-go (at-args .ws .now) (l .rows) (l .i) (l .at) (l .inv .1 .1 .1) (r .last .0) _ (258 * l .i) (258 * l .i + 258 - 258 * l .i) (r .ensures .0) s (r .ensures .1) refl (omega arith) (omega arith) (omega arith))))
 
 same-length : tie.Need-same-length Inv-loop μ-loop
 same-length c = search needs

@@ -47,10 +47,15 @@ module _ (t : ℕ) where
   returns c = search needs
 
   slice-aggregate-form-tables : form-tables-lts.Need-slice-aggregate-form-tables (claims t) (form-tables-at t) form-tables.Post
-  slice-aggregate-form-tables c = sym (length-take-le 0 ((c .before .before .before .before .before .before .before .args) .form .now) (omega arith))
+  slice-aggregate-form-tables c =
+      let at-args = c .before .before .before .before .before .before .before .args in
+      sym (length-take-le 0 (at-args .form .now) (omega arith))
 
   form-tables-requires : form-tables-lts.Need-form-tables-requires (claims t) (form-tables-at t) form-tables.Post
-  form-tables-requires c κs = (omega (arith, (c .before .before .before .before .before .before .before .before .before .pre) .0, (c .before .before .before .if2) .taken, length-take-le 0 ((c .before .before .before .before .before .before .before .before .before .args) .form .now) (omega arith)), tt)
+  form-tables-requires c κs =
+      let at-pre = c .before .before .before .before .before .before .before .before .before .pre in
+      let at-args = c .before .before .before .before .before .before .before .before .before .args in
+      (omega (arith, at-pre .0, (c .before .before .before .if2) .taken, length-take-le 0 (at-args .form .now) (omega arith)), tt)
 
   same-length-3 : form-tables-lts.Need-same-length-3 (claims t) (form-tables-at t) form-tables.Post
   same-length-3 c = search needs
@@ -59,7 +64,10 @@ module _ (t : ℕ) where
   same-length-4 c = search needs
 
   returns-2 : form-tables-lts.Need-returns-2 (claims t) (form-tables-at t) form-tables.Post
-  returns-2 c = tables-cut ((c .before .before .before .before .before .before .before .before .before .before .before .before .before .before .args) .setting) ((c .before .before .before .before .before .before .before .before .before .before .before .before .before .before .args) .form .now) ((c .before .before .before .before .before .before .before .before .if2) .taken) _ _ _ _ ((c .before .before .before .before .form-tables) .ensures)
+  returns-2 c =
+      let at-args = c .before .before .before .before .before .before .before .before .before .before .before .before .before .before .args in
+      let at-if2 = c .before .before .before .before .before .before .before .before .if2 in
+      tables-cut (at-args .setting) (at-args .form .now) (at-if2 .taken) _ _ _ _ ((c .before .before .before .before .form-tables) .ensures)
 
   tables-many-requires : form-tables-lts.Need-tables-many-requires (claims t) (form-tables-at t) form-tables.Post
   tables-many-requires c κs = (c .before .before .before .before .count-expanders) .ensures

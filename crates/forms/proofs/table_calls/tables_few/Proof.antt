@@ -18,7 +18,10 @@ slice-aggregate-tables-in-3 : tie.Need-slice-aggregate-tables-in-3
 slice-aggregate-tables-in-3 c = search needs
 
 tables-in-requires : tie.Need-tables-in-requires
-tables-in-requires c κs = form-room ((c .before .before .before .before .before .before .before .before .before .args) .form .now) _ _ _ _ 2 ((c .before .before .before .before .before .before .before .before .before .pre) .0) (omega arith) (omega (arith, length-replicate {A = ℕ} 516 0)) (omega (arith, length-replicate {A = ℕ} 320 0)) (omega (arith, length-replicate {A = ℕ} 256 0))
+tables-in-requires c κs =
+    let at-args = c .before .before .before .before .before .before .before .before .before .args in
+    let at-pre = c .before .before .before .before .before .before .before .before .before .pre in
+    form-room (at-args .form .now) _ _ _ _ 2 (at-pre .0) (omega arith) (omega (arith, length-replicate {A = ℕ} 516 0)) (omega (arith, length-replicate {A = ℕ} 320 0)) (omega (arith, length-replicate {A = ℕ} 256 0))
 
 same-length : tie.Need-same-length
 same-length c = search needs
@@ -39,7 +42,10 @@ slice-aggregate-tables-in-6 : tie.Need-slice-aggregate-tables-in-6
 slice-aggregate-tables-in-6 c = search needs
 
 tables-in-requires-2 : tie.Need-tables-in-requires-2
-tables-in-requires-2 c κs = form-room ((c .before .before .before .before .before .before .before .before .before .args) .form .now) _ _ _ _ 8 ((c .before .before .before .before .before .before .before .before .before .pre) .0) (omega arith) (omega (arith, length-replicate {A = ℕ} 2064 0)) (omega (arith, length-replicate {A = ℕ} 1088 0)) (omega (arith, length-replicate {A = ℕ} 1024 0))
+tables-in-requires-2 c κs =
+    let at-args = c .before .before .before .before .before .before .before .before .before .args in
+    let at-pre = c .before .before .before .before .before .before .before .before .before .pre in
+    form-room (at-args .form .now) _ _ _ _ 8 (at-pre .0) (omega arith) (omega (arith, length-replicate {A = ℕ} 2064 0)) (omega (arith, length-replicate {A = ℕ} 1088 0)) (omega (arith, length-replicate {A = ℕ} 1024 0))
 
 same-length-3 : tie.Need-same-length-3
 same-length-3 c = search needs

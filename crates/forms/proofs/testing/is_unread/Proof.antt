@@ -35,7 +35,10 @@ is-bad-unit-requires : tie.Need-is-bad-unit-requires Inv-loop μ-loop
 is-bad-unit-requires c κs = search needs
 
 returns-2 : tie.Need-returns-2 Inv-loop μ-loop
-returns-2 c = unread-some ((c .before .before .before .before .before .before .before .before .args) .most) _ _ ((c .before .before .before .before .before .before .expander-count) .ensures .0) (sym (ap (within ((c .before .before .before .before .before .before .before .before .args) .most .expanders)) ((c .before .before .before .before .before .before .expander-count) .ensures .0)) ∙ sym ((c .before .before .before .before .before .is-within) .ensures) ∙ not-false _ ((c .before .before .before .before .if1) .left)) (numbers-stop _ _ ((c .before .before .before .loop) .i) ((c .before .before .before .loop) .inv .1) (omega arith) (sym ((c .before .is-bad-unit) .ensures) ∙ (c .if2) .taken))
+returns-2 c =
+    let at-args = c .before .before .before .before .before .before .before .before .args in
+    let at-expander-count = c .before .before .before .before .before .before .expander-count in
+    unread-some (at-args .most) _ _ (at-expander-count .ensures .0) (sym (ap (within (at-args .most .expanders)) (at-expander-count .ensures .0)) ∙ sym ((c .before .before .before .before .before .is-within) .ensures) ∙ not-false _ ((c .before .before .before .before .if1) .left)) (numbers-stop _ _ ((c .before .before .before .loop) .i) ((c .before .before .before .loop) .inv .1) (omega arith) (sym ((c .before .is-bad-unit) .ensures) ∙ (c .if2) .taken))
 
 add-i : tie.Need-add-i Inv-loop μ-loop
 add-i c = omega arith
@@ -47,7 +50,9 @@ loop-again : tie.Need-loop-again Inv-loop μ-loop
 loop-again c = (omega arith, numbers-go _ _ ((c .before .before .before .loop) .i) ((c .before .before .before .loop) .inv .1) (omega arith) (sym ((c .before .is-bad-unit) .ensures) ∙ (c .if2) .left))
 
 returns-3 : tie.Need-returns-3 Inv-loop μ-loop
-returns-3 c = unread-some ((c .before .before .before .before .before .before .args) .most) _ _ ((c .before .before .before .before .expander-count) .ensures .0) (sym (ap (within ((c .before .before .before .before .before .before .args) .most .expanders)) ((c .before .before .before .before .expander-count) .ensures .0)) ∙ sym ((c .before .before .before .is-within) .ensures) ∙ not-false _ ((c .before .before .if1) .left)) (numbers-end _ _ ((c .before .loop) .i) ((c .before .loop) .inv .1) (omega arith))
+returns-3 c =
+    let at-args = c .before .before .before .before .before .before .args in
+    unread-some (at-args .most) _ _ ((c .before .before .before .before .expander-count) .ensures .0) (sym (ap (within (at-args .most .expanders)) ((c .before .before .before .before .expander-count) .ensures .0)) ∙ sym ((c .before .before .before .is-within) .ensures) ∙ not-false _ ((c .before .before .if1) .left)) (numbers-end _ _ ((c .before .loop) .i) ((c .before .loop) .inv .1) (omega arith))
 
 pub is-unread-spec : {M : Type 1} → statement M
 is-unread-spec = tie.close (tie.spec Inv-loop μ-loop expander-count-requires is-within-requires returns loop-holds is-bad-unit-requires returns-2 add-i loop-less loop-again returns-3)

@@ -26,7 +26,9 @@ expander-address-requires : tie.Need-expander-address-requires Inv-loop μ-loop
 expander-address-requires c κs = search needs
 
 returns : tie.Need-returns Inv-loop μ-loop
-returns c = number-stop (domainIn ((c .before .before .before .before .before .before .args) .rows .now)) ((c .before .before .before .before .before .before .args) .s) ((c .before .before .before .loop) .i) ((c .before .before .before .loop) .inv .1) (omega (arith, (c .before .before .before .before .expander-count) .ensures .0)) (sym ((c .before .expander-address) .ensures) ∙ (c .if1) .taken)
+returns c =
+    let at-args = c .before .before .before .before .before .before .args in
+    number-stop (domainIn (at-args .rows .now)) (at-args .s) ((c .before .before .before .loop) .i) ((c .before .before .before .loop) .inv .1) (omega (arith, (c .before .before .before .before .expander-count) .ensures .0)) (sym ((c .before .expander-address) .ensures) ∙ (c .if1) .taken)
 
 add-i : tie.Need-add-i Inv-loop μ-loop
 add-i c = omega arith
@@ -35,7 +37,9 @@ loop-less : tie.Need-loop-less Inv-loop μ-loop
 loop-less c = omega arith
 
 loop-again : tie.Need-loop-again Inv-loop μ-loop
-loop-again c = (omega arith, number-go (domainIn ((c .before .before .before .before .before .before .args) .rows .now)) ((c .before .before .before .before .before .before .args) .s) ((c .before .before .before .loop) .i) ((c .before .before .before .loop) .inv .1) (omega (arith, (c .before .before .before .before .expander-count) .ensures .0)) (λ z. (c .if1) .left ((c .before .expander-address) .ensures ∙ z)))
+loop-again c =
+    let at-args = c .before .before .before .before .before .before .args in
+    (omega arith, number-go (domainIn (at-args .rows .now)) (at-args .s) ((c .before .before .before .loop) .i) ((c .before .before .before .loop) .inv .1) (omega (arith, (c .before .before .before .before .expander-count) .ensures .0)) (λ z. (c .if1) .left ((c .before .expander-address) .ensures ∙ z)))
 
 returns-2 : tie.Need-returns-2 Inv-loop μ-loop
 returns-2 c = omega (arith, number-end (domainIn ((c .before .before .before .before .args) .rows .now)) ((c .before .before .before .before .args) .s) ((c .before .loop) .i) ((c .before .loop) .inv .1) (omega (arith, (c .before .before .expander-count) .ensures .0)))

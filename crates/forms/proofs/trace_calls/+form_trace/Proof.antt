@@ -44,16 +44,23 @@ module _ (t : ℕ) where
   returns c = search needs
 
   slice-aggregate-form-trace : form-trace-lts.Need-slice-aggregate-form-trace (claims t) (form-trace-at t) form-trace.Post
-  slice-aggregate-form-trace c = sym (length-take-le 0 ((c .before .before .before .before .before .before .before .before .args) .form .now) (omega arith))
+  slice-aggregate-form-trace c =
+      let at-args = c .before .before .before .before .before .before .before .before .args in
+      sym (length-take-le 0 (at-args .form .now) (omega arith))
 
   form-trace-requires : form-trace-lts.Need-form-trace-requires (claims t) (form-trace-at t) form-trace.Post
-  form-trace-requires c κs = (omega (arith, (c .before .before .before .before .before .before .before .before .before .pre) .0, (c .before .before .if2) .taken, length-take-le 0 ((c .before .before .before .before .before .before .before .before .before .args) .form .now) (omega arith)), tt)
+  form-trace-requires c κs =
+      let at-pre = c .before .before .before .before .before .before .before .before .before .pre in
+      let at-args = c .before .before .before .before .before .before .before .before .before .args in
+      (omega (arith, at-pre .0, (c .before .before .if2) .taken, length-take-le 0 (at-args .form .now) (omega arith)), tt)
 
   same-length-2 : form-trace-lts.Need-same-length-2 (claims t) (form-trace-at t) form-trace.Post
   same-length-2 c = search needs
 
   returns-2 : form-trace-lts.Need-returns-2 (claims t) (form-trace-at t) form-trace.Post
-  returns-2 c = trace-cut ((c .before .before .before .before .before .before .before .before .before .before .before .before .args) .setting) ((c .before .before .before .before .before .before .before .before .before .before .before .before .args) .form .now) ((c .before .before .before .before .before .if2) .taken) _ _ _ _ _ _ ((c .before .before .form-trace) .ensures)
+  returns-2 c =
+      let at-args = c .before .before .before .before .before .before .before .before .before .before .before .before .args in
+      trace-cut (at-args .setting) (at-args .form .now) ((c .before .before .before .before .before .if2) .taken) _ _ _ _ _ _ ((c .before .before .form-trace) .ensures)
 
   trace-many-requires : form-trace-lts.Need-trace-many-requires (claims t) (form-trace-at t) form-trace.Post
   trace-many-requires c κs = (c .before .before .before .count-expanders) .ensures

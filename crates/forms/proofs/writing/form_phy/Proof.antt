@@ -21,22 +21,35 @@ enum-known-x : tie.Need-enum-known-x
 enum-known-x c = search needs
 
 pack-requires : tie.Need-pack-requires
-pack-requires c κs = let h = subst SmallPhy (sym ((c .before .before .before .before .before .phy-at) .ensures) ∙ (c .before .before .before .x) .given .1) (rows-small ((c .before .before .before .before .before .before .before .before .args) .rows .now) ((c .before .before .before .before .before .before .before .before .args) .i .0) ((c .before .before .before .before .before .before .before .before .args) .p .0)) in (h .0, (h .1 .0, omega arith))
+pack-requires c κs =
+    let at-args = c .before .before .before .before .before .before .before .before .args in
+    let h = subst SmallPhy (sym ((c .before .before .before .before .before .phy-at) .ensures) ∙ (c .before .before .before .x) .given .1) (rows-small (at-args .rows .now) (at-args .i .0) (at-args .p .0)) in (h .0, (h .1 .0, omega arith))
 
 returns : tie.Need-returns
-returns c = field-low (domainIn ((c .before .before .before .before .before .before .before .before .before .args) .rows .now)) (phyAt (domainIn ((c .before .before .before .before .before .before .before .before .before .args) .rows .now)) ((c .before .before .before .before .before .before .before .before .before .args) .i .0) ((c .before .before .before .before .before .before .before .before .before .args) .p .0)) _ (sym ((c .before .before .before .before .before .before .phy-at) .ensures) ∙ (c .before .before .before .before .x) .given .1) _ (omega arith) ((c .pack) .ensures)
+returns c =
+    let at-args = c .before .before .before .before .before .before .before .before .before .args in
+    let at-phy-at = c .before .before .before .before .before .before .phy-at in
+    field-low (domainIn (at-args .rows .now)) (phyAt (domainIn (at-args .rows .now)) (at-args .i .0) (at-args .p .0)) _ (sym (at-phy-at .ensures) ∙ (c .before .before .before .before .x) .given .1) _ (omega arith) ((c .pack) .ensures)
 
 far-number-requires : tie.Need-far-number-requires
 far-number-requires c κs = search needs
 
 pack-requires-2 : tie.Need-pack-requires-2
-pack-requires-2 c κs = let h = subst SmallPhy (sym ((c .before .before .before .before .before .before .phy-at) .ensures) ∙ (c .before .before .before .before .x) .given .1) (rows-small ((c .before .before .before .before .before .before .before .before .before .args) .rows .now) ((c .before .before .before .before .before .before .before .before .before .args) .i .0) ((c .before .before .before .before .before .before .before .before .before .args) .p .0)) in (h .0, (h .1 .0, far-number ((c .before .before .before .before .before .before .before .before .before .args) .rows .now) ((c .before .before .before .before .before .before .before .before .before .args) .first .now) ((c .before .before .before .before .before .before .before .before .before .args) .i .0) ((c .before .before .before .before .before .before .before .before .before .args) .p .0) _ _ ((c .before .before .before .before .before .before .before .before .before .pre)) (sym ((c .before .before .before .before .before .before .phy-at) .ensures) ∙ (c .before .before .before .before .x) .given .1) (omega arith) ((c .far-number) .ensures) .1))
+pack-requires-2 c κs =
+    let at-phy-at = c .before .before .before .before .before .before .phy-at in
+    let at-args = c .before .before .before .before .before .before .before .before .before .args in
+    let at-pre = c .before .before .before .before .before .before .before .before .before .pre in
+    let h = subst SmallPhy (sym (at-phy-at .ensures) ∙ (c .before .before .before .before .x) .given .1) (rows-small (at-args .rows .now) (at-args .i .0) (at-args .p .0)) in (h .0, (h .1 .0, far-number (at-args .rows .now) (at-args .first .now) (at-args .i .0) (at-args .p .0) _ _ (at-pre) (sym (at-phy-at .ensures) ∙ (c .before .before .before .before .x) .given .1) (omega arith) ((c .far-number) .ensures) .1))
 
 returns-2 : tie.Need-returns-2
 returns-2 c = field-vacant (domainIn ((c .before .before .before .before .before .args) .rows .now)) (phyAt (domainIn ((c .before .before .before .before .before .args) .rows .now)) ((c .before .before .before .before .before .args) .i .0) ((c .before .before .before .before .before .args) .p .0)) _ (sym ((c .before .before .phy-at) .ensures) ∙ (c .enum-told) .given .1)
 
 returns-3 : tie.Need-returns-3
-returns-3 c = field-far (domainIn ((c .before .before .before .before .before .before .before .before .before .before .args) .rows .now)) (phyAt (domainIn ((c .before .before .before .before .before .before .before .before .before .before .args) .rows .now)) ((c .before .before .before .before .before .before .before .before .before .before .args) .i .0) ((c .before .before .before .before .before .before .before .before .before .before .args) .p .0)) _ (sym ((c .before .before .before .before .before .before .before .phy-at) .ensures) ∙ (c .before .before .before .before .before .x) .given .1) _ _ (omega arith) (far-number ((c .before .before .before .before .before .before .before .before .before .before .args) .rows .now) ((c .before .before .before .before .before .before .before .before .before .before .args) .first .now) ((c .before .before .before .before .before .before .before .before .before .before .args) .i .0) ((c .before .before .before .before .before .before .before .before .before .before .args) .p .0) _ _ ((c .before .before .before .before .before .before .before .before .before .before .pre)) (sym ((c .before .before .before .before .before .before .before .phy-at) .ensures) ∙ (c .before .before .before .before .before .x) .given .1) (omega arith) ((c .before .far-number) .ensures) .0) ((c .pack2) .ensures)
+returns-3 c =
+    let at-args = c .before .before .before .before .before .before .before .before .before .before .args in
+    let at-phy-at = c .before .before .before .before .before .before .before .phy-at in
+    let at-pre = c .before .before .before .before .before .before .before .before .before .before .pre in
+    field-far (domainIn (at-args .rows .now)) (phyAt (domainIn (at-args .rows .now)) (at-args .i .0) (at-args .p .0)) _ (sym (at-phy-at .ensures) ∙ (c .before .before .before .before .before .x) .given .1) _ _ (omega arith) (far-number (at-args .rows .now) (at-args .first .now) (at-args .i .0) (at-args .p .0) _ _ (at-pre) (sym (at-phy-at .ensures) ∙ (c .before .before .before .before .before .x) .given .1) (omega arith) ((c .before .far-number) .ensures) .0) ((c .pack2) .ensures)
 
 pub form-phy-spec : {M : Type 1} → statement M
 form-phy-spec = tie.close (tie.spec phy-at-requires enum-told enum-known-x pack-requires returns far-number-requires pack-requires-2 returns-2 returns-3)

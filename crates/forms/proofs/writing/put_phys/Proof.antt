@@ -37,7 +37,9 @@ slice-write-words : tie.Need-slice-write-words Inv-loop μ-loop
 slice-write-words c = omega (arith, (c .before .before .before .before .phy-count) .ensures .0)
 
 form-phy-requires : tie.Need-form-phy-requires Inv-loop μ-loop
-form-phy-requires c κs = (c .before .before .before .before .before .before .before .before .pre) .0
+form-phy-requires c κs =
+    let at-pre = c .before .before .before .before .before .before .before .before .pre in
+    at-pre .0
 
 add-words : tie.Need-add-words Inv-loop μ-loop
 add-words c = omega (arith, (c .before .before .before .before .before .phy-count) .ensures .0)
@@ -58,13 +60,17 @@ loop-less : tie.Need-loop-less Inv-loop μ-loop
 loop-less c = omega arith
 
 loop-again : tie.Need-loop-again Inv-loop μ-loop
-loop-again c = (omega arith, (simp length-set ((c .before .before .before .before .loop) .inv .1 .0), (omega arith, phys-go (domainIn ((c .before .before .before .before .before .before .before .before .before .args) .rows .now)) (expanderAt (domainIn ((c .before .before .before .before .before .before .before .before .before .args) .rows .now)) ((c .before .before .before .before .before .before .before .before .before .args) .i .0) .phys) ((c .before .before .before .before .loop) .p) ((c .before .before .before .before .loop) .words) ((c .before .before .before .before .loop) .to) _ _ (omega (arith, (c .before .before .before .before .before .phy-count) .ensures .0)) ((c .before .phy-address) .ensures ∙ ap addressOf ((c .before .before .phy-at) .ensures)) ((c .form-phy) .ensures) ∙ (c .before .before .before .before .loop) .inv .1 .1 .1)))
+loop-again c =
+    let at-args = c .before .before .before .before .before .before .before .before .before .args in
+    (omega arith, (simp length-set ((c .before .before .before .before .loop) .inv .1 .0), (omega arith, phys-go (domainIn (at-args .rows .now)) (expanderAt (domainIn (at-args .rows .now)) (at-args .i .0) .phys) ((c .before .before .before .before .loop) .p) ((c .before .before .before .before .loop) .words) ((c .before .before .before .before .loop) .to) _ _ (omega (arith, (c .before .before .before .before .before .phy-count) .ensures .0)) ((c .before .phy-address) .ensures ∙ ap addressOf ((c .before .before .phy-at) .ensures)) ((c .form-phy) .ensures) ∙ (c .before .before .before .before .loop) .inv .1 .1 .1)))
 
 same-length : tie.Need-same-length Inv-loop μ-loop
 same-length c = search needs
 
 returns : tie.Need-returns Inv-loop μ-loop
-returns c = (phys-end (domainIn ((c .before .before .before .before .before .before .args) .rows .now)) _ ((c .before .loop) .p) ((c .before .loop) .words) ((c .before .loop) .to) (omega (arith, (c .before .before .phy-count) .ensures .0)) ∙ (c .before .loop) .inv .1 .1 .1, omega (arith, (c .before .before .phy-count) .ensures .0))
+returns c =
+    let at-args = c .before .before .before .before .before .before .args in
+    (phys-end (domainIn (at-args .rows .now)) _ ((c .before .loop) .p) ((c .before .loop) .words) ((c .before .loop) .to) (omega (arith, (c .before .before .phy-count) .ensures .0)) ∙ (c .before .loop) .inv .1 .1 .1, omega (arith, (c .before .before .phy-count) .ensures .0))
 
 pub put-phys-spec : {M : Type 1} → statement M
 put-phys-spec = tie.close (tie.spec Inv-loop μ-loop phy-count-requires loop-holds phy-at-requires phy-address-requires mul-words slice-write-words form-phy-requires add-words mul-words-2 slice-write-words-2 add-to add-p loop-less loop-again same-length returns)

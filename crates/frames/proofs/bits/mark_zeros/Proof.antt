@@ -44,14 +44,17 @@ loop-less c = omega arith
 
 loop-again : tie.Need-loop-again Inv-loop μ-loop
 loop-again c =
+    let at-args = c .before .before .before .before .before .before .before .args in
     let l = c .before .before .loop in
-    (omega arith, (l .inv .1 .0, (simp length-set (l .inv .1 .1 .0), mark-turn _ (l .bits) (zeroBits (c .before .before .before .before .before .before .before .args .words .now)) (l .i) _ _ (omega arith) (l .inv .1 .1 .1) (c .zero-byte .ensures))))
+    (omega arith, (l .inv .1 .0, (simp length-set (l .inv .1 .1 .0), mark-turn _ (l .bits) (zeroBits (at-args .words .now)) (l .i) _ _ (omega arith) (l .inv .1 .1 .1) (c .zero-byte .ensures))))
 
 same-length : tie.Need-same-length Inv-loop μ-loop
 same-length c = c .before .loop .inv .1 .1 .0
 
 returns-2 : tie.Need-returns-2 Inv-loop μ-loop
-returns-2 c = mark-end _ (c .before .loop .bits) (zeroBits (c .before .before .before .before .before .before .args .words .now)) (c .before .loop .i) _ (c .loop-test .left) (c .before .loop .inv .1 .1 .1)
+returns-2 c =
+    let at-args = c .before .before .before .before .before .before .args in
+    mark-end _ (c .before .loop .bits) (zeroBits (at-args .words .now)) (c .before .loop .i) _ (c .loop-test .left) (c .before .loop .inv .1 .1 .1)
 
 pub mark-zeros-spec : {M : Type 1} → statement M
 mark-zeros-spec = tie.close (tie.spec Inv-loop μ-loop bytes-for-requires returns loop-holds mul-zero-byte zero-byte-requires slice-write-bits add-i loop-less loop-again same-length returns-2)

@@ -37,8 +37,9 @@ put-number-requires c κs = simp length-set (omega arith)
 
 put-number-requires-2 : tie.Need-put-number-requires-2
 put-number-requires-2 c κs =
+    let at-clear-front = c .before .before .before .before .before .before .before .clear-front in
     let k = c .before .before .before .put-number .kept .0 in
-    let l = c .before .before .before .before .before .before .before .clear-front .kept .0 in
+    let l = at-clear-front .kept .0 in
     omega (arith, simp length-set at k)
 
 same-length : tie.Need-same-length

@@ -37,16 +37,18 @@ next-place-requires c κs = omega (arith, c .before .before .before .before .bef
 
 loop-less : tie.Need-loop-less Inv-loop μ-loop
 loop-less c =
+    let at-args = c .before .before .before .before .before .before .before .before .before .before .args in
     let l = c .before .before .before .before .before .before .loop in
-    let d : Domain = domainIn (c .before .before .before .before .before .before .before .before .before .before .args .rows .now) in
+    let d : Domain = domainIn (at-args .rows .now) in
     let at : Cursor = l .at in
     let s = c .before .before .before .entry-count .ensures in
     moved d at _ (c .next-place .ensures) (omega arith) (omega (arith, l .inv .1 .0)) (omega arith) (omega arith) .less
 
 loop-again : tie.Need-loop-again Inv-loop μ-loop
 loop-again c =
+    let at-args = c .before .before .before .before .before .before .before .before .before .before .args in
     let l = c .before .before .before .before .before .before .loop in
-    let d : Domain = domainIn (c .before .before .before .before .before .before .before .before .before .before .args .rows .now) in
+    let d : Domain = domainIn (at-args .rows .now) in
     let at : Cursor = l .at in
     let s = c .before .before .before .entry-count .ensures in
     let m = moved d at _ (c .next-place .ensures) (omega arith) (omega (arith, l .inv .1 .0)) (omega arith) (omega arith) in
@@ -54,18 +56,20 @@ loop-again c =
 
 returns : tie.Need-returns Inv-loop μ-loop
 returns c =
+    let at-args = c .before .before .before .before .before .before .before .before .before .before .args in
     let l = c .before .before .before .before .before .before .loop in
-    let d : Domain = domainIn (c .before .before .before .before .before .before .before .before .before .before .args .rows .now) in
+    let d : Domain = domainIn (at-args .rows .now) in
     let at : Cursor = l .at in
     let s = c .before .before .before .entry-count .ensures in
     let e = entry-here d (at .expander .0) (at .phy .0) (at .index .0) (omega arith) in
     let z = l .inv .1 .1 .text .same in
-    putting-end (l .inv .1 .1) at (sym (ap (λ (es : List Entry). cursorAt d es (at .word)) e)) (lines-end (l .end) (entriesFrom d at) (c .before .before .before .before .before .before .before .before .before .before .args .words .now) (at .word) (omega arith)) (omega arith)
+    putting-end (l .inv .1 .1) at (sym (ap (λ (es : List Entry). cursorAt d es (at .word)) e)) (lines-end (l .end) (entriesFrom d at) (at-args .words .now) (at .word) (omega arith)) (omega arith)
 
 returns-2 : tie.Need-returns-2 Inv-loop μ-loop
 returns-2 c =
+    let at-args = c .before .before .before .before .before .before .before .before .before .before .before .args in
     let l = c .before .before .before .before .before .before .before .loop in
-    let d : Domain = domainIn (c .before .before .before .before .before .before .before .before .before .before .before .args .rows .now) in
+    let d : Domain = domainIn (at-args .rows .now) in
     let at : Cursor = l .at in
     let s = c .before .before .before .before .entry-count .ensures in
     let e = entry-here d (at .expander .0) (at .phy .0) (at .index .0) (omega arith) in
@@ -80,40 +84,46 @@ shared-slice-read-put-line-at c = search needs
 
 put-line-at-requires : tie.Need-put-line-at-requires Inv-loop μ-loop
 put-line-at-requires c κs =
-    let z = c .before .before .before .before .before .before .before .before .before .loop .inv .1 .1 .text .same in
+    let at-loop = c .before .before .before .before .before .before .before .before .before .loop in
+    let z = at-loop .inv .1 .1 .text .same in
     omega arith
 
 next-index-requires : tie.Need-next-index-requires Inv-loop μ-loop
 next-index-requires c κs =
-    let s = c .before .before .before .before .before .before .before .entry-count .ensures in
+    let at-entry-count = c .before .before .before .before .before .before .before .entry-count in
+    let s = at-entry-count .ensures in
     (omega arith, omega arith)
 
 loop-less-2 : tie.Need-loop-less-2 Inv-loop μ-loop
 loop-less-2 c =
+    let at-args = c .before .before .before .before .before .before .before .before .before .before .before .before .before .before .before .args in
     let l = c .before .before .before .before .before .before .before .before .before .before .before .loop in
-    let d : Domain = domainIn (c .before .before .before .before .before .before .before .before .before .before .before .before .before .before .before .args .rows .now) in
+    let d : Domain = domainIn (at-args .rows .now) in
     let at : Cursor = l .at in
     subst (λ (x : Cursor). left d x < left d at) (sym (c .next-index .ensures)) (index-less d at (at .word + 1) (omega arith))
 
 loop-again-2 : tie.Need-loop-again-2 Inv-loop μ-loop
 loop-again-2 c =
+    let at-args = c .before .before .before .before .before .before .before .before .before .before .before .before .before .before .before .args in
+    let at-entry-count = c .before .before .before .before .before .before .before .before .entry-count in
     let l = c .before .before .before .before .before .before .before .before .before .before .before .loop in
-    let d : Domain = domainIn (c .before .before .before .before .before .before .before .before .before .before .before .before .before .before .before .args .rows .now) in
+    let d : Domain = domainIn (at-args .rows .now) in
     let at : Cursor = l .at in
-    let s = c .before .before .before .before .before .before .before .before .entry-count .ensures in
+    let s = at-entry-count .ensures in
     let e = entry-here d (at .expander .0) (at .phy .0) (at .index .0) (omega arith) in
     let f = sym (c .next-index .ensures) in
     let u = c .before .put-line-at .ensures in
     let z = l .inv .1 .1 .text .same in
     let g = putting-line _ (l .inv .1 .1) (entry (at .expander .0) (at .phy .0) (at .index .0)) (entriesOn d (at .expander .0) (at .phy .0) (at .index .0 + 1)) e
     (omega arith) (omega arith) (omega arith) u in
-    let h = line-short (at .expander .0) (at .phy .0) (at .index .0) (getD (c .before .before .before .before .before .before .before .before .before .before .before .before .before .before .before .args .words .now) (at .word) 0) in
+    let h = line-short (at .expander .0) (at .phy .0) (at .index .0) (getD (at-args .words .now) (at .word) 0) in
     (omega (arith, u .next, u .same), (l .inv .1 .0, putting-same _ (ap (entriesFrom d) f) (ap (λ (x : Cursor). x .word) f) g))
 
 returns-3 : tie.Need-returns-3 Inv-loop μ-loop
 returns-3 c =
+    let at-args = c .before .before .before .before .before .before .args in
     let l = c .before .before .loop in
-    let d : Domain = domainIn (c .before .before .before .before .before .before .args .rows .now) in
+    let d : Domain = domainIn (at-args .rows .now) in
     let at : Cursor = l .at in
     let n = l .inv .1 .0 in
     let e = entries-past d (at .expander .0) (at .phy .0) (at .index .0) (omega arith) in

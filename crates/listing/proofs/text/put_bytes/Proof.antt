@@ -21,10 +21,11 @@ shared-slice-read-put-byte c = omega arith
 
 put-byte-requires : tie.Need-put-byte-requires Inv-loop μ-loop
 put-byte-requires c κs =
+    let at-pre = c .before .before .before .before .before .before .pre in
     let a = c .before .before .before .before .before .before .args in
     let l = c .before .before .before .loop in
     let e = bytes-next (a .text .now) (l .i) (omega arith) in
-    omega (arith, go-fits (l .inv .1) (getD (a .text .now) (l .i) 0 ∷ []) (drop (l .i + 1) (a .text .now)) e (c .before .before .before .before .before .before .pre))
+    omega (arith, go-fits (l .inv .1) (getD (a .text .now) (l .i) 0 ∷ []) (drop (l .i + 1) (a .text .now)) e at-pre)
 
 add-i : tie.Need-add-i Inv-loop μ-loop
 add-i c = omega arith
@@ -34,11 +35,12 @@ loop-less c = omega arith
 
 loop-again : tie.Need-loop-again Inv-loop μ-loop
 loop-again c =
+    let at-pre = c .before .before .before .before .before .before .before .before .before .pre in
     let a = c .before .before .before .before .before .before .before .before .before .args in
     let l = c .before .before .before .before .before .before .loop in
     let e = bytes-next (a .text .now) (l .i) (omega arith) in
     let rest : List ℕ = drop (l .i + 1) (a .text .now) in
-    let f = go-fits (l .inv .1) (getD (a .text .now) (l .i) 0 ∷ []) rest e (c .before .before .before .before .before .before .before .before .before .pre) in
+    let f = go-fits (l .inv .1) (getD (a .text .now) (l .i) 0 ∷ []) rest e at-pre in
     (omega arith, go-turn (l .inv .1) rest (c .before .before .put-byte .ensures) e f)
 
 same-length : tie.Need-same-length Inv-loop μ-loop

@@ -28,9 +28,10 @@ same-length c = search needs
 
 returns : tie.Need-returns
 returns c =
+    let at-args = c .before .before .before .before .before .before .before .before .args in
     let f = c .before .before .before .before .before .decimal in
-    let m : f .result ≤ 20 = digits-few 10 1 20 (c .before .before .before .before .before .before .before .before .args .n) (f .result) (omega arith) (omega arith) (f .ensures .1 .0) (omega arith) in
-    put-as (c .before .before .put-bytes .ensures) (f .ensures .1 .1 ∙ decimal-is (c .before .before .before .before .before .before .before .before .args .n) (f .result) (f .ensures .1 .0) m)
+    let m : f .result ≤ 20 = digits-few 10 1 20 (at-args .n) (f .result) (omega arith) (omega arith) (f .ensures .1 .0) (omega arith) in
+    put-as (c .before .before .put-bytes .ensures) (f .ensures .1 .1 ∙ decimal-is (at-args .n) (f .result) (f .ensures .1 .0) m)
 
 pub put-decimal-spec : {M : Type 1} → statement M
 put-decimal-spec = tie.close (tie.spec decimal-requires array-share-prefix-digits slice-aggregate-put-bytes put-bytes-requires same-length returns)

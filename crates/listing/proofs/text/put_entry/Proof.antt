@@ -12,8 +12,9 @@ put-hex-requires c κs = search needs
 
 put-byte-requires : tie.Need-put-byte-requires
 put-byte-requires c κs =
+    let at-args = c .before .before .before .before .before .before .args in
     let u = c .before .before .before .put-hex .ensures in
-    omega (arith, u .next, u .same, hex-short (c .before .before .before .before .before .before .args .w))
+    omega (arith, u .next, u .same, hex-short (at-args .w))
 
 same-length : tie.Need-same-length
 same-length c = search needs
@@ -21,7 +22,9 @@ same-length c = search needs
 returns : tie.Need-returns
 unfolding entryOf
 returns c =
-    put-then (c .before .before .before .before .before .before .put-hex .ensures) (c .before .before .put-byte .ensures) (omega (arith, hex-short (c .before .before .before .before .before .before .before .before .before .args .w)))
+    let at-put-hex = c .before .before .before .before .before .before .put-hex in
+    let at-args = c .before .before .before .before .before .before .before .before .before .args in
+    put-then (at-put-hex .ensures) (c .before .before .put-byte .ensures) (omega (arith, hex-short (at-args .w)))
 
 pub put-entry-spec : {M : Type 1} → statement M
 put-entry-spec = tie.close (tie.spec put-hex-requires put-byte-requires same-length returns)

@@ -12,8 +12,9 @@ put-decimal-requires c κs = search needs
 
 put-byte-requires : tie.Need-put-byte-requires
 put-byte-requires c κs =
+    let at-args = c .before .before .before .before .before .before .args in
     let u = c .before .before .before .put-decimal .ensures in
-    omega (arith, u .next, u .same, decimal-short (c .before .before .before .before .before .before .args .n))
+    omega (arith, u .next, u .same, decimal-short (at-args .n))
 
 same-length : tie.Need-same-length
 same-length c = search needs
@@ -21,7 +22,9 @@ same-length c = search needs
 returns : tie.Need-returns
 unfolding fieldOf
 returns c =
-    put-then (c .before .before .before .before .before .before .put-decimal .ensures) (c .before .before .put-byte .ensures) (omega (arith, decimal-short (c .before .before .before .before .before .before .before .before .before .args .n)))
+    let at-put-decimal = c .before .before .before .before .before .before .put-decimal in
+    let at-args = c .before .before .before .before .before .before .before .before .before .args in
+    put-then (at-put-decimal .ensures) (c .before .before .put-byte .ensures) (omega (arith, decimal-short (at-args .n)))
 
 pub put-field-spec : {M : Type 1} → statement M
 put-field-spec = tie.close (tie.spec put-decimal-requires put-byte-requires same-length returns)

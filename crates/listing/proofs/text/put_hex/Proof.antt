@@ -28,9 +28,10 @@ same-length c = search needs
 
 returns : tie.Need-returns
 returns c =
+    let at-args = c .before .before .before .before .before .before .before .before .args in
     let f = c .before .before .before .before .before .hex in
-    let m : f .result ≤ 16 = digits-few 16 16 16 (c .before .before .before .before .before .before .before .before .args .w) (f .result) (omega arith) (omega arith) (f .ensures .1 .0) (omega arith) in
-    put-as (c .before .before .put-bytes .ensures) (f .ensures .1 .1 ∙ hex-is (c .before .before .before .before .before .before .before .before .args .w) (f .result) (f .ensures .1 .0 .0) m)
+    let m : f .result ≤ 16 = digits-few 16 16 16 (at-args .w) (f .result) (omega arith) (omega arith) (f .ensures .1 .0) (omega arith) in
+    put-as (c .before .before .put-bytes .ensures) (f .ensures .1 .1 ∙ hex-is (at-args .w) (f .result) (f .ensures .1 .0 .0) m)
 
 pub put-hex-spec : {M : Type 1} → statement M
 put-hex-spec = tie.close (tie.spec hex-requires array-share-prefix-digits slice-aggregate-put-bytes put-bytes-requires same-length returns)

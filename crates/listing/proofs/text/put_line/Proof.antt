@@ -18,22 +18,27 @@ cast-put-field-2 c = search needs
 
 put-field-requires-2 : tie.Need-put-field-requires-2
 put-field-requires-2 c κs =
+    let at-args = c .before .before .before .before .before .before .before .before .args in
     let u = c .before .before .before .before .put-field .ensures in
-    omega (arith, u .next, u .same, field-short (c .before .before .before .before .before .before .before .before .args .i .0) 32)
+    omega (arith, u .next, u .same, field-short (at-args .i .0) 32)
 
 cast-put-field-3 : tie.Need-cast-put-field-3
 cast-put-field-3 c = search needs
 
 put-field-requires-3 : tie.Need-put-field-requires-3
 put-field-requires-3 c κs =
-    let u = c .before .before .before .before .before .before .before .before .before .put-field .ensures in
+    let at-put-field = c .before .before .before .before .before .before .before .before .before .put-field in
+    let at-args = c .before .before .before .before .before .before .before .before .before .before .before .before .before .args in
+    let u = at-put-field .ensures in
     let v = c .before .before .before .before .put-field2 .ensures in
-    omega (arith, u .next, u .same, v .next, v .same, field-short (c .before .before .before .before .before .before .before .before .before .before .before .before .before .args .i .0) 32, field-short (c .before .before .before .before .before .before .before .before .before .before .before .before .before .args .p .0) 32)
+    omega (arith, u .next, u .same, v .next, v .same, field-short (at-args .i .0) 32, field-short (at-args .p .0) 32)
 
 put-entry-requires : tie.Need-put-entry-requires
 put-entry-requires c κs =
-    let u = c .before .before .before .before .before .before .before .before .before .before .before .before .before .put-field .ensures in
-    let v = c .before .before .before .before .before .before .before .before .put-field2 .ensures in
+    let at-put-field = c .before .before .before .before .before .before .before .before .before .before .before .before .before .put-field in
+    let at-put-field2 = c .before .before .before .before .before .before .before .before .put-field2 in
+    let u = at-put-field .ensures in
+    let v = at-put-field2 .ensures in
     let w = c .before .before .before .put-field3 .ensures in
     let a = c .before .before .before .before .before .before .before .before .before .before .before .before .before .before .before .before .before .args in
     omega (arith, u .next, u .same, v .next, v .same, w .next, w .same, field-short (a .i .0) 32, field-short (a .p .0) 32, field-short (a .k .0) 32)
@@ -44,10 +49,13 @@ same-length c = search needs
 returns : tie.Need-returns
 unfolding lineOf
 returns c =
+    let at-put-field = c .before .before .before .before .before .before .before .before .before .before .before .before .before .before .before .before .put-field in
+    let at-put-field2 = c .before .before .before .before .before .before .before .before .before .before .before .put-field2 in
+    let at-put-field3 = c .before .before .before .before .before .before .put-field3 in
     let a = c .before .before .before .before .before .before .before .before .before .before .before .before .before .before .before .before .before .before .before .before .args in
-    let u = c .before .before .before .before .before .before .before .before .before .before .before .before .before .before .before .before .put-field .ensures in
-    let v = c .before .before .before .before .before .before .before .before .before .before .before .put-field2 .ensures in
-    let w = c .before .before .before .before .before .before .put-field3 .ensures in
+    let u = at-put-field .ensures in
+    let v = at-put-field2 .ensures in
+    let w = at-put-field3 .ensures in
     let i = field-short (a .i .0) 32 in
     let p = field-short (a .p .0) 32 in
     let k = field-short (a .k .0) 32 in

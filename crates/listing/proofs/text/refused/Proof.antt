@@ -24,16 +24,18 @@ cast-put-field-2 c = search needs
 
 put-field-requires-2 : tie.Need-put-field-requires-2
 put-field-requires-2 c κs =
+    let at-args = c .before .before .before .before .before .before .before .before .args in
     let u = c .before .before .before .before .before .put-bytes .ensures in
     let v = c .before .before .put-field .ensures in
-    omega (arith, u .next, u .same, v .next, v .same, field-short (c .before .before .before .before .before .before .before .before .args .refusal .number) 32)
+    omega (arith, u .next, u .same, v .next, v .same, field-short (at-args .refusal .number) 32)
 
 cast-put-field-3 : tie.Need-cast-put-field-3
 cast-put-field-3 c = search needs
 
 put-field-requires-3 : tie.Need-put-field-requires-3
 put-field-requires-3 c κs =
-    let u = c .before .before .before .before .before .before .before .before .put-bytes .ensures in
+    let at-put-bytes = c .before .before .before .before .before .before .before .before .put-bytes in
+    let u = at-put-bytes .ensures in
     let v = c .before .before .before .before .before .put-field .ensures in
     let w = c .before .before .put-field2 .ensures in
     let a = c .before .before .before .before .before .before .before .before .before .before .before .args in
@@ -42,9 +44,11 @@ put-field-requires-3 c κs =
 returns : tie.Need-returns
 unfolding refusedOf
 returns c =
+    let at-put-bytes = c .before .before .before .before .before .before .before .before .before .put-bytes in
+    let at-put-field = c .before .before .before .before .before .before .put-field in
     let a = c .before .before .before .before .before .before .before .before .before .before .before .before .args in
-    let u = c .before .before .before .before .before .before .before .before .before .put-bytes .ensures in
-    let v = c .before .before .before .before .before .before .put-field .ensures in
+    let u = at-put-bytes .ensures in
+    let v = at-put-field .ensures in
     let w = c .before .before .before .put-field2 .ensures in
     let x = c .put-field3 .ensures in
     let n = field-short (a .refusal .number) 32 in

@@ -21,22 +21,26 @@ slice-aggregate-put-bytes-2 c = search needs
 
 put-bytes-requires-2 : tie.Need-put-bytes-requires-2
 put-bytes-requires-2 c κs =
+    let at-args = c .before .before .before .before .before .before .before .args in
     let u = c .before .before .before .before .put-bytes .ensures in
     let v = c .before .before .put-field .ensures in
-    omega (arith, u .next, u .same, v .next, v .same, field-short (c .before .before .before .before .before .before .before .args .tables) 32)
+    omega (arith, u .next, u .same, v .next, v .same, field-short (at-args .tables) 32)
 
 put-field-requires-2 : tie.Need-put-field-requires-2
 put-field-requires-2 c κs =
-    let u = c .before .before .before .before .before .before .put-bytes .ensures in
+    let at-put-bytes = c .before .before .before .before .before .before .put-bytes in
+    let at-args = c .before .before .before .before .before .before .before .before .before .args in
+    let u = at-put-bytes .ensures in
     let v = c .before .before .before .before .put-field .ensures in
     let w = c .before .put-bytes2 .ensures in
-    omega (arith, u .next, u .same, v .next, v .same, w .next, w .same, field-short (c .before .before .before .before .before .before .before .before .before .args .tables) 32)
+    omega (arith, u .next, u .same, v .next, v .same, w .next, w .same, field-short (at-args .tables) 32)
 
 returns : tie.Need-returns
 unfolding totalsOf
 returns c =
+    let at-put-bytes = c .before .before .before .before .before .before .before .put-bytes in
     let a = c .before .before .before .before .before .before .before .before .before .before .args in
-    let u = c .before .before .before .before .before .before .before .put-bytes .ensures in
+    let u = at-put-bytes .ensures in
     let v = c .before .before .before .before .before .put-field .ensures in
     let w = c .before .before .put-bytes2 .ensures in
     let x = c .put-field2 .ensures in

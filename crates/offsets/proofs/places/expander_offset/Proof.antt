@@ -38,7 +38,9 @@ loop-less : tie.Need-loop-less Inv-loop μ-loop
 loop-less c = omega arith
 
 loop-again : tie.Need-loop-again Inv-loop μ-loop
-loop-again c = let f = (c .before .before .before .before .before .before .args) .file .now in let e = (c .phys-after) .ensures .0 ∙ ap₂ (physAfter f) ((c .before .before .byte-at) .ensures .0) ((c .before .phys-from) .ensures .0) in (omega arith, (ap (λ (m : ℕ). expandersAfter f ((c .before .before .before .before .before .before .args) .i - ((c .before .before .before .before .loop) .k + 1)) m) e ∙ places-go f ((c .before .before .before .before .before .before .args) .i) ((c .before .before .before .before .loop) .k) ((c .before .before .before .before .loop) .at) _ ((c .before .before .before .before .loop) .inv .1 .0) (omega arith), omega (arith, (c .phys-after) .ensures .1, (c .before .phys-from) .ensures .1, (c .before .before .byte-at) .ensures .1)))
+loop-again c =
+    let at-args = c .before .before .before .before .before .before .args in
+    let f = at-args .file .now in let e = (c .phys-after) .ensures .0 ∙ ap₂ (physAfter f) ((c .before .before .byte-at) .ensures .0) ((c .before .phys-from) .ensures .0) in (omega arith, (ap (λ (m : ℕ). expandersAfter f (at-args .i - ((c .before .before .before .before .loop) .k + 1)) m) e ∙ places-go f (at-args .i) ((c .before .before .before .before .loop) .k) ((c .before .before .before .before .loop) .at) _ ((c .before .before .before .before .loop) .inv .1 .0) (omega arith), omega (arith, (c .phys-after) .ensures .1, (c .before .phys-from) .ensures .1, (c .before .before .byte-at) .ensures .1)))
 
 returns : tie.Need-returns Inv-loop μ-loop
 returns c = (places-end ((c .before .before .before .args) .file .now) ((c .before .before .before .args) .i) ((c .before .loop) .k) ((c .before .loop) .at) _ ((c .before .loop) .inv .1 .0) (omega arith), omega arith)

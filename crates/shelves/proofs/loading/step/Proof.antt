@@ -24,13 +24,15 @@ load-requires c κs = search needs
 returns : tie.Need-returns
 unfolding afterRead
 returns c =
+    let at-args = c .before .before .before .before .before .before .args in
     let e = sym (c .before .before .before .before .read-route .ensures) ∙ ap routeAnswer (c .before .before .read .given .1) in
-    c .stepped-to .ensures ∙ sym (ap (afterRead (c .before .before .before .before .before .before .args .shelf)) e)
+    c .stepped-to .ensures ∙ sym (ap (afterRead (at-args .shelf)) e)
 
 returns-2 : tie.Need-returns-2
 returns-2 c =
+    let at-args = c .before .before .before .before .before .before .args in
     let e = sym (c .before .before .before .before .read-route .ensures) ∙ ap routeAnswer (c .before .before .read2 .given .1) in
-    c .load .ensures ∙ sym (ap (afterRead (c .before .before .before .before .before .before .args .shelf)) e)
+    c .load .ensures ∙ sym (ap (afterRead (at-args .shelf)) e)
 
 pub step-spec : {M : Type 1} → statement M
 step-spec =

@@ -32,22 +32,31 @@ claims t = (put-all-below t, put-all.Post, expander-count-reads.Asked, expander-
 
 module _ (t : ℕ) where
   slice-aggregate-put-all : put-all-lts.Need-slice-aggregate-put-all (claims t) (put-all-at t) put-all.Post
-  slice-aggregate-put-all c = sym (length-take-le 16512 ((c .before .before .before .before .before .before .args) .rows .now) (omega (arith, (c .before .if1) .taken)))
+  slice-aggregate-put-all c =
+      let at-args = c .before .before .before .before .before .before .args in
+      sym (length-take-le 16512 (at-args .rows .now) (omega (arith, (c .before .if1) .taken)))
 
   put-all-requires : put-all-lts.Need-put-all-requires (claims t) (put-all-at t) put-all.Post
-  put-all-requires c κs = let ws = (c .before .before .before .before .before .before .before .args) .rows .now in (omega (arith, (c .before .before .before .before .before .before .before .pre) .0, length-take-le 16512 ws (omega (arith, (c .before .before .if1) .taken))), rw (rows-cut ws ((c .before .before .if1) .taken)) ((c .before .before .before .before .before .before .before .pre) .1))
+  put-all-requires c κs =
+      let at-args = c .before .before .before .before .before .before .before .args in
+      let at-pre = c .before .before .before .before .before .before .before .pre in
+      let ws = at-args .rows .now in (omega (arith, at-pre .0, length-take-le 16512 ws (omega (arith, (c .before .before .if1) .taken))), rw (rows-cut ws ((c .before .before .if1) .taken)) (at-pre .1))
 
   same-length : put-all-lts.Need-same-length (claims t) (put-all-at t) put-all.Post
   same-length c = search needs
 
   returns : put-all-lts.Need-returns (claims t) (put-all-at t) put-all.Post
-  returns c = rw (rows-cut ((c .before .before .before .before .before .before .before .before .before .before .args) .rows .now) ((c .before .before .before .before .before .if1) .taken)) at ((c .before .before .put-all) .ensures)
+  returns c =
+      let at-args = c .before .before .before .before .before .before .before .before .before .before .args in
+      rw (rows-cut (at-args .rows .now) ((c .before .before .before .before .before .if1) .taken)) at ((c .before .before .put-all) .ensures)
 
   expander-count-requires : put-all-lts.Need-expander-count-requires (claims t) (put-all-at t) put-all.Post
   expander-count-requires c κs = search needs
 
   put-few-requires : put-all-lts.Need-put-few-requires (claims t) (put-all-at t) put-all.Post
-  put-few-requires c κs = (omega (arith, (c .before .before .expander-count) .ensures .0, (c .before .if2) .taken), (c .before .before .before .before .before .before .before .before .pre) .1)
+  put-few-requires c κs =
+      let at-pre = c .before .before .before .before .before .before .before .before .pre in
+      (omega (arith, (c .before .before .expander-count) .ensures .0, (c .before .if2) .taken), at-pre .1)
 
   same-length-2 : put-all-lts.Need-same-length-2 (claims t) (put-all-at t) put-all.Post
   same-length-2 c = search needs
@@ -56,7 +65,9 @@ module _ (t : ℕ) where
   returns-2 c = search needs
 
   put-many-requires : put-all-lts.Need-put-many-requires (claims t) (put-all-at t) put-all.Post
-  put-many-requires c κs = (c .before .before .before .before .before .before .before .before .pre) .1
+  put-many-requires c κs =
+      let at-pre = c .before .before .before .before .before .before .before .before .pre in
+      at-pre .1
 
   same-length-3 : put-all-lts.Need-same-length-3 (claims t) (put-all-at t) put-all.Post
   same-length-3 c = search needs

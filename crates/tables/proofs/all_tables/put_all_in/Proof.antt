@@ -29,10 +29,14 @@ abbrev μ-loop : tie.MeasureT-loop
 μ-loop rows first low lists below order₀ words₀ n to₀ i₀ order words to i = n - i
 
 put-owns-requires : tie.Need-put-owns-requires Inv-loop μ-loop
-put-owns-requires c κs = ((c .before .before .before .before .before .before .before .before .pre) .0 .lows, (c .before .before .before .before .before .before .before .before .pre) .1 .0 .lists)
+put-owns-requires c κs =
+    let at-pre = c .before .before .before .before .before .before .before .before .pre in
+    (at-pre .0 .lows, at-pre .1 .0 .lists)
 
 put-below-requires : tie.Need-put-below-requires Inv-loop μ-loop
-put-below-requires c κs = (fars-known _ _ ((c .before .before .before .before .before .before .before .before .before .before .before .before .pre) .0 .firsts), (c .before .before .before .before .before .before .before .before .before .before .before .before .pre) .1 .0 .below)
+put-below-requires c κs =
+    let at-pre = c .before .before .before .before .before .before .before .before .before .before .before .before .pre in
+    (fars-known _ _ (at-pre .0 .firsts), at-pre .1 .0 .below)
 
 expander-count-requires : tie.Need-expander-count-requires Inv-loop μ-loop
 expander-count-requires c κs = search needs
@@ -42,9 +46,13 @@ loop-holds c = (omega arith, (refl, (refl, (zero-add _, refl))))
 
 put-tables-requires : tie.Need-put-tables-requires Inv-loop μ-loop
 put-tables-requires c κs =
-    let f = (c .before .before .before .before .before .before .before .before .before .before .before .before .before .before .before .before .before .before .before .before .before .before .pre) .1 .1 in
-    let s = from-sizes (domainIn ((c .before .before .before .before .before .before .before .before .before .before .before .before .before .before .before .before .before .before .before .before .before .before .args) .rows .now)) ((c .before .before .before .before .before .loop) .i) (omega arith) in
-    (fars-known _ _ ((c .before .before .before .before .before .before .before .before .before .before .before .before .before .before .before .before .before .before .before .before .before .before .pre) .0 .firsts), ((c .before .before .before .before .before .before .before .before .before .before .before .before .before .put-owns) .ensures, ((c .before .before .before .before .before .before .before .before .before .put-below) .ensures, (omega (arith, (c .before .before .before .before .before .before .before .before .before .before .before .before .before .before .before .before .before .before .before .before .before .before .pre) .1 .0 .order, (c .before .before .before .before .before .loop) .inv .1 .0), (f .0, omega arith)))))
+    let at-pre = c .before .before .before .before .before .before .before .before .before .before .before .before .before .before .before .before .before .before .before .before .before .before .pre in
+    let at-args = c .before .before .before .before .before .before .before .before .before .before .before .before .before .before .before .before .before .before .before .before .before .before .args in
+    let at-put-owns = c .before .before .before .before .before .before .before .before .before .before .before .before .before .put-owns in
+    let at-put-below = c .before .before .before .before .before .before .before .before .before .put-below in
+    let f = at-pre .1 .1 in
+    let s = from-sizes (domainIn (at-args .rows .now)) ((c .before .before .before .before .before .loop) .i) (omega arith) in
+    (fars-known _ _ (at-pre .0 .firsts), (at-put-owns .ensures, (at-put-below .ensures, (omega (arith, at-pre .1 .0 .order, (c .before .before .before .before .before .loop) .inv .1 .0), (f .0, omega arith)))))
 
 add-i : tie.Need-add-i Inv-loop μ-loop
 add-i c = omega arith
@@ -54,15 +62,17 @@ loop-less c = omega arith
 
 loop-again : tie.Need-loop-again Inv-loop μ-loop
 loop-again c =
+    let at-args = c .before .before .before .before .before .before .before .before .before .before .before .before .before .before .before .before .before .before .before .before .before .before .before .before .before .before .before .args in
+    let at-pre = c .before .before .before .before .before .before .before .before .before .before .before .before .before .before .before .before .before .before .before .before .before .before .before .before .before .before .before .pre in
     let l = (c .before .before .before .before .before .before .before .before .before .before .loop) in
-    let d : Domain = domainIn ((c .before .before .before .before .before .before .before .before .before .before .before .before .before .before .before .before .before .before .before .before .before .before .before .before .before .before .before .args) .rows .now) in
+    let d : Domain = domainIn (at-args .rows .now) in
     let e = from-next d (l .i) (omega arith) in
     let t = (c .before .before .before .before .put-tables) in
     let u = t .ensures in
     let rest : List Place = placesFrom (l .i) (drop (l .i) d) in
     let v = l .inv .1 .1 in
     let s = put-long d (l .to) rest (placesAt d (l .i)) _ (u .next) e ∙ v .1 .0 in
-    let g = put-go d (l .words) (l .to) rest (v .1 .1) (placesAt d (l .i)) _ u e (omega (arith, (c .before .before .before .before .before .before .before .before .before .before .before .before .before .before .before .before .before .before .before .before .before .before .before .before .before .before .before .pre) .1 .1 .1, v .0, v .1 .0)) in
+    let g = put-go d (l .words) (l .to) rest (v .1 .1) (placesAt d (l .i)) _ u e (omega (arith, at-pre .1 .1 .1, v .0, v .1 .0)) in
     (omega arith, (t .kept .1 .1 .1 .1 .0 ∙ l .inv .1 .0, (u .same ∙ v .0, (s, g))))
 
 same-length : tie.Need-same-length Inv-loop μ-loop
@@ -79,9 +89,10 @@ same-length-4 c = search needs
 
 returns : tie.Need-returns Inv-loop μ-loop
 returns c =
+    let at-args = c .before .before .before .before .before .before .before .before .before .before .before .before .before .before .before .before .before .before .args in
     let l = (c .before .loop) in
-    let d : Domain = domainIn ((c .before .before .before .before .before .before .before .before .before .before .before .before .before .before .before .before .before .before .args) .rows .now) in
-    put-end d (l .words) (l .to) _ (l .inv .1 .1 .1 .1) (from-last d (l .i) (omega arith)) ∙ put-all d ((c .before .before .before .before .before .before .before .before .before .before .before .before .before .before .before .before .before .before .args) .words .now)
+    let d : Domain = domainIn (at-args .rows .now) in
+    put-end d (l .words) (l .to) _ (l .inv .1 .1 .1 .1) (from-last d (l .i) (omega arith)) ∙ put-all d (at-args .words .now)
 
 pub put-all-in-spec : {M : Type 1} → statement M
 put-all-in-spec = tie.close (tie.spec Inv-loop μ-loop put-owns-requires put-below-requires expander-count-requires loop-holds put-tables-requires add-i loop-less loop-again same-length same-length-2 same-length-3 same-length-4 returns)

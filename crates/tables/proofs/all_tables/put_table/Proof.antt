@@ -18,7 +18,9 @@ is-table-requires : tie.Need-is-table-requires
 is-table-requires c κs = search needs
 
 returns : tie.Need-returns
-returns c = put-none (domainIn ((c .before .before .before .before .before .before .args) .rows .now)) ((c .before .before .before .before .before .before .args) .i .0) ((c .before .before .before .before .before .before .args) .p .0) ((c .before .before .before .before .before .before .args) .words .now) ((c .before .before .before .before .before .before .args) .at) (sym ((c .before .is-table) .ensures) ∙ not-true _ (c .if1 .taken))
+returns c =
+    let at-args = c .before .before .before .before .before .before .args in
+    put-none (domainIn (at-args .rows .now)) (at-args .i .0) (at-args .p .0) (at-args .words .now) (at-args .at) (sym ((c .before .is-table) .ensures) ∙ not-true _ (c .if1 .taken))
 
 index-count-requires : tie.Need-index-count-requires
 index-count-requires c κs = search needs
@@ -49,21 +51,23 @@ part-fill-table-end c =
 
 fill-table-requires : tie.Need-fill-table-requires
 fill-table-requires c κs =
+    let at-pre = c .before .before .before .before .before .before .before .before .pre in
     let a = (c .before .before .before .before .before .before .before .before .args) in
     let t = sym ((c .before .before .before .is-table) .ensures) ∙ not-false _ ((c .before .before .if1) .left) in
     let s = size-by (domainIn (a .rows .now)) (a .i .0) (a .p .0) t in
     let k : ℕ = a .at + (c .before .index-count) .result - a .at in
     let n = length-take-le k (drop (a .at) (a .words .now)) (simp length-drop (omega arith)) in
-    record { held = (c .before .before .before .before .before .before .before .before .pre) .0; ordered = (c .before .before .before .before .before .before .before .before .pre) .1 .0; fits = omega (arith, (c .before .before .before .before .before .before .before .before .pre) .1 .1 .0 (a .i .0) (a .p .0) (was-true _ t)) }
+    record { held = at-pre .0; ordered = at-pre .1 .0; fits = omega (arith, at-pre .1 .1 .0 (a .i .0) (a .p .0) (was-true _ t)) }
 
 same-length : tie.Need-same-length
 same-length c = search needs
 
 returns-2 : tie.Need-returns-2
 returns-2 c =
+    let at-is-table = c .before .before .before .before .before .before .is-table in
     let a = (c .before .before .before .before .before .before .before .before .before .before .before .args) in
     let d : Domain = domainIn (a .rows .now) in
-    let t = sym ((c .before .before .before .before .before .before .is-table) .ensures) ∙ not-false _ ((c .before .before .before .before .before .if1) .left) in
+    let t = sym (at-is-table .ensures) ∙ not-false _ ((c .before .before .before .before .before .if1) .left) in
     let s = size-by d (a .i .0) (a .p .0) t in
     let r : ℕ = (c .before .before .before .before .index-count) .result in
     let k : ℕ = a .at + r - a .at in

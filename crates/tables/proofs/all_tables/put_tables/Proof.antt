@@ -51,7 +51,9 @@ phy-below-requires : tie.Need-phy-below-requires Inv-loop μ-loop
 phy-below-requires c κs = search needs
 
 order-for-requires : tie.Need-order-for-requires Inv-loop μ-loop
-order-for-requires c κs = ((record { index = (c .before .before .before .before .before .before .before .before .before .before .before .pre) .0; phy = (c .before .phy-below) .ensures ∙ phy-held _ _ _ (omega arith) }, (c .before .before .before .loop) .inv .1 .1 .0 .0), ((c .before .before .before .before .before .before .before .before .before .before .before .pre) .1 .1 .0, (omega (arith, (c .before .before .before .before .before .before .before .before .before .before .before .pre) .1 .1 .1 .0), (c .before .before .before .loop) .inv .1 .1 .0 .1)))
+order-for-requires c κs =
+    let at-pre = c .before .before .before .before .before .before .before .before .before .before .before .pre in
+    ((record { index = at-pre .0; phy = (c .before .phy-below) .ensures ∙ phy-held _ _ _ (omega arith) }, (c .before .before .before .loop) .inv .1 .1 .0 .0), (at-pre .1 .1 .0, (omega (arith, at-pre .1 .1 .1 .0), (c .before .before .before .loop) .inv .1 .1 .0 .1)))
 
 slice-reshare-prefix-put-table : tie.Need-slice-reshare-prefix-put-table Inv-loop μ-loop
 slice-reshare-prefix-put-table c = omega (arith, (c .before .before .order-for) .ensures .same, (c .before .before .order-for) .ensures .fits)
@@ -61,8 +63,13 @@ slice-aggregate-put-table c = sym (length-take-le ((c .before .before .before .o
 
 put-table-requires : tie.Need-put-table-requires Inv-loop μ-loop
 put-table-requires c κs =
-    let q = (c .before .before .before .before .order-for) .ensures .whole ∙ ap (orderOf (domainIn ((c .before .before .before .before .before .before .before .before .before .before .before .before .before .before .before .before .args) .rows .now))) ((c .before .before .before .before .before .before .phy-below) .ensures ∙ phy-held _ _ _ (omega arith)) in
-    ((c .before .before .before .before .before .before .before .before .before .before .before .before .before .before .before .before .pre) .1 .0, (q, ((c .before .before .before .before .before .before .before .before .before .before .before .before .before .before .before .before .pre) .1 .1 .1 .1 .0, omega (arith, phys-sizes (domainIn ((c .before .before .before .before .before .before .before .before .before .before .before .before .before .before .before .before .args) .rows .now)) ((c .before .before .before .before .before .before .before .before .before .before .before .before .before .before .before .before .args) .i .0) ((c .before .before .before .before .before .before .before .before .before .phy-count) .result) ((c .before .before .before .before .before .before .before .before .loop) .p) (omega arith)))))
+    let at-args = c .before .before .before .before .before .before .before .before .before .before .before .before .before .before .before .before .args in
+    let at-phy-below = c .before .before .before .before .before .before .phy-below in
+    let at-pre = c .before .before .before .before .before .before .before .before .before .before .before .before .before .before .before .before .pre in
+    let at-phy-count = c .before .before .before .before .before .before .before .before .before .phy-count in
+    let at-loop = c .before .before .before .before .before .before .before .before .loop in
+    let q = (c .before .before .before .before .order-for) .ensures .whole ∙ ap (orderOf (domainIn (at-args .rows .now))) (at-phy-below .ensures ∙ phy-held _ _ _ (omega arith)) in
+    (at-pre .1 .0, (q, (at-pre .1 .1 .1 .1 .0, omega (arith, phys-sizes (domainIn (at-args .rows .now)) (at-args .i .0) (at-phy-count .result) (at-loop .p) (omega arith)))))
 
 add-p : tie.Need-add-p Inv-loop μ-loop
 add-p c = omega arith
@@ -72,11 +79,14 @@ loop-less c = omega arith
 
 loop-again : tie.Need-loop-again Inv-loop μ-loop
 loop-again c =
+    let at-phy-count = c .before .before .before .before .before .before .before .before .before .before .before .before .phy-count in
+    let at-order-for = c .before .before .before .before .before .before .before .order-for in
+    let at-pre = c .before .before .before .before .before .before .before .before .before .before .before .before .before .before .before .before .before .before .before .pre in
     let a = (c .before .before .before .before .before .before .before .before .before .before .before .before .before .before .before .before .before .before .before .args) in
     let l = (c .before .before .before .before .before .before .before .before .before .before .before .loop) in
     let d : Domain = domainIn (a .rows .now) in
-    let n : ℕ = (c .before .before .before .before .before .before .before .before .before .before .before .before .phy-count) .result in
-    let o = (c .before .before .before .before .before .before .before .order-for) .ensures in
+    let n : ℕ = at-phy-count .result in
+    let o = at-order-for .ensures in
     let f = (c .before .before .before .before .before .before .before .before .before .phy-below) in
     let u = (c .before .before .put-table) .ensures in
     let rest : List Place = phyPlaces (a .i .0) (l .p) (n - l .p) in
@@ -84,7 +94,7 @@ loop-again c =
     let e = phys-next (a .i .0) n (l .p) (omega arith) in
     let v = l .inv .1 .1 .1 in
     let s = put-long d (l .to) rest piece _ (u .next) e ∙ v .1 .0 in
-    let g = put-go d (l .words) (l .to) rest (v .1 .1) piece _ u e (omega (arith, (c .before .before .before .before .before .before .before .before .before .before .before .before .before .before .before .before .before .before .before .pre) .1 .1 .1 .1 .1, v .0, v .1 .0)) in
+    let g = put-go d (l .words) (l .to) rest (v .1 .1) piece _ u e (omega (arith, at-pre .1 .1 .1 .1 .1, v .0, v .1 .0)) in
     (omega arith, (o .same ∙ l .inv .1 .0, ((f .ensures ∙ phy-held _ _ _ (omega arith), grown-again o), (u .same ∙ v .0, (s, g)))))
 
 same-length : tie.Need-same-length Inv-loop μ-loop

@@ -37,12 +37,14 @@ same-length c = search needs
 
 returns-2 : tie.Need-returns-2
 returns-2 c =
+    let at-is-down = c .before .before .before .before .before .before .is-down in
+    let at-pre = c .before .before .before .before .before .before .before .before .before .before .pre in
     let a = (c .before .before .before .before .before .before .before .before .before .before .args) in
     let d : Domain = domainIn (a .rows .now) in
     let room : ℕ = length (a .part .now) in
     let l : List ℕ = take (a .m) (a .part .now) in
-    let down = sym ((c .before .before .before .before .before .before .is-down) .ensures) ∙ not-false _ ((c .before .before .before .before .before .if1) .left) in
-    let j : (c .before .before .before .far-number) .result .0 ≡ numberOf d (addressOf (a .f)) = (c .before .before .before .far-number) .ensures ∙ far-down (a .rows .now) (a .first .now) (a .i .0) (a .p .0) (a .f) (record { index = (c .before .before .before .before .before .before .before .before .before .before .pre) .0; phy = (c .before .before .before .before .before .before .before .before .before .before .pre) .1 .0 }) down in
+    let down = sym (at-is-down .ensures) ∙ not-false _ ((c .before .before .before .before .before .if1) .left) in
+    let j : (c .before .before .before .far-number) .result .0 ≡ numberOf d (addressOf (a .f)) = (c .before .before .before .far-number) .ensures ∙ far-down (a .rows .now) (a .first .now) (a .i .0) (a .p .0) (a .f) (record { index = at-pre .0; phy = at-pre .1 .0 }) down in
     grown-same ((c .before .before .add-number) .ensures) (ap (λ (v : ℕ). addAll room l (v ∷ [])) j ∙ sym (ap (addAll room l) (below-one d (a .f) down)))
 
 pub add-phy-spec : {M : Type 1} → statement M

@@ -28,11 +28,16 @@ phy-below-requires c κs = search needs
 
 lower-phy-requires : tie.Need-lower-phy-requires Inv-loop μ-loop
 lower-phy-requires c κs =
+    let at-pre = c .before .before .before .before .before .before .before .before .pre in
     let n = (c .before .before .before .phy-count) .ensures .0 in
-    (record { index = (c .before .before .before .before .before .before .before .before .pre) .0; phy = (c .phy-below) .ensures ∙ phy-held _ _ _ (omega arith) }, omega arith)
+    (record { index = at-pre .0; phy = (c .phy-below) .ensures ∙ phy-held _ _ _ (omega arith) }, omega arith)
 
 add-phy-requires : tie.Need-add-phy-requires Inv-loop μ-loop
-add-phy-requires c κs = ((c .before .before .before .before .before .before .before .before .before .before .before .before .pre) .0, ((c .before .before .before .before .phy-below) .ensures ∙ phy-held _ _ _ (omega (arith, (c .before .before .before .before .before .before .before .phy-count) .ensures .0)), omega (arith, (c .before .before .before .before .before .before .loop) .inv .1 .fits, (c .before .before .before .before .before .before .loop) .inv .1 .room)))
+add-phy-requires c κs =
+    let at-pre = c .before .before .before .before .before .before .before .before .before .before .before .before .pre in
+    let at-phy-count = c .before .before .before .before .before .before .before .phy-count in
+    let at-loop = c .before .before .before .before .before .before .loop in
+    (at-pre .0, ((c .before .before .before .before .phy-below) .ensures ∙ phy-held _ _ _ (omega (arith, at-phy-count .ensures .0)), omega (arith, at-loop .inv .1 .fits, at-loop .inv .1 .room)))
 
 add-p : tie.Need-add-p Inv-loop μ-loop
 add-p c = omega arith
@@ -42,20 +47,26 @@ loop-less c = omega arith
 
 loop-again : tie.Need-loop-again Inv-loop μ-loop
 loop-again c =
+    let at-phy-count = c .before .before .before .before .before .before .phy-count in
     let a = (c .before .before .before .before .before .before .before .before .before .before .before .args) in
     let l = (c .before .before .before .before .before .loop) in
     let f = (c .before .before .before .phy-below) in
-    let n = (c .before .before .before .before .before .before .phy-count) .ensures in
+    let n = at-phy-count .ensures in
     let d : Domain = domainIn (a .rows .now) in
     let r = (c .before .before .lower-phy) in
     let got : Collected d (a .i .0) (l .p + 1) (c .if1 .m) (c .if1 .part) = ⊎-elim (λ w. rw (w .5, w .6) (collect-go d (a .i .0) (l .p) (l .inv .1) (f .result) (f .ensures ∙ phy-held _ _ _ (omega arith)) (w .2 .ensures) (omega arith))) (λ w. rw (w .1, w .2) (let low : r .result .0 < l .p = omega (arith, w .0) in collect-skip d (a .i .0) (l .p) (l .inv .1) (r .result .0) low (r .ensures low) (omega arith))) (c .if1 .came) in
     (omega arith, got)
 
 same-length : tie.Need-same-length Inv-loop μ-loop
-same-length c = (c .before .loop) .inv .1 .room ∙ sym ((c .before .before .before .before .before .before .before .pre) .1)
+same-length c =
+    let at-pre = c .before .before .before .before .before .before .before .pre in
+    (c .before .loop) .inv .1 .room ∙ sym (at-pre .1)
 
 returns : tie.Need-returns Inv-loop μ-loop
-returns c = collect-end (domainIn ((c .before .before .before .before .before .before .before .args) .rows .now)) ((c .before .before .before .before .before .before .before .args) .i .0) ((c .before .loop) .p) ((c .before .loop) .inv .1) ((c .before .before .before .before .before .before .before .pre) .1) (domain-few ((c .before .before .before .before .before .before .before .args) .rows .now)) (omega (arith, (c .before .before .phy-count) .ensures .0))
+returns c =
+    let at-args = c .before .before .before .before .before .before .before .args in
+    let at-pre = c .before .before .before .before .before .before .before .pre in
+    collect-end (domainIn (at-args .rows .now)) (at-args .i .0) ((c .before .loop) .p) ((c .before .loop) .inv .1) (at-pre .1) (domain-few (at-args .rows .now)) (omega (arith, (c .before .before .phy-count) .ensures .0))
 
 pub collect-below-spec : {M : Type 1} → statement M
 collect-below-spec = tie.close (tie.spec Inv-loop μ-loop phy-count-requires loop-holds phy-below-requires lower-phy-requires add-phy-requires add-p loop-less loop-again same-length returns)

@@ -45,20 +45,29 @@ part-collect-below-start : tie.Need-part-collect-below-start Inv-loop μ-loop
 part-collect-below-start c = omega arith
 
 part-collect-below-end : tie.Need-part-collect-below-end Inv-loop μ-loop
-part-collect-below-end c = omega (arith, (c .before .before .before .before .before .before .before .pre) .1, (c .before .before .expander-count) .ensures .0, (c .before .loop) .inv .1 .0)
+part-collect-below-end c =
+    let at-pre = c .before .before .before .before .before .before .before .pre in
+    omega (arith, at-pre .1, (c .before .before .expander-count) .ensures .0, (c .before .loop) .inv .1 .0)
 
 collect-below-requires : tie.Need-collect-below-requires Inv-loop μ-loop
-collect-below-requires c κs = ((c .before .before .before .before .before .before .before .before .pre) .0, part-long 66 (66 * (c .before .before .loop) .i) ((c .before .before .loop) .below) (omega (arith, (c .before .before .before .before .before .before .before .before .pre) .1, (c .before .before .before .expander-count) .ensures .0, (c .before .before .loop) .inv .1 .0)) ∙ omega arith)
+collect-below-requires c κs =
+    let at-pre = c .before .before .before .before .before .before .before .before .pre in
+    (at-pre .0, part-long 66 (66 * (c .before .before .loop) .i) ((c .before .before .loop) .below) (omega (arith, at-pre .1, (c .before .before .before .expander-count) .ensures .0, (c .before .before .loop) .inv .1 .0)) ∙ omega arith)
 
 cast-below : tie.Need-cast-below Inv-loop μ-loop
-cast-below c = omega (arith, (c .before .before .collect-below) .ensures .fits, part-long 66 (66 * (c .before .before .before .before .before .loop) .i) ((c .before .before .before .before .before .loop) .below) (omega (arith, (c .before .before .before .before .before .before .before .before .before .before .before .pre) .1, (c .before .before .before .before .before .before .expander-count) .ensures .0, (c .before .before .before .before .before .loop) .inv .1 .0)))
+cast-below c =
+    let at-pre = c .before .before .before .before .before .before .before .before .before .before .before .pre in
+    let at-expander-count = c .before .before .before .before .before .before .expander-count in
+    omega (arith, (c .before .before .collect-below) .ensures .fits, part-long 66 (66 * (c .before .before .before .before .before .loop) .i) ((c .before .before .before .before .before .loop) .below) (omega (arith, at-pre .1, at-expander-count .ensures .0, (c .before .before .before .before .before .loop) .inv .1 .0)))
 
 slice-write-below : tie.Need-slice-write-below Inv-loop μ-loop
 slice-write-below c =
+    let at-pre = c .before .before .before .before .before .before .before .before .before .before .before .pre in
+    let at-expander-count = c .before .before .before .before .before .before .expander-count in
     let l = (c .before .before .before .before .before .loop) in
     let a : ℕ = 66 * l .i in
     let r = (c .before .before .collect-below) in
-    omega (arith, same-len-mid (a + 1) (a + 66 - (a + 1)) (l .below) (r .last .1 .1 .1 .1 .0) (r .ensures .same), (c .before .before .before .before .before .before .before .before .before .before .before .pre) .1, (c .before .before .before .before .before .before .expander-count) .ensures .0, l .inv .1 .0)
+    omega (arith, same-len-mid (a + 1) (a + 66 - (a + 1)) (l .below) (r .last .1 .1 .1 .1 .0) (r .ensures .same), at-pre .1, at-expander-count .ensures .0, l .inv .1 .0)
 
 add-i : tie.Need-add-i Inv-loop μ-loop
 add-i c = omega arith
@@ -68,10 +77,13 @@ loop-less c = omega arith
 
 loop-again : tie.Need-loop-again Inv-loop μ-loop
 loop-again c =
+    let at-expander-count = c .before .before .before .before .before .before .expander-count in
+    let at-pre = c .before .before .before .before .before .before .before .before .before .before .before .pre in
+    let at-args = c .before .before .before .before .before .before .before .before .before .before .before .args in
     let l = (c .before .before .before .before .before .loop) in
-    let n = (c .before .before .before .before .before .before .expander-count) .ensures in
-    let b = (c .before .before .before .before .before .before .before .before .before .before .before .pre) .1 in
-    let d : Domain = domainIn ((c .before .before .before .before .before .before .before .before .before .before .before .args) .rows .now) in
+    let n = at-expander-count .ensures in
+    let b = at-pre .1 in
+    let d : Domain = domainIn (at-args .rows .now) in
     let a : ℕ = 66 * l .i in
     let k : ℕ = a + 66 - (a + 1) in
     let r = (c .before .before .collect-below) in
@@ -86,11 +98,13 @@ same-length c = (c .before .loop) .inv .1 .0
 
 returns : tie.Need-returns Inv-loop μ-loop
 returns c =
+    let at-args = c .before .before .before .before .before .before .before .args in
+    let at-pre = c .before .before .before .before .before .before .before .pre in
     let l = (c .before .loop) in
     let n = (c .before .before .expander-count) .ensures .0 in
-    let d : Domain = domainIn ((c .before .before .before .before .before .before .before .args) .rows .now) in
+    let d : Domain = domainIn (at-args .rows .now) in
     let e : l .i ≡ length d = omega arith in
-    record { enough = omega (arith, (c .before .before .before .before .before .before .before .pre) .1, l .inv .1 .0); cell = subst (λ (n : ℕ). Cells 66 (belowOnce d) n (l .below)) e (l .inv .1 .1) }
+    record { enough = omega (arith, at-pre .1, l .inv .1 .0); cell = subst (λ (n : ℕ). Cells 66 (belowOnce d) n (l .below)) e (l .inv .1 .1) }
 
 pub put-below-spec : {M : Type 1} → statement M
 put-below-spec = tie.close (tie.spec Inv-loop μ-loop expander-count-requires loop-holds cast-a mul-a add-collect-below add-collect-below-2 sub-collect-below part-collect-below-start part-collect-below-end collect-below-requires cast-below slice-write-below add-i loop-less loop-again same-length returns)

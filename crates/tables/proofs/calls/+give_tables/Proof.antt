@@ -48,10 +48,15 @@ module _ (t : ℕ) where
   returns c = search needs
 
   slice-aggregate-give-tables : give-tables-lts.Need-slice-aggregate-give-tables (claims t) (give-tables-at t) give-tables.Post
-  slice-aggregate-give-tables c = sym (length-take-le 2 ((c .before .before .before .before .before .before .before .before .args) .file .now) (omega (arith, (c .before .if3) .taken)))
+  slice-aggregate-give-tables c =
+      let at-args = c .before .before .before .before .before .before .before .before .args in
+      sym (length-take-le 2 (at-args .file .now) (omega (arith, (c .before .if3) .taken)))
 
   give-tables-requires : give-tables-lts.Need-give-tables-requires (claims t) (give-tables-at t) give-tables.Post
-  give-tables-requires c κs = (omega (arith, (c .before .before .before .before .before .before .before .before .before .before .pre) .0, (c .before .before .before .if3) .taken, length-take-le 2 ((c .before .before .before .before .before .before .before .before .before .before .args) .file .now) (omega (arith, (c .before .before .before .if3) .taken))), tt)
+  give-tables-requires c κs =
+      let at-pre = c .before .before .before .before .before .before .before .before .before .before .pre in
+      let at-args = c .before .before .before .before .before .before .before .before .before .before .args in
+      (omega (arith, at-pre .0, (c .before .before .before .if3) .taken, length-take-le 2 (at-args .file .now) (omega (arith, (c .before .before .before .if3) .taken))), tt)
 
   same-length-3 : give-tables-lts.Need-same-length-3 (claims t) (give-tables-at t) give-tables.Post
   same-length-3 c = search needs
@@ -61,7 +66,12 @@ module _ (t : ℕ) where
 
   returns-2 : give-tables-lts.Need-returns-2 (claims t) (give-tables-at t) give-tables.Post
   unfolding tableCall
-  returns-2 c = rw (header-cut ((c .before .before .before .before .before .before .before .before .before .before .before .before .before .before .before .args) .setting) ((c .before .before .before .before .before .before .before .before .before .before .before .before .before .before .before .args) .file .now) ((c .before .before .before .before .before .before .before .before .if3) .taken) (omega (arith, (c .before .before .before .before .before .before .before .before .before .before .before .stated-count) .ensures, (c .before .before .before .before .before .before .before .before .before .if2) .taken))) at ((c .before .before .before .before .give-tables) .ensures)
+  returns-2 c =
+      let at-args = c .before .before .before .before .before .before .before .before .before .before .before .before .before .before .before .args in
+      let at-if3 = c .before .before .before .before .before .before .before .before .if3 in
+      let at-stated-count = c .before .before .before .before .before .before .before .before .before .before .before .stated-count in
+      let at-if2 = c .before .before .before .before .before .before .before .before .before .if2 in
+      rw (header-cut (at-args .setting) (at-args .file .now) (at-if3 .taken) (omega (arith, at-stated-count .ensures, at-if2 .taken))) at ((c .before .before .before .before .give-tables) .ensures)
 
   give-many-requires : give-tables-lts.Need-give-many-requires (claims t) (give-tables-at t) give-tables.Post
   give-many-requires c κs = search needs

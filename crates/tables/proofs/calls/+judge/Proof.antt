@@ -41,13 +41,20 @@ module _ (t : ℕ) where
   returns c = search needs
 
   slice-aggregate-judge : judge-lts.Need-slice-aggregate-judge (claims t) (judge-at t) judge.Post
-  slice-aggregate-judge c = sym (length-take-le 2 ((c .before .before .before .before .before .before .args) .file .now) (omega (arith, (c .before .if3) .taken)))
+  slice-aggregate-judge c =
+      let at-args = c .before .before .before .before .before .before .args in
+      sym (length-take-le 2 (at-args .file .now) (omega (arith, (c .before .if3) .taken)))
 
   judge-requires : judge-lts.Need-judge-requires (claims t) (judge-at t) judge.Post
-  judge-requires c κs = (omega (arith, (c .before .before .before .before .before .before .pre) .0, (c .before .if3) .taken, length-take-le 2 ((c .before .before .before .before .before .before .args) .file .now) (omega (arith, (c .before .if3) .taken))), tt)
+  judge-requires c κs =
+      let at-pre = c .before .before .before .before .before .before .pre in
+      let at-args = c .before .before .before .before .before .before .args in
+      (omega (arith, at-pre .0, (c .before .if3) .taken, length-take-le 2 (at-args .file .now) (omega (arith, (c .before .if3) .taken))), tt)
 
   returns-2 : judge-lts.Need-returns-2 (claims t) (judge-at t) judge.Post
-  returns-2 c = rw (header-cut ((c .before .before .before .before .before .before .before .args) .setting) ((c .before .before .before .before .before .before .before .args) .file .now) ((c .before .before .if3) .taken) (omega (arith, (c .before .before .before .before .before .stated-count) .ensures, (c .before .before .before .if2) .taken))) at ((c .judge) .ensures)
+  returns-2 c =
+      let at-args = c .before .before .before .before .before .before .before .args in
+      rw (header-cut (at-args .setting) (at-args .file .now) ((c .before .before .if3) .taken) (omega (arith, (c .before .before .before .before .before .stated-count) .ensures, (c .before .before .before .if2) .taken))) at ((c .judge) .ensures)
 
   judge-many-requires : judge-lts.Need-judge-many-requires (claims t) (judge-at t) judge.Post
   judge-many-requires c κs = search needs

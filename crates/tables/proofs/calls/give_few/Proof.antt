@@ -22,9 +22,10 @@ slice-aggregate-give-in-3 c = search needs
 
 give-in-requires : tie.Need-give-in-requires
 give-in-requires c κs =
+    let at-stated-count = c .before .before .before .before .before .before .stated-count in
     let a = c .before .before .before .before .before .before .before .before .before .before .args in
     let f = a .file .now in
-    file-room (a .setting) 2 f _ _ _ (λ d e. omega (arith, stated-expanders (a .setting) f d e, (c .before .before .before .before .before .before .stated-count) .ensures))
+    file-room (a .setting) 2 f _ _ _ (λ d e. omega (arith, stated-expanders (a .setting) f d e, at-stated-count .ensures))
     (omega (arith, length-replicate {A = ℕ} 516 0)) (omega (arith, length-replicate {A = ℕ} 320 0)) (omega (arith, length-replicate {A = ℕ} 256 0))
 
 same-length : tie.Need-same-length
@@ -44,9 +45,10 @@ slice-aggregate-give-in-6 c = search needs
 
 give-in-requires-2 : tie.Need-give-in-requires-2
 give-in-requires-2 c κs =
+    let at-pre = c .before .before .before .before .before .before .before .before .before .before .pre in
     let a = c .before .before .before .before .before .before .before .before .before .before .args in
     let f = a .file .now in
-    file-room (a .setting) 8 f _ _ _ (λ d e. omega (arith, stated-expanders (a .setting) f d e, (c .before .before .before .before .before .before .before .before .before .before .pre)))
+    file-room (a .setting) 8 f _ _ _ (λ d e. omega (arith, stated-expanders (a .setting) f d e, at-pre))
     (omega (arith, length-replicate {A = ℕ} 2064 0)) (omega (arith, length-replicate {A = ℕ} 1088 0)) (omega (arith, length-replicate {A = ℕ} 1024 0))
 
 same-length-2 : tie.Need-same-length-2

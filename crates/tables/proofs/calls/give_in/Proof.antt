@@ -24,12 +24,15 @@ mul-e : tie.Need-mul-e
 mul-e c = search needs
 
 slice-reshare-prefix-give-rows : tie.Need-slice-reshare-prefix-give-rows
-slice-reshare-prefix-give-rows c = opened-fits _ _ _ _ _ _ ((c .before .before .before .before .before .before .before .before .before .before .before .before .before .pre) .rows) ((c .before .before .before .before .before .read-domain) .ensures) ((c .before .read2) .given .1) ((c .before .before .before .before .before .read-domain) .kept .1 .1 .0)
+slice-reshare-prefix-give-rows c =
+    let at-pre = c .before .before .before .before .before .before .before .before .before .before .before .before .before .pre in
+    opened-fits _ _ _ _ _ _ (at-pre .rows) ((c .before .before .before .before .before .read-domain) .ensures) ((c .before .read2) .given .1) ((c .before .before .before .before .before .read-domain) .kept .1 .1 .0)
 
 slice-aggregate-give-rows : tie.Need-slice-aggregate-give-rows
 slice-aggregate-give-rows c =
+    let at-pre = c .before .before .before .before .before .before .before .before .before .before .before .before .before .before .pre in
     let r = (c .before .before .before .before .before .before .read-domain) in
-    sym (length-take-le _ (r .last .1 .1 .0) (opened-fits _ _ _ _ _ _ ((c .before .before .before .before .before .before .before .before .before .before .before .before .before .before .pre) .rows) (r .ensures) ((c .before .before .read2) .given .1) (r .kept .1 .1 .0)))
+    sym (length-take-le _ (r .last .1 .1 .0) (opened-fits _ _ _ _ _ _ (at-pre .rows) (r .ensures) ((c .before .before .read2) .given .1) (r .kept .1 .1 .0)))
 
 give-rows-requires : tie.Need-give-rows-requires
 give-rows-requires c κs = search needs
@@ -38,7 +41,9 @@ same-length : tie.Need-same-length
 same-length c = search needs
 
 returns : tie.Need-returns
-returns c = call-refused _ _ _ _ (opened-as _ _ _ _ _ _ ((c .before .before .before .before .before .before .before .before .before .before .before .before .before .pre) .rows) ((c .before .before .before .before .before .read-domain) .ensures) ((c .before .read) .given .1))
+returns c =
+    let at-pre = c .before .before .before .before .before .before .before .before .before .before .before .before .before .pre in
+    call-refused _ _ _ _ (opened-as _ _ _ _ _ _ (at-pre .rows) ((c .before .before .before .before .before .read-domain) .ensures) ((c .before .read) .given .1))
 
 same-length-2 : tie.Need-same-length-2
 same-length-2 c = search needs
@@ -54,8 +59,12 @@ same-length-5 c = search needs
 
 returns-2 : tie.Need-returns-2
 returns-2 c =
-    let o = opened-as _ _ _ _ _ _ ((c .before .before .before .before .before .before .before .before .before .before .before .before .before .before .before .before .before .before .before .before .before .before .before .before .before .before .before .pre) .rows) ((c .before .before .before .before .before .before .before .before .before .before .before .before .before .before .before .before .before .before .before .read-domain) .ensures) ((c .before .before .before .before .before .before .before .before .before .before .before .before .before .before .before .read2) .given .1) in
-    call-done _ _ _ _ _ _ _ (o .0) (judged-own _ _ _ _ _ (o .0) ((c .before .before .before .before .before .before .before .before .before .before .before .before .before .before .before .before .before .before .before .before .before .before .before .before .before .before .before .pre) .index _ (o .0))) ((c .before .before .before .before .before .before .before .before .give-rows) .ensures .0)
+    let at-pre = c .before .before .before .before .before .before .before .before .before .before .before .before .before .before .before .before .before .before .before .before .before .before .before .before .before .before .before .pre in
+    let at-read-domain = c .before .before .before .before .before .before .before .before .before .before .before .before .before .before .before .before .before .before .before .read-domain in
+    let at-read2 = c .before .before .before .before .before .before .before .before .before .before .before .before .before .before .before .read2 in
+    let at-give-rows = c .before .before .before .before .before .before .before .before .give-rows in
+    let o = opened-as _ _ _ _ _ _ (at-pre .rows) (at-read-domain .ensures) (at-read2 .given .1) in
+    call-done _ _ _ _ _ _ _ (o .0) (judged-own _ _ _ _ _ (o .0) (at-pre .index _ (o .0))) (at-give-rows .ensures .0)
 
 same-length-6 : tie.Need-same-length-6
 same-length-6 c = search needs

@@ -30,10 +30,11 @@ same-length-2 : tie.Need-same-length-2
 same-length-2 c = search needs
 
 returns : tie.Need-returns
-returns c = (
-  own-few _ _ _ (sym (c .before .before .before .before .before .before .before .before .before .judge-rows .ensures .0) ∙ ap (checkAnswer _) (c .before .before .before .enum-told .given .1)) (omega (arith, c .before .before .needed-words .ensures .0)) _ (c .refuse .ensures),
-  c .before .before .before .before .before .before .before .before .before .judge-rows .ensures .1,
-)
+returns c =
+    let at-judge-rows = c .before .before .before .before .before .before .before .before .before .judge-rows in (
+      own-few _ _ _ (sym (at-judge-rows .ensures .0) ∙ ap (checkAnswer _) (c .before .before .before .enum-told .given .1)) (omega (arith, c .before .before .needed-words .ensures .0)) _ (c .refuse .ensures),
+      at-judge-rows .ensures .1,
+    )
 
 bytes-for-requires : tie.Need-bytes-for-requires
 bytes-for-requires c κs = search needs
@@ -48,19 +49,23 @@ same-length-4 : tie.Need-same-length-4
 same-length-4 c = search needs
 
 returns-2 : tie.Need-returns-2
-returns-2 c = (
-  own-few-bits _ _ _ (sym (c .before .before .before .before .before .before .before .before .before .before .before .judge-rows .ensures .0) ∙ ap (checkAnswer _) (c .before .before .before .before .before .enum-told .given .1)) (omega (arith, c .before .before .before .before .needed-words .ensures .0))
-      (omega (arith, c .before .before .before .before .needed-words .ensures .0, c .before .before .bytes-for .ensures)) _ (c .refuse2 .ensures),
-  c .before .before .before .before .before .before .before .before .before .before .before .judge-rows .ensures .1,
-)
+returns-2 c =
+    let at-judge-rows = c .before .before .before .before .before .before .before .before .before .before .before .judge-rows in (
+      own-few-bits _ _ _ (sym (at-judge-rows .ensures .0) ∙ ap (checkAnswer _) (c .before .before .before .before .before .enum-told .given .1)) (omega (arith, c .before .before .before .before .needed-words .ensures .0))
+          (omega (arith, c .before .before .before .before .needed-words .ensures .0, c .before .before .bytes-for .ensures)) _ (c .refuse2 .ensures),
+      at-judge-rows .ensures .1,
+    )
 
 table-count-requires : tie.Need-table-count-requires
 table-count-requires c κs = search needs
 
 put-all-requires : tie.Need-put-all-requires
 put-all-requires c κs =
-    let v = sym (c .before .before .before .before .before .before .before .before .before .before .before .before .before .before .judge-rows .ensures .0) ∙ ap (checkAnswer _) (c .before .before .before .before .before .before .before .before .enum-told .given .1) in
-    (c .before .before .before .before .before .before .before .before .before .before .before .before .before .before .judge-rows .ensures .1 .written (judged-room _ _ _ _ _ v) .index, (fillable _ _ _ _ v, omega (arith, c .before .before .before .before .before .before .before .needed-words .ensures .0)))
+    let at-judge-rows = c .before .before .before .before .before .before .before .before .before .before .before .before .before .before .judge-rows in
+    let at-enum-told = c .before .before .before .before .before .before .before .before .enum-told in
+    let at-needed-words = c .before .before .before .before .before .before .before .needed-words in
+    let v = sym (at-judge-rows .ensures .0) ∙ ap (checkAnswer _) (at-enum-told .given .1) in
+    (at-judge-rows .ensures .1 .written (judged-room _ _ _ _ _ v) .index, (fillable _ _ _ _ v, omega (arith, at-needed-words .ensures .0)))
 
 slice-reshare-prefix-mark-zeros : tie.Need-slice-reshare-prefix-mark-zeros
 slice-reshare-prefix-mark-zeros c = omega (arith, c .before .before .put-all .kept .1 .1 .1 .0)
@@ -84,7 +89,9 @@ same-length-6 : tie.Need-same-length-6
 same-length-6 c = search needs
 
 returns-3 : tie.Need-returns-3
-returns-3 c = (own-refused _ _ _ _ (sym (c .before .before .before .before .before .before .before .judge-rows .ensures .0) ∙ ap (checkAnswer _) (c .before .verdict .given .1)), c .before .before .before .before .before .before .before .judge-rows .ensures .1)
+returns-3 c =
+    let at-judge-rows = c .before .before .before .before .before .before .before .judge-rows in
+    (own-refused _ _ _ _ (sym (at-judge-rows .ensures .0) ∙ ap (checkAnswer _) (c .before .verdict .given .1)), at-judge-rows .ensures .1)
 
 same-length-7 : tie.Need-same-length-7
 same-length-7 c = search needs
@@ -99,12 +106,18 @@ same-length-10 : tie.Need-same-length-10
 same-length-10 c = search needs
 
 returns-4 : tie.Need-returns-4
-returns-4 c = (
-  own-done _ _ _ (sym (c .before .before .before .before .before .before .before .before .before .before .before .before .before .before .before .before .before .before .before .before .before .before .judge-rows .ensures .0) ∙ ap (checkAnswer _) (c .before .before .before .before .before .before .before .before .before .before .before .before .before .before .before .before .enum-told .given .1)) _ _ _ _
-      (record { words = omega (arith, c .before .before .before .before .before .before .before .before .before .before .before .before .before .before .before .needed-words .ensures .0); bits = omega (arith, c .before .before .before .before .before .before .before .before .before .before .before .before .before .before .before .needed-words .ensures .0, c .before .before .before .before .before .before .before .before .before .before .before .before .before .bytes-for .ensures) })
-      (c .before .before .before .before .before .before .before .before .before .before .before .table-count .ensures .0) (c .before .before .before .before .before .before .before .before .before .before .before .before .before .before .before .needed-words .ensures .0) (c .before .before .before .before .before .before .before .put-all .ensures) (c .before .before .mark-zeros .ensures),
-  c .before .before .before .before .before .before .before .before .before .before .before .before .before .before .before .before .before .before .before .before .before .before .judge-rows .ensures .1,
-)
+returns-4 c =
+    let at-judge-rows = c .before .before .before .before .before .before .before .before .before .before .before .before .before .before .before .before .before .before .before .before .before .before .judge-rows in
+    let at-enum-told = c .before .before .before .before .before .before .before .before .before .before .before .before .before .before .before .before .enum-told in
+    let at-needed-words = c .before .before .before .before .before .before .before .before .before .before .before .before .before .before .before .needed-words in
+    let at-bytes-for = c .before .before .before .before .before .before .before .before .before .before .before .before .before .bytes-for in
+    let at-table-count = c .before .before .before .before .before .before .before .before .before .before .before .table-count in
+    let at-put-all = c .before .before .before .before .before .before .before .put-all in (
+      own-done _ _ _ (sym (at-judge-rows .ensures .0) ∙ ap (checkAnswer _) (at-enum-told .given .1)) _ _ _ _
+          (record { words = omega (arith, at-needed-words .ensures .0); bits = omega (arith, at-needed-words .ensures .0, at-bytes-for .ensures) })
+          (at-table-count .ensures .0) (at-needed-words .ensures .0) (at-put-all .ensures) (c .before .before .mark-zeros .ensures),
+      at-judge-rows .ensures .1,
+    )
 
 pub give-rows-spec : {M : Type 1} → statement M
 give-rows-spec = tie.close (tie.spec judge-rows-requires enum-known-verdict enum-told needed-words-requires refuse-requires same-length same-length-2 returns bytes-for-requires refuse-requires-2 same-length-3 same-length-4 returns-2 table-count-requires put-all-requires slice-reshare-prefix-mark-zeros slice-aggregate-mark-zeros mark-zeros-requires cast-t30 cast-t31 same-length-5 same-length-6 returns-3 same-length-7 same-length-8 same-length-9 same-length-10 returns-4)

@@ -26,12 +26,15 @@ mul-e : tie.Need-mul-e
 mul-e c = search needs
 
 slice-reshare-prefix-judge-rows : tie.Need-slice-reshare-prefix-judge-rows
-slice-reshare-prefix-judge-rows c = opened-fits _ _ _ _ _ _ ((c .before .before .before .before .before .before .before .before .before .before .before .pre) .rows) ((c .before .before .before .before .before .read-domain) .ensures) ((c .before .read2) .given .1) ((c .before .before .before .before .before .read-domain) .kept .1 .1 .0)
+slice-reshare-prefix-judge-rows c =
+    let at-pre = c .before .before .before .before .before .before .before .before .before .before .before .pre in
+    opened-fits _ _ _ _ _ _ (at-pre .rows) ((c .before .before .before .before .before .read-domain) .ensures) ((c .before .read2) .given .1) ((c .before .before .before .before .before .read-domain) .kept .1 .1 .0)
 
 slice-aggregate-judge-rows : tie.Need-slice-aggregate-judge-rows
 slice-aggregate-judge-rows c =
+    let at-pre = c .before .before .before .before .before .before .before .before .before .before .before .before .pre in
     let r = (c .before .before .before .before .before .before .read-domain) in
-    sym (length-take-le _ (r .last .1 .1 .0) (opened-fits _ _ _ _ _ _ ((c .before .before .before .before .before .before .before .before .before .before .before .before .pre) .rows) (r .ensures) ((c .before .before .read2) .given .1) (r .kept .1 .1 .0)))
+    sym (length-take-le _ (r .last .1 .1 .0) (opened-fits _ _ _ _ _ _ (at-pre .rows) (r .ensures) ((c .before .before .read2) .given .1) (r .kept .1 .1 .0)))
 
 judge-rows-requires : tie.Need-judge-rows-requires
 judge-rows-requires c κs = search needs
@@ -46,7 +49,9 @@ same-length : tie.Need-same-length
 same-length c = search needs
 
 returns : tie.Need-returns
-returns c = judge-refused _ _ _ (opened-as _ _ _ _ _ _ ((c .before .before .before .before .before .before .before .before .before .before .before .pre) .rows) ((c .before .before .before .before .before .read-domain) .ensures) ((c .before .read) .given .1))
+returns c =
+    let at-pre = c .before .before .before .before .before .before .before .before .before .before .before .pre in
+    judge-refused _ _ _ (opened-as _ _ _ _ _ _ (at-pre .rows) ((c .before .before .before .before .before .read-domain) .ensures) ((c .before .read) .given .1))
 
 same-length-2 : tie.Need-same-length-2
 same-length-2 c = search needs
@@ -59,8 +64,12 @@ same-length-4 c = search needs
 
 returns-2 : tie.Need-returns-2
 returns-2 c =
-    let o = opened-as _ _ _ _ _ _ ((c .before .before .before .before .before .before .before .before .before .before .before .before .before .before .before .before .before .before .before .before .before .before .pre) .rows) ((c .before .before .before .before .before .before .before .before .before .before .before .before .before .before .before .before .read-domain) .ensures) ((c .before .before .before .before .before .before .before .before .before .before .before .before .read2) .given .1) in
-    judge-by _ _ _ _ (o .0) (sym (judged-own _ _ _ _ _ (o .0) ((c .before .before .before .before .before .before .before .before .before .before .before .before .before .before .before .before .before .before .before .before .before .before .pre) .index _ (o .0))) ∙ sym ((c .before .before .before .before .before .before .before .judge-rows) .ensures .0) ∙ ap (checkAnswer _) ((c .before .verdict) .given .1))
+    let at-pre = c .before .before .before .before .before .before .before .before .before .before .before .before .before .before .before .before .before .before .before .before .before .before .pre in
+    let at-read-domain = c .before .before .before .before .before .before .before .before .before .before .before .before .before .before .before .before .read-domain in
+    let at-read2 = c .before .before .before .before .before .before .before .before .before .before .before .before .read2 in
+    let at-judge-rows = c .before .before .before .before .before .before .before .judge-rows in
+    let o = opened-as _ _ _ _ _ _ (at-pre .rows) (at-read-domain .ensures) (at-read2 .given .1) in
+    judge-by _ _ _ _ (o .0) (sym (judged-own _ _ _ _ _ (o .0) (at-pre .index _ (o .0))) ∙ sym (at-judge-rows .ensures .0) ∙ ap (checkAnswer _) ((c .before .verdict) .given .1))
 
 same-length-5 : tie.Need-same-length-5
 same-length-5 c = search needs
@@ -73,8 +82,12 @@ same-length-7 c = search needs
 
 returns-3 : tie.Need-returns-3
 returns-3 c =
-    let o = opened-as _ _ _ _ _ _ ((c .before .before .before .before .before .before .before .before .before .before .before .before .before .before .before .before .before .before .before .before .before .pre) .rows) ((c .before .before .before .before .before .before .before .before .before .before .before .before .before .before .before .read-domain) .ensures) ((c .before .before .before .before .before .before .before .before .before .before .before .read2) .given .1) in
-    ap good (o .1 .1) ∙ judge-by _ _ _ _ (o .0) (sym (judged-own _ _ _ _ _ (o .0) ((c .before .before .before .before .before .before .before .before .before .before .before .before .before .before .before .before .before .before .before .before .before .pre) .index _ (o .0))) ∙ sym ((c .before .before .before .before .before .before .judge-rows) .ensures .0) ∙ ap (checkAnswer _) ((c .enum-told) .given .1))
+    let at-pre = c .before .before .before .before .before .before .before .before .before .before .before .before .before .before .before .before .before .before .before .before .before .pre in
+    let at-read-domain = c .before .before .before .before .before .before .before .before .before .before .before .before .before .before .before .read-domain in
+    let at-read2 = c .before .before .before .before .before .before .before .before .before .before .before .read2 in
+    let at-judge-rows = c .before .before .before .before .before .before .judge-rows in
+    let o = opened-as _ _ _ _ _ _ (at-pre .rows) (at-read-domain .ensures) (at-read2 .given .1) in
+    ap good (o .1 .1) ∙ judge-by _ _ _ _ (o .0) (sym (judged-own _ _ _ _ _ (o .0) (at-pre .index _ (o .0))) ∙ sym (at-judge-rows .ensures .0) ∙ ap (checkAnswer _) ((c .enum-told) .given .1))
 
 pub judge-in-spec : {M : Type 1} → statement M
 judge-in-spec = tie.close (tie.spec read-domain-requires enum-known-read enum-known-read-2 cast-e mul-e slice-reshare-prefix-judge-rows slice-aggregate-judge-rows judge-rows-requires enum-known-verdict enum-told same-length returns same-length-2 same-length-3 same-length-4 returns-2 same-length-5 same-length-6 same-length-7 returns-3)

@@ -73,9 +73,10 @@ part-copy-words-end c =
 
 copy-words-requires : tie.Need-copy-words-requires
 copy-words-requires c κs =
+    let at-expander-count = c .before .before .before .before .before .before .expander-count in
     let s = c .before .before .before .before .before .before .before .before .before .before in
     let a = s .args in
-    let e = c .before .before .before .before .before .before .expander-count .ensures .0 in
+    let e = at-expander-count .ensures .0 in
     omega (arith, ap length (part-own (domainIn (a .rows .now)) (a .lists .now) (s .pre .0) (a .i .0) (omega arith)))
 
 same-length : tie.Need-same-length
@@ -83,9 +84,10 @@ same-length c = search needs
 
 returns-2 : tie.Need-returns-2
 returns-2 c =
+    let at-expander-count = c .before .before .before .before .before .before .before .before .before .expander-count in
     let s = c .before .before .before .before .before .before .before .before .before .before .before .before .before in
     let a = s .args in
-    let e = c .before .before .before .before .before .before .before .before .before .expander-count .ensures .0 in
+    let e = at-expander-count .ensures .0 in
     grown-same (c .before .before .copy-words .ensures) (ap (λ (m : List ℕ). take (a .n) (a .part .now) ++ m)
     (part-own (domainIn (a .rows .now)) (a .lists .now) (s .pre .0) (a .i .0) (omega arith)))
 

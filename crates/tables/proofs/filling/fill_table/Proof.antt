@@ -16,7 +16,11 @@ same-length : tie.Need-same-length
 same-length c = search needs
 
 returns : tie.Need-returns
-returns c = order-filled (domainIn ((c .before .before .before .before .before .before .before .before .before .before .before .before .args) .rows .now)) ((c .before .before .before .before .before .before .before .before .before .before .before .before .args) .x .0) ((c .before .before .before .before .before .before .before .before .before .before .before .before .args) .p .0) (c .before .before .before .before .before .before .before .before .before .before .before .before .pre) ((c .before .before .before .before .before .before .copy-lists) .ensures) ((c .before .before .clear-from) .ensures) refl
+returns c =
+    let at-args = c .before .before .before .before .before .before .before .before .before .before .before .before .args in
+    let at-pre = c .before .before .before .before .before .before .before .before .before .before .before .before .pre in
+    let at-copy-lists = c .before .before .before .before .before .before .copy-lists in
+    order-filled (domainIn (at-args .rows .now)) (at-args .x .0) (at-args .p .0) at-pre (at-copy-lists .ensures) ((c .before .before .clear-from) .ensures) refl
 
 pub fill-table-spec : {M : Type 1} → statement M
 fill-table-spec = tie.close (tie.spec copy-lists-requires clear-from-requires same-length returns)

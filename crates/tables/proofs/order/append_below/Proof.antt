@@ -88,8 +88,9 @@ part-append-numbers-end c =
 
 append-numbers-requires : tie.Need-append-numbers-requires
 append-numbers-requires c κs =
+    let at-expander-count = c .before .before .before .before .before .before .expander-count in
     let s = c .before .before .before .before .before .before .before .before .before .before in
-    let e = c .before .before .before .before .before .before .expander-count .ensures .0 in
+    let e = at-expander-count .ensures .0 in
     let a = s .args in
     let r = reads (domainIn (a .rows .now)) (a .below .now) (s .pre .0) (domain-few (a .rows .now)) (a .i .0) (omega arith) in
     omega (arith, ap length (r .list), r .few, s .pre .1)
@@ -99,8 +100,9 @@ same-length c = search needs
 
 returns-2 : tie.Need-returns-2
 returns-2 c =
+    let at-expander-count = c .before .before .before .before .before .before .before .before .before .expander-count in
     let s = c .before .before .before .before .before .before .before .before .before .before .before .before .before in
-    let e = c .before .before .before .before .before .before .before .before .before .expander-count .ensures .0 in
+    let e = at-expander-count .ensures .0 in
     let a = s .args in
     let r = reads (domainIn (a .rows .now)) (a .below .now) (s .pre .0) (domain-few (a .rows .now)) (a .i .0) (omega arith) in
     grown-same (c .before .before .append-numbers .ensures) (ap (λ (l : List ℕ). take (a .m) (a .order .now) ++ l) (r .list))

@@ -33,12 +33,13 @@ same-length c = search needs
 
 returns-2 : tie.Need-returns-2
 returns-2 c =
+    let at-pre = c .before .before .before .before .before .before .pre in
     let a = (c .before .before .before .before .before .before .args) in
     let d : Domain = domainIn (a .rows .now) in
     let down = sym ((c .before .before .is-down) .ensures) ∙ not-false _ ((c .before .if1) .left) in
     let n = (c .far-number) in
-    let j : n .result .0 ≡ numberOf d (addressOf (a .f)) = n .ensures ∙ far-down (a .rows .now) (a .first .now) (a .i .0) (a .p .0) (a .f) ((c .before .before .before .before .before .before .pre) .0) down in
-    grown-more 0 (a .level .now) (n .result .0) (below-one d (a .f) down ∙ ap (λ (v : ℕ). v ∷ []) (sym j)) (omega (arith, (c .before .before .before .before .before .before .pre) .1))
+    let j : n .result .0 ≡ numberOf d (addressOf (a .f)) = n .ensures ∙ far-down (a .rows .now) (a .first .now) (a .i .0) (a .p .0) (a .f) (at-pre .0) down in
+    grown-more 0 (a .level .now) (n .result .0) (below-one d (a .f) down ∙ ap (λ (v : ℕ). v ∷ []) (sym j)) (omega (arith, at-pre .1))
 
 pub first-level-spec : {M : Type 1} → statement M
 first-level-spec = tie.close (tie.spec is-down-requires returns far-number-requires slice-write-level same-length returns-2)

@@ -22,14 +22,20 @@ returns c =
 
 are-one-link-requires : tie.Need-are-one-link-requires
 are-one-link-requires c κs =
-    let pre = (c .before .before .before .before .before .before .pre) .0 in
+    let at-pre = c .before .before .before .before .before .before .pre in
+    let pre = at-pre .0 in
     (pre .0, record { index = pre .0 .index; phy = pre .1 })
 
 returns-2 : tie.Need-returns-2
-returns-2 c = grown-same ((c .before .before .before .before .before .before .before .before .pre) .1 .1 .1) (sym (order-linked (domainIn ((c .before .before .before .before .before .before .before .before .args) .rows .now)) ((c .before .before .before .before .before .before .before .before .args) .f) ((c .before .before .before .before .before .before .before .before .args) .g) (was-true _ (sym ((c .before .are-one-link) .ensures) ∙ (c .if2) .taken))))
+returns-2 c =
+    let at-pre = c .before .before .before .before .before .before .before .before .pre in
+    let at-args = c .before .before .before .before .before .before .before .before .args in
+    grown-same (at-pre .1 .1 .1) (sym (order-linked (domainIn (at-args .rows .now)) (at-args .f) (at-args .g) (was-true _ (sym ((c .before .are-one-link) .ensures) ∙ (c .if2) .taken))))
 
 put-order-requires : tie.Need-put-order-requires
-put-order-requires c κs = ((c .before .before .before .before .before .before .before .before .before .pre) .0 .0, ((c .before .before .before .before .before .before .before .before .before .pre) .1 .0, (c .before .before .before .before .before .before .before .before .before .pre) .1 .1 .0))
+put-order-requires c κs =
+    let at-pre = c .before .before .before .before .before .before .before .before .before .pre in
+    (at-pre .0 .0, (at-pre .1 .0, at-pre .1 .1 .0))
 
 same-length : tie.Need-same-length
 same-length c = search needs

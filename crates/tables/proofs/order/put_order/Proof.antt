@@ -26,7 +26,9 @@ cast-turns : tie.Need-cast-turns Inv-loop μ-loop
 cast-turns c = search needs
 
 first-level-requires : tie.Need-first-level-requires Inv-loop μ-loop
-first-level-requires c κs = ((c .before .before .before .before .before .before .pre) .0, omega (arith, (c .before .before .before .before .before .before .pre) .1 .1))
+first-level-requires c κs =
+    let at-pre = c .before .before .before .before .before .before .pre in
+    (at-pre .0, omega (arith, at-pre .1 .1))
 
 loop-holds : tie.Need-loop-holds Inv-loop μ-loop
 loop-holds c =
@@ -39,20 +41,24 @@ same-length c = search needs
 
 returns : tie.Need-returns Inv-loop μ-loop
 returns c =
+    let at-expander-count = c .before .before .before .before .before .before .before .expander-count in
     let l = (c .before .before .loop) in
     let g = (c .before .before .before .before .before .first-level) .ensures in
     let a = (c .before .before .before .before .before .before .before .before .before .before .before .before .args) in
     let d : Domain = domainIn (a .rows .now) in
-    record { same = l .inv .1 .0 ∙ g .same; fits = omega (arith, l .inv .1 .0, g .same, l .inv .1 .1 .fits); whole = order-by d (a .f) (queue-stop d (l .inv .1 .1) (omega arith)) ((c .before .before .before .before .before .before .before .expander-count) .ensures .0) (g .whole) }
+    record { same = l .inv .1 .0 ∙ g .same; fits = omega (arith, l .inv .1 .0, g .same, l .inv .1 .1 .fits); whole = order-by d (a .f) (queue-stop d (l .inv .1 .1) (omega arith)) (at-expander-count .ensures .0) (g .whole) }
 
 slice-read-t16 : tie.Need-slice-read-t16 Inv-loop μ-loop
 slice-read-t16 c = omega (arith, (c .before .before .before .loop) .inv .1 .1 .fits)
 
 append-below-requires : tie.Need-append-below-requires Inv-loop μ-loop
 append-below-requires c κs =
+    let at-first-level = c .before .before .before .before .before .before .before .first-level in
+    let at-pre = c .before .before .before .before .before .before .before .before .before .before .before .before .before .before .pre in
+    let at-expander-count = c .before .before .before .before .before .before .before .before .before .expander-count in
     let l = (c .before .before .before .before .loop) in
-    let g = (c .before .before .before .before .before .before .before .first-level) .ensures in
-    ((c .before .before .before .before .before .before .before .before .before .before .before .before .before .before .pre) .1 .0, omega (arith, (c .before .before .before .before .before .before .before .before .before .before .before .before .before .before .pre) .1 .1, g .same, l .inv .1 .0, l .inv .1 .1 .few, (c .before .before .before .before .before .before .before .before .before .expander-count) .ensures .0, (c .before .before .before .before .before .before .before .before .before .expander-count) .ensures .1))
+    let g = at-first-level .ensures in
+    (at-pre .1 .0, omega (arith, at-pre .1 .1, g .same, l .inv .1 .0, l .inv .1 .1 .few, at-expander-count .ensures .0, at-expander-count .ensures .1))
 
 add-k : tie.Need-add-k Inv-loop μ-loop
 add-k c = omega arith
@@ -72,11 +78,12 @@ same-length-2 c = search needs
 
 returns-2 : tie.Need-returns-2 Inv-loop μ-loop
 returns-2 c =
+    let at-expander-count = c .before .before .before .before .before .before .expander-count in
     let l = (c .before .loop) in
     let g = (c .before .before .before .before .first-level) .ensures in
     let a = (c .before .before .before .before .before .before .before .before .before .before .before .args) in
     let d : Domain = domainIn (a .rows .now) in
-    record { same = l .inv .1 .0 ∙ g .same; fits = omega (arith, l .inv .1 .0, g .same, l .inv .1 .1 .fits); whole = order-by d (a .f) (queue-end d (l .inv .1 .1) (omega arith)) ((c .before .before .before .before .before .before .expander-count) .ensures .0) (g .whole) }
+    record { same = l .inv .1 .0 ∙ g .same; fits = omega (arith, l .inv .1 .0, g .same, l .inv .1 .1 .fits); whole = order-by d (a .f) (queue-end d (l .inv .1 .1) (omega arith)) (at-expander-count .ensures .0) (g .whole) }
 
 pub put-order-spec : {M : Type 1} → statement M
 put-order-spec = tie.close (tie.spec Inv-loop μ-loop expander-count-requires cast-turns first-level-requires loop-holds same-length returns slice-read-t16 append-below-requires add-k loop-less loop-again same-length-2 returns-2)

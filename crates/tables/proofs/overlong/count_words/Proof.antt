@@ -27,11 +27,14 @@ shared-slice-read-t10 : tie.Need-shared-slice-read-t10 Inv-loop μ-loop
 shared-slice-read-t10 c = omega arith
 
 own-count-requires : tie.Need-own-count-requires Inv-loop μ-loop
-own-count-requires c κs = c .before .before .before .before .before .before .pre .0
+own-count-requires c κs =
+    let at-pre = c .before .before .before .before .before .before .pre in
+    at-pre .0
 
 add-sum : tie.Need-add-sum Inv-loop μ-loop
 add-sum c =
-    let n = c .before .before .before .before .before .before .before .pre .1 in
+    let at-pre = c .before .before .before .before .before .before .before .pre in
+    let n = at-pre .1 in
     let r = c .own-count .ensures .1 in
     omega arith
 

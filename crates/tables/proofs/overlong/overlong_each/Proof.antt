@@ -24,16 +24,23 @@ loop-holds : tie.Need-loop-holds Inv-loop μ-loop
 loop-holds c = (omega arith, (refl, refl))
 
 overlong-phy-requires : tie.Need-overlong-phy-requires Inv-loop μ-loop
-overlong-phy-requires c κs = ((c .before .before .before .before .before .before .before .before .before .before .pre) .0, ((c .before .before .before .before .before .before .before .before .before .before .pre) .1 .0, ((c .before .before .before .before .before .before .before .before .before .before .pre) .1 .1 .0, (omega (arith, (c .before .before .loop) .inv .1 .0, (c .before .before .before .before .before .before .before .before .before .before .pre) .1 .1 .1 .0), omega (arith, (c .before .before .loop) .inv .1 .0, (c .before .before .before .before .before .before .before .before .before .before .pre) .1 .1 .1 .1)))))
+overlong-phy-requires c κs =
+    let at-pre = c .before .before .before .before .before .before .before .before .before .before .pre in
+    (at-pre .0, (at-pre .1 .0, (at-pre .1 .1 .0, (omega (arith, (c .before .before .loop) .inv .1 .0, at-pre .1 .1 .1 .0), omega (arith, (c .before .before .loop) .inv .1 .0, at-pre .1 .1 .1 .1)))))
 
 enum-known-r : tie.Need-enum-known-r Inv-loop μ-loop
 enum-known-r c = search needs
 
 same-length : tie.Need-same-length Inv-loop μ-loop
-same-length c = (c .before .before .before .before .before .overlong-phy) .kept .1 .1 .1 .1 .1 .1 .0 ∙ (c .before .before .before .before .before .before .before .before .loop) .inv .1 .0
+same-length c =
+    let at-loop = c .before .before .before .before .before .before .before .before .loop in
+    (c .before .before .before .before .before .overlong-phy) .kept .1 .1 .1 .1 .1 .1 .0 ∙ at-loop .inv .1 .0
 
 returns : tie.Need-returns Inv-loop μ-loop
-returns c = from-next 14 (overOwn (domainIn ((c .before .before .before .before .before .before .before .before .before .before .before .before .before .before .before .before .args) .rows .now))) (domainIn ((c .before .before .before .before .before .before .before .before .before .before .before .before .before .before .before .before .args) .rows .now)) ((c .before .before .before .before .before .before .before .before .loop) .i) ((c .before .before .before .before .before .before .before .before .loop) .inv .1 .1) ((c .before .before .before .before .before .overlong-phy) .ensures) ((c .before .r) .given .1) (omega arith)
+returns c =
+    let at-args = c .before .before .before .before .before .before .before .before .before .before .before .before .before .before .before .before .args in
+    let at-loop = c .before .before .before .before .before .before .before .before .loop in
+    from-next 14 (overOwn (domainIn (at-args .rows .now))) (domainIn (at-args .rows .now)) (at-loop .i) (at-loop .inv .1 .1) ((c .before .before .before .before .before .overlong-phy) .ensures) ((c .before .r) .given .1) (omega arith)
 
 enum-told : tie.Need-enum-told Inv-loop μ-loop
 enum-told c = search needs
@@ -45,13 +52,18 @@ loop-less : tie.Need-loop-less Inv-loop μ-loop
 loop-less c = omega arith
 
 loop-again : tie.Need-loop-again Inv-loop μ-loop
-loop-again c = (omega arith, ((c .before .before .before .before .overlong-phy) .kept .1 .1 .1 .1 .1 .1 .0 ∙ (c .before .before .before .before .before .before .before .loop) .inv .1 .0, from-next 14 (overOwn (domainIn ((c .before .before .before .before .before .before .before .before .before .before .before .before .before .before .before .args) .rows .now))) (domainIn ((c .before .before .before .before .before .before .before .before .before .before .before .before .before .before .before .args) .rows .now)) ((c .before .before .before .before .before .before .before .loop) .i) ((c .before .before .before .before .before .before .before .loop) .inv .1 .1) ((c .before .before .before .before .overlong-phy) .ensures) ((c .enum-told) .given .1) (omega arith)))
+loop-again c =
+    let at-loop = c .before .before .before .before .before .before .before .loop in
+    let at-args = c .before .before .before .before .before .before .before .before .before .before .before .before .before .before .before .args in
+    (omega arith, ((c .before .before .before .before .overlong-phy) .kept .1 .1 .1 .1 .1 .1 .0 ∙ at-loop .inv .1 .0, from-next 14 (overOwn (domainIn (at-args .rows .now))) (domainIn (at-args .rows .now)) (at-loop .i) (at-loop .inv .1 .1) ((c .before .before .before .before .overlong-phy) .ensures) ((c .enum-told) .given .1) (omega arith)))
 
 same-length-2 : tie.Need-same-length-2 Inv-loop μ-loop
 same-length-2 c = (c .before .loop) .inv .1 .0
 
 returns-2 : tie.Need-returns-2 Inv-loop μ-loop
-returns-2 c = from-end 14 (overOwn (domainIn ((c .before .before .before .before .before .before .before .before .before .args) .rows .now))) (domainIn ((c .before .before .before .before .before .before .before .before .before .args) .rows .now)) ((c .before .loop) .i) ((c .before .loop) .inv .1 .1) (omega arith)
+returns-2 c =
+    let at-args = c .before .before .before .before .before .before .before .before .before .args in
+    from-end 14 (overOwn (domainIn (at-args .rows .now))) (domainIn (at-args .rows .now)) ((c .before .loop) .i) ((c .before .loop) .inv .1 .1) (omega arith)
 
 pub overlong-each-spec : {M : Type 1} → statement M
 overlong-each-spec = tie.close (tie.spec Inv-loop μ-loop expander-count-requires loop-holds overlong-phy-requires enum-known-r same-length returns enum-told add-i loop-less loop-again same-length-2 returns-2)

@@ -11,13 +11,18 @@ put-counts-requires : tie.Need-put-counts-requires
 put-counts-requires c κs = search needs
 
 put-below-requires : tie.Need-put-below-requires
-put-below-requires c κs = (fars-known _ _ ((c .before .before .before .before .before .before .before .before .before .pre) .0 .firsts), (c .before .before .before .before .before .before .before .before .before .pre) .1 .0)
+put-below-requires c κs =
+    let at-pre = c .before .before .before .before .before .before .before .before .before .pre in
+    (fars-known _ _ (at-pre .0 .firsts), at-pre .1 .0)
 
 slice-aggregate-overlong-each : tie.Need-slice-aggregate-overlong-each
 slice-aggregate-overlong-each c = search needs
 
 overlong-each-requires : tie.Need-overlong-each-requires
-overlong-each-requires c κs = (fars-known _ _ ((c .before .before .before .before .before .before .before .before .before .before .before .before .before .before .before .pre) .0 .firsts), ((c .before .before .before .before .before .before .before .before .put-counts) .ensures, ((c .before .before .before .before .before .put-below) .ensures, ((c .before .before .before .before .before .before .before .before .before .before .before .before .before .before .before .pre) .1 .1 .0, (c .before .before .before .before .before .before .before .before .before .before .before .before .before .before .before .pre) .1 .1 .1))))
+overlong-each-requires c κs =
+    let at-pre = c .before .before .before .before .before .before .before .before .before .before .before .before .before .before .before .pre in
+    let at-put-counts = c .before .before .before .before .before .before .before .before .put-counts in
+    (fars-known _ _ (at-pre .0 .firsts), (at-put-counts .ensures, ((c .before .before .before .before .before .put-below) .ensures, (at-pre .1 .1 .0, at-pre .1 .1 .1))))
 
 same-length : tie.Need-same-length
 same-length c = search needs

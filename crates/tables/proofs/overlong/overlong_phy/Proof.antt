@@ -38,17 +38,26 @@ phy-below-requires c κs = search needs
 
 lower-phy-requires : tie.Need-lower-phy-requires Inv-loop μ-loop
 lower-phy-requires c κs =
+    let at-pre = c .before .before .before .before .before .before .before .before .before .before .pre in
     let n = (c .before .before .before .phy-count) .ensures .0 in
-    (record { index = (c .before .before .before .before .before .before .before .before .before .before .pre) .0; phy = (c .phy-below) .ensures ∙ phy-held _ _ _ (omega arith) }, omega arith)
+    (record { index = at-pre .0; phy = (c .phy-below) .ensures ∙ phy-held _ _ _ (omega arith) }, omega arith)
 
 is-overlong-requires : tie.Need-is-overlong-requires Inv-loop μ-loop
-is-overlong-requires c κs = ((c .before .before .before .before .before .before .before .before .before .before .before .before .pre) .0, ((c .before .before .before .before .before .before .before .before .before .before .before .before .pre) .1 .0, ((c .before .before .before .before .before .before .before .before .before .before .before .before .pre) .1 .1 .0, ((omega (arith, (c .before .before .before .before .loop) .inv .1 .0, (c .before .before .before .before .before .before .before .before .before .before .before .before .pre) .1 .1 .1 .0), omega (arith, (c .before .before .before .before .loop) .inv .1 .0, (c .before .before .before .before .before .before .before .before .before .before .before .before .pre) .1 .1 .1 .1)), ((c .before .before .phy-below) .ensures ∙ phy-held _ _ _ (omega (arith, (c .before .before .before .before .before .phy-count) .ensures .0)), ((c .before .lower-phy) .ensures, (c .before .before .before .before .loop) .inv .1 .1 .0))))))
+is-overlong-requires c κs =
+    let at-pre = c .before .before .before .before .before .before .before .before .before .before .before .before .pre in
+    (at-pre .0, (at-pre .1 .0, (at-pre .1 .1 .0, ((omega (arith, (c .before .before .before .before .loop) .inv .1 .0, at-pre .1 .1 .1 .0), omega (arith, (c .before .before .before .before .loop) .inv .1 .0, at-pre .1 .1 .1 .1)), ((c .before .before .phy-below) .ensures ∙ phy-held _ _ _ (omega (arith, (c .before .before .before .before .before .phy-count) .ensures .0)), ((c .before .lower-phy) .ensures, (c .before .before .before .before .loop) .inv .1 .1 .0))))))
 
 same-length : tie.Need-same-length Inv-loop μ-loop
-same-length c = (c .before .before .before .is-overlong) .kept .1 .1 .1 .1 .1 .1 .1 .1 .0 ∙ (c .before .before .before .before .before .before .before .before .loop) .inv .1 .0
+same-length c =
+    let at-loop = c .before .before .before .before .before .before .before .before .loop in
+    (c .before .before .before .is-overlong) .kept .1 .1 .1 .1 .1 .1 .1 .1 .0 ∙ at-loop .inv .1 .0
 
 returns : tie.Need-returns Inv-loop μ-loop
-returns c = phy-stop 14 (overOwn (domainIn ((c .before .before .before .before .before .before .before .before .before .before .before .before .before .before .before .before .args) .rows .now))) (domainIn ((c .before .before .before .before .before .before .before .before .before .before .before .before .before .before .before .before .args) .rows .now)) ((c .before .before .before .before .before .before .before .before .before .before .before .before .before .before .before .before .args) .i .0) ((c .before .before .before .before .before .before .before .before .before .phy-count) .result) ((c .before .before .before .before .before .before .before .before .loop) .p) ((c .before .before .before .before .before .before .before .before .loop) .inv .1 .1 .1) (sym ((c .before .before .before .is-overlong) .ensures) ∙ (c .if1) .taken) (omega arith)
+returns c =
+    let at-args = c .before .before .before .before .before .before .before .before .before .before .before .before .before .before .before .before .args in
+    let at-phy-count = c .before .before .before .before .before .before .before .before .before .phy-count in
+    let at-loop = c .before .before .before .before .before .before .before .before .loop in
+    phy-stop 14 (overOwn (domainIn (at-args .rows .now))) (domainIn (at-args .rows .now)) (at-args .i .0) (at-phy-count .result) (at-loop .p) (at-loop .inv .1 .1 .1) (sym ((c .before .before .before .is-overlong) .ensures) ∙ (c .if1) .taken) (omega arith)
 
 add-p : tie.Need-add-p Inv-loop μ-loop
 add-p c = omega arith
@@ -58,18 +67,21 @@ loop-less c = omega arith
 
 loop-again : tie.Need-loop-again Inv-loop μ-loop
 loop-again c =
+    let at-phy-count = c .before .before .before .before .before .before .before .before .before .phy-count in
     let a = (c .before .before .before .before .before .before .before .before .before .before .before .before .before .before .before .before .args) in
     let l = (c .before .before .before .before .before .before .before .before .loop) in
     let d : Domain = domainIn (a .rows .now) in
     let o = sym ((c .before .before .before .is-overlong) .ensures) ∙ (c .if1) .left in
-    let v = phy-go 14 (overOwn d) d (a .i .0) ((c .before .before .before .before .before .before .before .before .before .phy-count) .result) (l .p) (l .inv .1 .1 .1) o (omega arith) in
+    let v = phy-go 14 (overOwn d) d (a .i .0) (at-phy-count .result) (l .p) (l .inv .1 .1 .1) o (omega arith) in
     (omega arith, ((c .before .before .before .is-overlong) .kept .1 .1 .1 .1 .1 .1 .1 .1 .0 ∙ l .inv .1 .0, (below-next (λ (k : ℕ). overOwn d (a .i .0) k) (l .p) (l .inv .1 .1 .0) o, v)))
 
 same-length-2 : tie.Need-same-length-2 Inv-loop μ-loop
 same-length-2 c = (c .before .loop) .inv .1 .0
 
 returns-2 : tie.Need-returns-2 Inv-loop μ-loop
-returns-2 c = phy-end 14 (overOwn (domainIn ((c .before .before .before .before .before .before .before .before .before .args) .rows .now))) (domainIn ((c .before .before .before .before .before .before .before .before .before .args) .rows .now)) ((c .before .before .before .before .before .before .before .before .before .args) .i .0) ((c .before .before .phy-count) .result) ((c .before .loop) .p) ((c .before .loop) .inv .1 .1 .1) (omega arith)
+returns-2 c =
+    let at-args = c .before .before .before .before .before .before .before .before .before .args in
+    phy-end 14 (overOwn (domainIn (at-args .rows .now))) (domainIn (at-args .rows .now)) (at-args .i .0) ((c .before .before .phy-count) .result) ((c .before .loop) .p) ((c .before .loop) .inv .1 .1 .1) (omega arith)
 
 pub overlong-phy-spec : {M : Type 1} → statement M
 overlong-phy-spec = tie.close (tie.spec Inv-loop μ-loop phy-count-requires loop-holds phy-below-requires lower-phy-requires is-overlong-requires same-length returns add-p loop-less loop-again same-length-2 returns-2)

@@ -43,6 +43,7 @@ loop-less c = omega arith
 
 loop-again : tie.Need-loop-again Inv-loop μ-loop
 loop-again c =
+    let at-pre = c .before .before .before .before .before .before .before .before .pre in
     let a = (c .before .before .before .before .before .before .before .before .args) in
     let l = (c .before .before .before .before .loop) in
     let φs : List Phy = expanderAt (domainIn (a .rows .now)) (a .i .0) .phys in
@@ -50,7 +51,7 @@ loop-again c =
     let n = (c .before .before .before .before .before .phy-count) .ensures in
     let e = (c .counted) .ensures in
     let most = one-most ((c .before .is-own) .result) in
-    let o = (c .before .is-own) .ensures ∙ owns-low (domainIn (a .rows .now)) (a .i .0) (l .p) (a .low .now) (f .result) (f .ensures ∙ phy-held _ _ _ (omega arith)) (omega arith) ((c .before .before .before .before .before .before .before .before .pre)) in
+    let o = (c .before .is-own) .ensures ∙ owns-low (domainIn (a .rows .now)) (a .i .0) (l .p) (a .low .now) (f .result) (f .ensures ∙ phy-held _ _ _ (omega arith)) (omega arith) (at-pre) in
     (omega arith, (omega arith, count-go φs (l .p) [] refl (f .result) (l .m) (f .ensures ∙ phy-held _ _ _ (omega arith)) o e (omega arith) (l .inv .1 .1)))
 
 returns : tie.Need-returns Inv-loop μ-loop

@@ -20,13 +20,17 @@ phy-type-requires : tie.Need-phy-type-requires
 phy-type-requires c κs = search needs
 
 returns-3 : tie.Need-returns-3
-returns-3 c = simp (ne-eqb (attributeOf ((c .before .before .before .before .before .before .args) .f)) 0 (λ e. omega arith), eq-eqb (attributeOf ((c .before .before .before .before .before .before .args) .f)) 2 (omega arith), eq-eqb (typeOf ((c .before .before .before .before .before .before .args) .f)) 0 (omega arith))
+returns-3 c =
+    let at-args = c .before .before .before .before .before .before .args in
+    simp (ne-eqb (attributeOf (at-args .f)) 0 (λ e. omega arith), eq-eqb (attributeOf (at-args .f)) 2 (omega arith), eq-eqb (typeOf (at-args .f)) 0 (omega arith))
 
 lowest-phy-requires : tie.Need-lowest-phy-requires
 lowest-phy-requires c κs = search needs
 
 returns-4 : tie.Need-returns-4
-returns-4 c = simp (ne-eqb (attributeOf ((c .before .before .before .before .before .before .before .before .before .args) .f)) 0 (λ e. omega arith), eq-eqb (attributeOf ((c .before .before .before .before .before .before .before .before .before .args) .f)) 2 (omega arith), ne-eqb (typeOf ((c .before .before .before .before .before .before .before .before .before .args) .f)) 0 (λ e. omega arith)) (rw ((c .before .before .lowest-phy) .ensures))
+returns-4 c =
+    let at-args = c .before .before .before .before .before .before .before .before .before .args in
+    simp (ne-eqb (attributeOf (at-args .f)) 0 (λ e. omega arith), eq-eqb (attributeOf (at-args .f)) 2 (omega arith), ne-eqb (typeOf (at-args .f)) 0 (λ e. omega arith)) (rw ((c .before .before .lowest-phy) .ensures))
 
 pub is-own-spec : {M : Type 1} → statement M
 is-own-spec = tie.close (tie.spec phy-attribute-requires returns returns-2 phy-type-requires returns-3 lowest-phy-requires returns-4)

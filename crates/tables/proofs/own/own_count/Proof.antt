@@ -24,13 +24,16 @@ shared-slice-read-result : tie.Need-shared-slice-read-result
 shared-slice-read-result c = search needs
 
 cast-result-2 : tie.Need-cast-result-2
-cast-result-2 c = omega (arith, c .shared-slice-known3 .given (c .before .before .before .before .before .before .before .args .i .0))
+cast-result-2 c =
+    let at-args = c .before .before .before .before .before .before .before .args in
+    omega (arith, c .shared-slice-known3 .given (at-args .i .0))
 
 returns-2 : tie.Need-returns-2
 returns-2 c =
+    let at-pre = c .before .before .before .before .before .before .before .pre in
     let a = c .before .before .before .before .before .before .before .args in
     let e = c .before .before .before .before .expander-count .ensures .0 in
-    let n = c .before .before .before .before .before .before .before .pre .each (a .i .0) (omega arith) in
+    let n = at-pre .each (a .i .0) (omega arith) in
     (n, omega (arith, n, own-few (a .rows .now) (a .i .0)))
 
 pub own-count-spec : {M : Type 1} → statement M

@@ -23,13 +23,17 @@ loop-holds : tie.Need-loop-holds Inv-loop μ-loop
 loop-holds c = (omega arith, (refl, λ k h. absurd (omega arith)))
 
 count-own-requires : tie.Need-count-own-requires Inv-loop μ-loop
-count-own-requires c κs = (c .before .before .before .before .before .before .pre) .0
+count-own-requires c κs =
+    let at-pre = c .before .before .before .before .before .before .pre in
+    at-pre .0
 
 cast-counts : tie.Need-cast-counts Inv-loop μ-loop
 cast-counts c = omega arith
 
 slice-write-counts : tie.Need-slice-write-counts Inv-loop μ-loop
-slice-write-counts c = omega (arith, (c .before .before .before .before .before .before .before .pre) .1, (c .before .before .before .expander-count) .ensures .0, (c .before .before .loop) .inv .1 .0)
+slice-write-counts c =
+    let at-pre = c .before .before .before .before .before .before .before .pre in
+    omega (arith, at-pre .1, (c .before .before .before .expander-count) .ensures .0, (c .before .before .loop) .inv .1 .0)
 
 add-i : tie.Need-add-i Inv-loop μ-loop
 add-i c = omega arith
@@ -38,13 +42,18 @@ loop-less : tie.Need-loop-less Inv-loop μ-loop
 loop-less c = omega arith
 
 loop-again : tie.Need-loop-again Inv-loop μ-loop
-loop-again c = (omega arith, (simp length-set ((c .before .before .loop) .inv .1 .0), counts-next (λ (k : ℕ). length (own (domainIn ((c .before .before .before .before .before .before .before .args) .rows .now)) k)) ((c .before .before .loop) .counts) ((c .before .before .loop) .i) ((c .count-own) .result) ((c .before .before .loop) .inv .1 .1) ((c .count-own) .ensures) (omega (arith, (c .before .before .before .before .before .before .before .pre) .1, (c .before .before .before .expander-count) .ensures .0, (c .before .before .loop) .inv .1 .0))))
+loop-again c =
+    let at-args = c .before .before .before .before .before .before .before .args in
+    let at-pre = c .before .before .before .before .before .before .before .pre in
+    (omega arith, (simp length-set ((c .before .before .loop) .inv .1 .0), counts-next (λ (k : ℕ). length (own (domainIn (at-args .rows .now)) k)) ((c .before .before .loop) .counts) ((c .before .before .loop) .i) ((c .count-own) .result) ((c .before .before .loop) .inv .1 .1) ((c .count-own) .ensures) (omega (arith, at-pre .1, (c .before .before .before .expander-count) .ensures .0, (c .before .before .loop) .inv .1 .0))))
 
 same-length : tie.Need-same-length Inv-loop μ-loop
 same-length c = (c .before .loop) .inv .1 .0
 
 returns : tie.Need-returns Inv-loop μ-loop
-returns c = record { enough = omega (arith, (c .before .before .before .before .before .before .pre) .1, (c .before .loop) .inv .1 .0); each = λ i h. (c .before .loop) .inv .1 .1 i (omega (arith, (c .before .before .expander-count) .ensures .0)) }
+returns c =
+    let at-pre = c .before .before .before .before .before .before .pre in
+    record { enough = omega (arith, at-pre .1, (c .before .loop) .inv .1 .0); each = λ i h. (c .before .loop) .inv .1 .1 i (omega (arith, (c .before .before .expander-count) .ensures .0)) }
 
 pub put-counts-spec : {M : Type 1} → statement M
 put-counts-spec = tie.close (tie.spec Inv-loop μ-loop expander-count-requires loop-holds count-own-requires cast-counts slice-write-counts add-i loop-less loop-again same-length returns)

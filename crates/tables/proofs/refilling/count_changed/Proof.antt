@@ -44,7 +44,9 @@ loop-less : tie.Need-loop-less Inv-loop μ-loop
 loop-less c = omega arith
 
 loop-again : tie.Need-loop-again Inv-loop μ-loop
-loop-again c = (omega arith, (omega arith, words-turn ((c .before .before .before .before .before .before .before .args) .part .now) ((c .before .before .before .before .before .before .before .args) .new .now) ((c .before .before .before .before .loop) .k) ((c .before .before .before .before .loop) .sum) ((c .differ) .result) ((c .before .before .before .before .loop) .inv .1 .1) ((c .differ) .ensures .0) (omega arith) (omega arith)))
+loop-again c =
+    let at-args = c .before .before .before .before .before .before .before .args in
+    (omega arith, (omega arith, words-turn (at-args .part .now) (at-args .new .now) ((c .before .before .before .before .loop) .k) ((c .before .before .before .before .loop) .sum) ((c .differ) .result) ((c .before .before .before .before .loop) .inv .1 .1) ((c .differ) .ensures .0) (omega arith) (omega arith)))
 
 returns : tie.Need-returns Inv-loop μ-loop
 returns c = (words-last ((c .before .before .before .before .args) .part .now) ((c .before .before .before .before .args) .new .now) ((c .before .loop) .k) ((c .before .loop) .sum) ((c .before .loop) .inv .1 .1) (omega arith), omega arith)

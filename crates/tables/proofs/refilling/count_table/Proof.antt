@@ -26,7 +26,9 @@ shared-slice-read-t13 : tie.Need-shared-slice-read-t13 Inv-loop μ-loop
 shared-slice-read-t13 c = omega arith
 
 own-length-requires : tie.Need-own-length-requires Inv-loop μ-loop
-own-length-requires c κs = (c .before .before .before .before .before .before .before .pre) .0
+own-length-requires c κs =
+    let at-pre = c .before .before .before .before .before .before .before .pre in
+    at-pre .0
 
 mul-count-own : tie.Need-mul-count-own Inv-loop μ-loop
 mul-count-own c = omega arith
@@ -50,10 +52,16 @@ count-own-requires c κs =
     (pre .0, (n .ensures, omega (arith, ap length (rest-is (a .part .now) (l .m)), length-drop (l .m) (a .part .now), pre .1)))
 
 add-sum : tie.Need-add-sum Inv-loop μ-loop
-add-sum c = omega (arith, sizes-turn (own (domainIn ((c .before .before .before .before .before .before .before .before .before .before .args) .rows .now))) ((c .before .before .before .before .before .before .before .before .before .before .args) .order .now) ((c .before .before .before .before .before .loop) .k) ((c .before .before .before .before .before .loop) .m) ((c .before .before .before .before .before .loop) .inv .1 .1 .0) ((c .before .before .own-length) .ensures) (omega arith), (c .before .before .before .before .before .before .before .before .before .before .pre) .1, (c .count-own) .ensures .1, (c .before .before .before .before .before .loop) .inv .1 .0)
+add-sum c =
+    let at-args = c .before .before .before .before .before .before .before .before .before .before .args in
+    let at-pre = c .before .before .before .before .before .before .before .before .before .before .pre in
+    omega (arith, sizes-turn (own (domainIn (at-args .rows .now))) (at-args .order .now) ((c .before .before .before .before .before .loop) .k) ((c .before .before .before .before .before .loop) .m) ((c .before .before .before .before .before .loop) .inv .1 .1 .0) ((c .before .before .own-length) .ensures) (omega arith), at-pre .1, (c .count-own) .ensures .1, (c .before .before .before .before .before .loop) .inv .1 .0)
 
 add-m : tie.Need-add-m Inv-loop μ-loop
-add-m c = omega (arith, sizes-turn (own (domainIn ((c .before .before .before .before .before .before .before .before .before .before .args) .rows .now))) ((c .before .before .before .before .before .before .before .before .before .before .args) .order .now) ((c .before .before .before .before .before .loop) .k) ((c .before .before .before .before .before .loop) .m) ((c .before .before .before .before .before .loop) .inv .1 .1 .0) ((c .before .before .own-length) .ensures) (omega arith), (c .before .before .before .before .before .before .before .before .before .before .pre) .1, (c .count-own) .ensures .1, (c .before .before .before .before .before .loop) .inv .1 .0)
+add-m c =
+    let at-args = c .before .before .before .before .before .before .before .before .before .before .args in
+    let at-pre = c .before .before .before .before .before .before .before .before .before .before .pre in
+    omega (arith, sizes-turn (own (domainIn (at-args .rows .now))) (at-args .order .now) ((c .before .before .before .before .before .loop) .k) ((c .before .before .before .before .before .loop) .m) ((c .before .before .before .before .before .loop) .inv .1 .1 .0) ((c .before .before .own-length) .ensures) (omega arith), at-pre .1, (c .count-own) .ensures .1, (c .before .before .before .before .before .loop) .inv .1 .0)
 
 add-k : tie.Need-add-k Inv-loop μ-loop
 add-k c = omega arith
@@ -90,11 +98,12 @@ add-result c = omega arith
 
 returns : tie.Need-returns Inv-loop μ-loop
 returns c =
+    let at-pre = c .before .before .before .before .before .before .before .before .pre in
     let a = c .before .before .before .before .before .before .before .before .args in
     let zeros = c .count-nonzero in
     let l = c .before .before .before .loop in
     let f : ℕ → List ℕ = own (domainIn (a .rows .now)) in
-    (lists-last f (a .order .now) (a .part .now) (l .k) (l .m) (l .sum) (zeros .result) (l .inv .1 .1 .1) (l .inv .1 .1 .0) (zeros .ensures .0 ∙ ap (λ (x : List ℕ). changed x (replicate (length x) 0)) (rest-is (a .part .now) (l .m))) (omega arith), omega (arith, zeros .ensures .1, ap length (rest-is (a .part .now) (l .m)), length-drop (l .m) (a .part .now), (c .before .before .before .before .before .before .before .before .pre) .1, l .inv .1 .1 .0))
+    (lists-last f (a .order .now) (a .part .now) (l .k) (l .m) (l .sum) (zeros .result) (l .inv .1 .1 .1) (l .inv .1 .1 .0) (zeros .ensures .0 ∙ ap (λ (x : List ℕ). changed x (replicate (length x) 0)) (rest-is (a .part .now) (l .m))) (omega arith), omega (arith, zeros .ensures .1, ap length (rest-is (a .part .now) (l .m)), length-drop (l .m) (a .part .now), at-pre .1, l .inv .1 .1 .0))
 
 pub count-table-spec : {M : Type 1} → statement M
 count-table-spec = tie.close (tie.spec Inv-loop μ-loop loop-holds shared-slice-read-t13 own-length-requires mul-count-own sub-count-own part-count-own-start part-count-own-end count-own-requires add-sum add-m add-k loop-less loop-again mul-count-nonzero sub-count-nonzero part-count-nonzero-start part-count-nonzero-end count-nonzero-requires add-result returns)

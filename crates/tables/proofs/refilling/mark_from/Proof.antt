@@ -32,7 +32,9 @@ zero-bit-requires : tie.Need-zero-bit-requires Inv-loop μ-loop
 zero-bit-requires c κs = search needs
 
 set-bit-requires : tie.Need-set-bit-requires Inv-loop μ-loop
-set-bit-requires c κs = (omega (arith, (c .before .before .before .before .before .before .before .pre) .0, (c .before .before .before .before .loop) .inv .1 .0), (c .zero-bit) .ensures .1)
+set-bit-requires c κs =
+    let at-pre = c .before .before .before .before .before .before .before .pre in
+    (omega (arith, at-pre .0, (c .before .before .before .before .loop) .inv .1 .0), (c .zero-bit) .ensures .1)
 
 add-k : tie.Need-add-k Inv-loop μ-loop
 add-k c = omega arith
@@ -41,7 +43,10 @@ loop-less : tie.Need-loop-less Inv-loop μ-loop
 loop-less c = omega arith
 
 loop-again : tie.Need-loop-again Inv-loop μ-loop
-loop-again c = (omega arith, ((c .before .before .set-bit) .kept .0 ∙ (c .before .before .before .before .before .before .before .loop) .inv .1 .0, mark-turn ((c .before .before .before .before .before .before .before .loop) .bits) _ ((c .before .before .before .before .before .before .before .before .before .before .args) .part .now) ((c .before .before .before .before .before .before .before .before .before .before .args) .at) ((c .before .before .before .before .before .before .before .loop) .k) _ ((c .before .before .before .before .before .before .before .loop) .inv .1 .1) ((c .before .before .before .zero-bit) .ensures .0) ((c .before .before .set-bit) .ensures) (omega arith)))
+loop-again c =
+    let at-loop = c .before .before .before .before .before .before .before .loop in
+    let at-args = c .before .before .before .before .before .before .before .before .before .before .args in
+    (omega arith, ((c .before .before .set-bit) .kept .0 ∙ at-loop .inv .1 .0, mark-turn (at-loop .bits) _ (at-args .part .now) (at-args .at) (at-loop .k) _ (at-loop .inv .1 .1) ((c .before .before .before .zero-bit) .ensures .0) ((c .before .before .set-bit) .ensures) (omega arith)))
 
 same-length : tie.Need-same-length Inv-loop μ-loop
 same-length c = (c .before .loop) .inv .1 .0

@@ -27,7 +27,10 @@ shared-slice-read-result : tie.Need-shared-slice-read-result
 shared-slice-read-result c = search needs
 
 returns-2 : tie.Need-returns-2
-returns-2 c = own-count (domainIn ((c .before .before .before .before .before .before .before .args) .rows .now)) ((c .before .before .before .before .before .before .before .args) .lists .now) (c .before .before .before .before .before .before .before .pre) ((c .before .before .before .before .before .before .before .args) .i .0) (omega (arith, (c .before .before .before .before .expander-count) .ensures .0))
+returns-2 c =
+    let at-args = c .before .before .before .before .before .before .before .args in
+    let at-pre = c .before .before .before .before .before .before .before .pre in
+    own-count (domainIn (at-args .rows .now)) (at-args .lists .now) at-pre (at-args .i .0) (omega (arith, (c .before .before .before .before .expander-count) .ensures .0))
 
 pub own-length-spec : {M : Type 1} → statement M
 own-length-spec = tie.close (tie.spec expander-count-requires returns cast-result mul-result mul-result-2 shared-slice-read-result returns-2)

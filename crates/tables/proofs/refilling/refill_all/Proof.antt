@@ -54,6 +54,7 @@ loop-less c = omega arith
 
 loop-again : tie.Need-loop-again Inv-loop μ-loop
 loop-again c =
+    let at-loop-test = c .before .before .before .before .before .before .before .before .before .before .loop-test in
     let a = c .before .before .before .before .before .before .before .before .before .before .before .before .before .before .before .before .before .before .before .before .args in
     let count = c .before .before .before .before .before .before .before .before .before .before .before .before .expander-count in
     let d : Domain = domainIn (a .rows .now) in
@@ -61,7 +62,7 @@ loop-again c =
     let p = c .before .before .before .before .before .before .before .before .before .before .before .before .before .before .before .before .before .before .before .before .pre in
     let w = l .inv .1 .1 .1 in
     let t = c .before .before .before .before .before .before .refill-at in
-    let g = (c .before .before .before .before .before .before .before .before .before .before .loop-test) .taken in
+    let g = at-loop-test .taken in
     let f = expanders-fit d (l .i) (omega (arith, g, count .ensures .0)) in
     let z : Tally = record { at = 0; tables = 0; words = 0 } in
     (omega (arith, g), (t .kept .1 .1 .1 .1 .0 ∙ l .inv .1 .0, ((λ j. (c .slice-known6) .given j .fits), (near-then (128 * l .i) 128 (128 * (l .i + 1)) z (l .s) (t .result) (w .0) (t .ensures .1) (omega arith), expanders-turn d (a .e .0) (l .i) z (l .s) (t .result) (entries (a .words .now) (a .bits .now)) (entries (l .words) (l .bits)) _ (w .1) (t .ensures .0) (omega (arith, g, count .ensures .0)) (omega (arith, p .1 .1 .1 .1 .1 .words)) (omega (arith, p .1 .1 .1 .1 .1 .bits))))))

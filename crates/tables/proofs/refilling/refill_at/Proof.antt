@@ -43,7 +43,9 @@ phy-below-requires : tie.Need-phy-below-requires Inv-loop μ-loop
 phy-below-requires c κs = search needs
 
 order-for-requires : tie.Need-order-for-requires Inv-loop μ-loop
-order-for-requires c κs = ((record { index = (c .before .before .before .before .before .before .before .before .before .before .before .before .pre) .0; phy = (c .before .phy-below) .ensures ∙ phy-held _ _ _ (omega arith) }, (c .before .before .before .loop) .inv .1 .1 .0 .0), ((c .before .before .before .before .before .before .before .before .before .before .before .before .pre) .1 .1 .0, (omega (arith, (c .before .before .before .before .before .before .before .before .before .before .before .before .pre) .1 .1 .1 .0), (c .before .before .before .loop) .inv .1 .1 .0 .1)))
+order-for-requires c κs =
+    let at-pre = c .before .before .before .before .before .before .before .before .before .before .before .before .pre in
+    ((record { index = at-pre .0; phy = (c .before .phy-below) .ensures ∙ phy-held _ _ _ (omega arith) }, (c .before .before .before .loop) .inv .1 .1 .0 .0), (at-pre .1 .1 .0, (omega (arith, at-pre .1 .1 .1 .0), (c .before .before .before .loop) .inv .1 .1 .0 .1)))
 
 slice-reshare-prefix-refill-table : tie.Need-slice-reshare-prefix-refill-table Inv-loop μ-loop
 slice-reshare-prefix-refill-table c = omega (arith, (c .before .before .order-for) .ensures .same, (c .before .before .order-for) .ensures .fits)
@@ -53,6 +55,7 @@ slice-aggregate-refill-table c = sym (length-take-le ((c .before .before .before
 
 refill-table-requires : tie.Need-refill-table-requires Inv-loop μ-loop
 refill-table-requires c κs =
+    let at-phy-below = c .before .before .before .before .before .before .before .phy-below in
     let a = c .before .before .before .before .before .before .before .before .before .before .before .before .before .before .before .before .before .before .args in
     let count = c .before .before .before .before .before .before .before .before .before .before .phy-count in
     let pre = c .before .before .before .before .before .before .before .before .before .before .before .before .before .before .before .before .before .before .pre in
@@ -60,7 +63,7 @@ refill-table-requires c κs =
     let l = c .before .before .before .before .before .before .before .before .before .loop in
     let w = l .inv .1 .1 .1 in
     let u = w .1 in
-    let q = (c .before .before .before .before .before .order-for) .ensures .whole ∙ ap (orderOf d) ((c .before .before .before .before .before .before .before .phy-below) .ensures ∙ phy-held _ _ _ (omega arith)) in
+    let q = (c .before .before .before .before .before .order-for) .ensures .whole ∙ ap (orderOf d) (at-phy-below .ensures ∙ phy-held _ _ _ (omega arith)) in
     let f = phys-fit d (a .i .0) (count .result) (l .p) (omega arith) in
     let n = ap (λ (k : ℕ). sizes d (phyPlaces (a .i .0) 0 k)) (count .ensures .0) in
     let h = ap (λ (x : Room). x .words) (u .same) in
@@ -75,6 +78,8 @@ loop-less c = omega arith
 
 loop-again : tie.Need-loop-again Inv-loop μ-loop
 loop-again c =
+    let at-order-for = c .before .before .before .before .before .before .before .before .before .before .order-for in
+    let at-phy-below = c .before .before .before .before .before .before .before .before .before .before .before .before .phy-below in
     let a = c .before .before .before .before .before .before .before .before .before .before .before .before .before .before .before .before .before .before .before .before .before .before .before .args in
     let count = c .before .before .before .before .before .before .before .before .before .before .before .before .before .before .before .phy-count in
     let test = c .before .before .before .before .before .before .before .before .before .before .before .before .before .loop-test in
@@ -82,11 +87,11 @@ loop-again c =
     let d : Domain = domainIn (a .rows .now) in
     let l = c .before .before .before .before .before .before .before .before .before .before .before .before .before .before .loop in
     let w = l .inv .1 .1 .1 in
-    let o = (c .before .before .before .before .before .before .before .before .before .before .order-for) .ensures in
+    let o = at-order-for .ensures in
     let t = c .before .before .before .before .refill-table in
     let f = phys-fit d (a .i .0) (count .result) (l .p) (omega (arith, test .taken)) in
     let n = ap (λ (k : ℕ). sizes d (phyPlaces (a .i .0) 0 k)) (count .ensures .0) in
-    (omega (arith, test .taken), (o .same ∙ l .inv .1 .0, (((c .before .before .before .before .before .before .before .before .before .before .before .before .phy-below) .ensures ∙ phy-held _ _ _ (omega (arith, test .taken, count .ensures .0)), grown-again o), (near-then (l .p) 1 (l .p + 1) (a .s) (l .t) (t .result) (w .0) (t .ensures .1) (omega arith), phys-turn d (a .e .0) (a .i .0) (l .p) (a .s) (l .t) (t .result) (entries (a .words .now) (a .bits .now)) (entries (l .words) (l .bits)) _ (w .1) (t .ensures .0) (omega (arith, pre .1 .1 .1 .1 .1 .1 .0)) (omega (arith, pre .1 .1 .1 .1 .1 .1 .1))))))
+    (omega (arith, test .taken), (o .same ∙ l .inv .1 .0, ((at-phy-below .ensures ∙ phy-held _ _ _ (omega (arith, test .taken, count .ensures .0)), grown-again o), (near-then (l .p) 1 (l .p + 1) (a .s) (l .t) (t .result) (w .0) (t .ensures .1) (omega arith), phys-turn d (a .e .0) (a .i .0) (l .p) (a .s) (l .t) (t .result) (entries (a .words .now) (a .bits .now)) (entries (l .words) (l .bits)) _ (w .1) (t .ensures .0) (omega (arith, pre .1 .1 .1 .1 .1 .1 .0)) (omega (arith, pre .1 .1 .1 .1 .1 .1 .1))))))
 
 same-length : tie.Need-same-length Inv-loop μ-loop
 same-length c = (c .before .loop) .inv .1 .0

@@ -32,7 +32,10 @@ claims t = (replug-admitted-below t, replug-admitted.Post, expander-count-reads.
 
 module _ (t : ℕ) where
   replug-admitted-requires : replug-admitted-lts.Need-replug-admitted-requires (claims t) (replug-admitted-at t) replug-admitted.Post
-  replug-admitted-requires c κs = absurd (omega (arith, (c .before .before .before .if1) .taken, phy-there (domainIn ((c .before .before .before .before .before .before .before .before .before .before .args) .rows .now)) ((c .before .before .before .before .before .before .before .before .before .before .args) .e .0) ((c .before .before .before .before .before .before .before .before .before .before .args) .p .0) 0 ((c .before .before .before .before .before .before .before .before .before .before .pre) .1 .1 .0), short-in ((c .before .before .before .before .before .before .before .before .before .before .args) .rows .now) ((c .before .before .before .before .before .before .before .before .before .before .args) .e .0)))
+  replug-admitted-requires c κs =
+      let at-args = c .before .before .before .before .before .before .before .before .before .before .args in
+      let at-pre = c .before .before .before .before .before .before .before .before .before .before .pre in
+      absurd (omega (arith, (c .before .before .before .if1) .taken, phy-there (domainIn (at-args .rows .now)) (at-args .e .0) (at-args .p .0) 0 (at-pre .1 .1 .0), short-in (at-args .rows .now) (at-args .e .0)))
 
   same-length : replug-admitted-lts.Need-same-length (claims t) (replug-admitted-at t) replug-admitted.Post
   same-length c = search needs
@@ -44,13 +47,19 @@ module _ (t : ℕ) where
   same-length-3 c = search needs
 
   returns : replug-admitted-lts.Need-returns (claims t) (replug-admitted-at t) replug-admitted.Post
-  returns c = absurd (omega (arith, (c .before .before .before .before .before .before .before .before .before .before .if1) .taken, phy-there (domainIn ((c .before .before .before .before .before .before .before .before .before .before .before .before .before .before .before .before .before .args) .rows .now)) ((c .before .before .before .before .before .before .before .before .before .before .before .before .before .before .before .before .before .args) .e .0) ((c .before .before .before .before .before .before .before .before .before .before .before .before .before .before .before .before .before .args) .p .0) 0 ((c .before .before .before .before .before .before .before .before .before .before .before .before .before .before .before .before .before .pre) .1 .1 .0), short-in ((c .before .before .before .before .before .before .before .before .before .before .before .before .before .before .before .before .before .args) .rows .now) ((c .before .before .before .before .before .before .before .before .before .before .before .before .before .before .before .before .before .args) .e .0)))
+  returns c =
+      let at-if1 = c .before .before .before .before .before .before .before .before .before .before .if1 in
+      let at-args = c .before .before .before .before .before .before .before .before .before .before .before .before .before .before .before .before .before .args in
+      let at-pre = c .before .before .before .before .before .before .before .before .before .before .before .before .before .before .before .before .before .pre in
+      absurd (omega (arith, at-if1 .taken, phy-there (domainIn (at-args .rows .now)) (at-args .e .0) (at-args .p .0) 0 (at-pre .1 .1 .0), short-in (at-args .rows .now) (at-args .e .0)))
 
   expander-count-requires : replug-admitted-lts.Need-expander-count-requires (claims t) (replug-admitted-at t) replug-admitted.Post
   expander-count-requires c κs = search needs
 
   replug-few-requires : replug-admitted-lts.Need-replug-few-requires (claims t) (replug-admitted-at t) replug-admitted.Post
-  replug-few-requires c κs = (omega (arith, (c .before .before .before .before .expander-count) .ensures .0, (c .before .before .before .if2) .taken), (c .before .before .before .before .before .before .before .before .before .before .before .before .before .pre) .1)
+  replug-few-requires c κs =
+      let at-pre = c .before .before .before .before .before .before .before .before .before .before .before .before .before .pre in
+      (omega (arith, (c .before .before .before .before .expander-count) .ensures .0, (c .before .before .before .if2) .taken), at-pre .1)
 
   same-length-4 : replug-admitted-lts.Need-same-length-4 (claims t) (replug-admitted-at t) replug-admitted.Post
   same-length-4 c = search needs
@@ -65,7 +74,9 @@ module _ (t : ℕ) where
   returns-2 c = search needs
 
   replug-many-requires : replug-admitted-lts.Need-replug-many-requires (claims t) (replug-admitted-at t) replug-admitted.Post
-  replug-many-requires c κs = (c .before .before .before .before .before .before .before .before .before .before .before .before .before .pre) .1
+  replug-many-requires c κs =
+      let at-pre = c .before .before .before .before .before .before .before .before .before .before .before .before .before .pre in
+      at-pre .1
 
   same-length-7 : replug-admitted-lts.Need-same-length-7 (claims t) (replug-admitted-at t) replug-admitted.Post
   same-length-7 c = search needs

@@ -35,10 +35,15 @@ refuse-requires-3 : tie.Need-refuse-requires-3
 refuse-requires-3 c κs = search needs
 
 returns-3 : tie.Need-returns-3
-returns-3 c = admit-18 _ _ _ _ _ _ ((c .before .before .before .before .before .before .is-pluggable) .ensures ∙ ap pluggable ((c .before .before .before .before .before .before .before .phy-at) .ensures)) ((c .before .before .before .before .before .if1) .left) (omega (arith, (c .before .before .before .before .needed-words) .ensures .0)) (omega (arith, (c .before .before .before .before .needed-words) .ensures .0, (c .before .before .bytes-for) .ensures)) _ ((c .refuse3) .ensures)
+returns-3 c =
+    let at-is-pluggable = c .before .before .before .before .before .before .is-pluggable in
+    let at-phy-at = c .before .before .before .before .before .before .before .phy-at in
+    admit-18 _ _ _ _ _ _ (at-is-pluggable .ensures ∙ ap pluggable (at-phy-at .ensures)) ((c .before .before .before .before .before .if1) .left) (omega (arith, (c .before .before .before .before .needed-words) .ensures .0)) (omega (arith, (c .before .before .before .before .needed-words) .ensures .0, (c .before .before .bytes-for) .ensures)) _ ((c .refuse3) .ensures)
 
 returns-4 : tie.Need-returns-4
-returns-4 c = admit-all _ _ _ _ _ _ ((c .before .before .before .before .before .is-pluggable) .ensures ∙ ap pluggable ((c .before .before .before .before .before .before .phy-at) .ensures)) ((c .before .before .before .before .if1) .left) (omega (arith, (c .before .before .before .needed-words) .ensures .0)) (omega (arith, (c .before .before .before .needed-words) .ensures .0, (c .before .bytes-for) .ensures))
+returns-4 c =
+    let at-phy-at = c .before .before .before .before .before .before .phy-at in
+    admit-all _ _ _ _ _ _ ((c .before .before .before .before .before .is-pluggable) .ensures ∙ ap pluggable (at-phy-at .ensures)) ((c .before .before .before .before .if1) .left) (omega (arith, (c .before .before .before .needed-words) .ensures .0)) (omega (arith, (c .before .before .before .needed-words) .ensures .0, (c .before .bytes-for) .ensures))
 
 pub admit-spec : {M : Type 1} → statement M
 admit-spec = tie.close (tie.spec phy-at-requires is-pluggable-requires refuse-requires returns needed-words-requires refuse-requires-2 returns-2 bytes-for-requires refuse-requires-3 returns-3 returns-4)

@@ -16,7 +16,9 @@ slice-aggregate-replug-in-3 : tie.Need-slice-aggregate-replug-in-3
 slice-aggregate-replug-in-3 c = search needs
 
 replug-in-requires : tie.Need-replug-in-requires
-replug-in-requires c κs = ((c .before .before .before .before .before .before .before .before .before .before .before .pre) .1 .0, ((record { lists = omega (arith, length-replicate {A = ℕ} 1032 0, (c .before .before .before .before .before .before .before .before .before .before .before .pre) .0); below = omega (arith, length-replicate {A = ℕ} 528 0, (c .before .before .before .before .before .before .before .before .before .before .before .pre) .0); order = omega (arith, length-replicate {A = ℕ} 521 0, (c .before .before .before .before .before .before .before .before .before .before .before .pre) .0) }, omega (arith, length-replicate {A = ℕ} 521 0)), (c .before .before .before .before .before .before .before .before .before .before .before .pre) .1 .1))
+replug-in-requires c κs =
+    let at-pre = c .before .before .before .before .before .before .before .before .before .before .before .pre in
+    (at-pre .1 .0, ((record { lists = omega (arith, length-replicate {A = ℕ} 1032 0, at-pre .0); below = omega (arith, length-replicate {A = ℕ} 528 0, at-pre .0); order = omega (arith, length-replicate {A = ℕ} 521 0, at-pre .0) }, omega (arith, length-replicate {A = ℕ} 521 0)), at-pre .1 .1))
 
 same-length : tie.Need-same-length
 same-length c = search needs

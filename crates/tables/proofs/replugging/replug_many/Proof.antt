@@ -17,7 +17,10 @@ slice-aggregate-replug-in-3 : tie.Need-slice-aggregate-replug-in-3
 slice-aggregate-replug-in-3 c = search needs
 
 replug-in-requires : tie.Need-replug-in-requires
-replug-in-requires c κs = let h = domain-few ((c .before .before .before .before .before .before .before .before .before .before .before .args) .rows .now) in ((c .before .before .before .before .before .before .before .before .before .before .before .pre) .0, ((record { lists = omega (arith, length-replicate {A = ℕ} 8256 0); below = omega (arith, length-replicate {A = ℕ} 4224 0); order = omega (arith, length-replicate {A = ℕ} 4161 0) }, omega (arith, length-replicate {A = ℕ} 4161 0)), (c .before .before .before .before .before .before .before .before .before .before .before .pre) .1))
+replug-in-requires c κs =
+    let at-args = c .before .before .before .before .before .before .before .before .before .before .before .args in
+    let at-pre = c .before .before .before .before .before .before .before .before .before .before .before .pre in
+    let h = domain-few (at-args .rows .now) in (at-pre .0, ((record { lists = omega (arith, length-replicate {A = ℕ} 8256 0); below = omega (arith, length-replicate {A = ℕ} 4224 0); order = omega (arith, length-replicate {A = ℕ} 4161 0) }, omega (arith, length-replicate {A = ℕ} 4161 0)), at-pre .1))
 
 same-length : tie.Need-same-length
 same-length c = search needs

@@ -34,7 +34,9 @@ gives-word-requires : tie.Need-gives-word-requires Inv-loop μ-loop
 gives-word-requires c κs = omega (arith, (c .before .before .before .phy-count) .ensures .0)
 
 put-word-requires : tie.Need-put-word-requires Inv-loop μ-loop
-put-word-requires c κs = omega (arith, (c .before .before .before .before .loop) .inv .1 .0, (c .before .before .before .before .before .before .before .before .pre), (c .before .before .before .before .before .phy-count) .ensures .1)
+put-word-requires c κs =
+    let at-pre = c .before .before .before .before .before .before .before .before .pre in
+    omega (arith, (c .before .before .before .before .loop) .inv .1 .0, at-pre, (c .before .before .before .before .before .phy-count) .ensures .1)
 
 add-p : tie.Need-add-p Inv-loop μ-loop
 add-p c = omega arith
@@ -44,11 +46,12 @@ loop-less c = omega arith
 
 loop-again : tie.Need-loop-again Inv-loop μ-loop
 loop-again c =
+    let at-phy-count = c .before .before .before .before .before .before .before .before .phy-count in
     let a = (c .before .before .before .before .before .before .before .before .before .before .before .args) in
     let l = (c .before .before .before .before .before .before .before .loop) in
     let φs : List Phy = expanderAt (domainIn (a .rows .now)) (a .i .0) .phys in
     let f = (c .before .before .before .before .before .phy-below) in
-    let n = (c .before .before .before .before .before .before .before .before .phy-count) .ensures in
+    let n = at-phy-count .ensures in
     let g = (c .before .before .put-word) .ensures in
     let o = (c .before .before .before .before .gives-word) in
     let most = put-most (l .m) (o .result) (word (f .result)) g in

@@ -37,10 +37,11 @@ is-found-requires c κs = search needs
 
 returns : tie.Need-returns Inv-loop μ-loop
 returns c =
+    let at-expander-count = c .before .before .before .before .before .before .expander-count in
     let a = (c .before .before .before .before .before .before .before .before .args) in
     let l = (c .before .before .before .before .loop) in
     let d : Domain = domainIn (a .rows .now) in
-    claim-stop (a .s) d (l .i) (l .inv .1 .1) (l .taken) ((c .before .is-found) .result) ((c .before .before .first-end) .result) (l .inv .1 .0) ((c .before .is-found) .ensures) ((c .before .before .first-end) .ensures) (omega (arith, (c .before .before .before .before .before .before .expander-count) .ensures .0)) ((c .if1) .taken)
+    claim-stop (a .s) d (l .i) (l .inv .1 .1) (l .taken) ((c .before .is-found) .result) ((c .before .before .first-end) .result) (l .inv .1 .0) ((c .before .is-found) .ensures) ((c .before .before .first-end) .ensures) (omega (arith, at-expander-count .ensures .0)) ((c .if1) .taken)
 
 add-i : tie.Need-add-i Inv-loop μ-loop
 add-i c = omega arith
@@ -50,10 +51,11 @@ loop-less c = omega arith
 
 loop-again : tie.Need-loop-again Inv-loop μ-loop
 loop-again c =
+    let at-expander-count = c .before .before .before .before .before .before .expander-count in
     let a = (c .before .before .before .before .before .before .before .before .args) in
     let l = (c .before .before .before .before .loop) in
     let d : Domain = domainIn (a .rows .now) in
-    (omega arith, (taken-next (a .s) d (l .i) (l .taken) ((c .before .is-found) .result) ((c .before .before .first-end) .result) (l .inv .1 .0) ((c .before .is-found) .ensures) ((c .before .before .first-end) .ensures) (omega (arith, (c .before .before .before .before .before .before .expander-count) .ensures .0)), claim-go (a .s) d (l .i) (l .inv .1 .1) (l .taken) ((c .before .is-found) .result) ((c .before .before .first-end) .result) (l .inv .1 .0) ((c .before .is-found) .ensures) ((c .before .before .first-end) .ensures) (omega (arith, (c .before .before .before .before .before .before .expander-count) .ensures .0)) ((c .if1) .left)))
+    (omega arith, (taken-next (a .s) d (l .i) (l .taken) ((c .before .is-found) .result) ((c .before .before .first-end) .result) (l .inv .1 .0) ((c .before .is-found) .ensures) ((c .before .before .first-end) .ensures) (omega (arith, at-expander-count .ensures .0)), claim-go (a .s) d (l .i) (l .inv .1 .1) (l .taken) ((c .before .is-found) .result) ((c .before .before .first-end) .result) (l .inv .1 .0) ((c .before .is-found) .ensures) ((c .before .before .first-end) .ensures) (omega (arith, at-expander-count .ensures .0)) ((c .if1) .left)))
 
 returns-2 : tie.Need-returns-2 Inv-loop μ-loop
 returns-2 c =

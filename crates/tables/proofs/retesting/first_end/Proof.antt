@@ -38,8 +38,9 @@ is-end-requires c κs = search needs
 returns : tie.Need-returns Inv-loop μ-loop
 unfolding endsAt
 returns c =
-    let d : Domain = domainIn ((c .before .before .before .before .before .before .before .args) .rows .now) in
-    phy-stop 8 (endsAt ((c .before .before .before .before .before .before .before .args) .s) d) d ((c .before .before .before .before .before .before .before .args) .i .0) ((c .before .before .before .before .before .phy-count) .result) ((c .before .before .before .before .loop) .p) ((c .before .before .before .before .loop) .inv .1) (ap (isEnd ((c .before .before .before .before .before .before .before .args) .s)) (sym ((c .before .before .phy-below) .ensures ∙ phy-held _ _ _ (omega (arith, (c .before .before .before .before .before .phy-count) .ensures .0)))) ∙ sym ((c .before .is-end) .ensures) ∙ (c .if1) .taken) (omega arith)
+    let at-args = c .before .before .before .before .before .before .before .args in
+    let d : Domain = domainIn (at-args .rows .now) in
+    phy-stop 8 (endsAt (at-args .s) d) d (at-args .i .0) ((c .before .before .before .before .before .phy-count) .result) ((c .before .before .before .before .loop) .p) ((c .before .before .before .before .loop) .inv .1) (ap (isEnd (at-args .s)) (sym ((c .before .before .phy-below) .ensures ∙ phy-held _ _ _ (omega (arith, (c .before .before .before .before .before .phy-count) .ensures .0)))) ∙ sym ((c .before .is-end) .ensures) ∙ (c .if1) .taken) (omega arith)
 
 add-p : tie.Need-add-p Inv-loop μ-loop
 add-p c = omega arith
@@ -50,8 +51,9 @@ loop-less c = omega arith
 loop-again : tie.Need-loop-again Inv-loop μ-loop
 unfolding endsAt
 loop-again c =
-    let d : Domain = domainIn ((c .before .before .before .before .before .before .before .args) .rows .now) in
-    (omega arith, phy-go 8 (endsAt ((c .before .before .before .before .before .before .before .args) .s) d) d ((c .before .before .before .before .before .before .before .args) .i .0) ((c .before .before .before .before .before .phy-count) .result) ((c .before .before .before .before .loop) .p) ((c .before .before .before .before .loop) .inv .1) (ap (isEnd ((c .before .before .before .before .before .before .before .args) .s)) (sym ((c .before .before .phy-below) .ensures ∙ phy-held _ _ _ (omega (arith, (c .before .before .before .before .before .phy-count) .ensures .0)))) ∙ sym ((c .before .is-end) .ensures) ∙ (c .if1) .left) (omega arith))
+    let at-args = c .before .before .before .before .before .before .before .args in
+    let d : Domain = domainIn (at-args .rows .now) in
+    (omega arith, phy-go 8 (endsAt (at-args .s) d) d (at-args .i .0) ((c .before .before .before .before .before .phy-count) .result) ((c .before .before .before .before .loop) .p) ((c .before .before .before .before .loop) .inv .1) (ap (isEnd (at-args .s)) (sym ((c .before .before .phy-below) .ensures ∙ phy-held _ _ _ (omega (arith, (c .before .before .before .before .before .phy-count) .ensures .0)))) ∙ sym ((c .before .is-end) .ensures) ∙ (c .if1) .left) (omega arith))
 
 returns-2 : tie.Need-returns-2 Inv-loop μ-loop
 returns-2 c =

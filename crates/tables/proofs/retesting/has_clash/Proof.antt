@@ -44,11 +44,12 @@ is-clash-requires c κs = search needs
 
 returns-2 : tie.Need-returns-2 Inv-loop μ-loop
 returns-2 c =
+    let at-phy-below = c .before .before .before .before .before .before .before .before .phy-below in
     let a = (c .before .before .before .before .before .before .before .before .before .before .args) in
     let l = (c .before .before .before .before .before .loop) in
     let d : Domain = domainIn (a .rows .now) in
     let h = (c .before .before .before .before .before .before .before .before .before .before .pre) in
-    clash-stop d (a .i .0) (a .p .0) (l .q) ((c .before .before .before .before .before .before .before .before .phy-below) .ensures ∙ phy-held _ _ _ h) ((c .before .before .phy-below2) .ensures ∙ phy-held _ _ _ (omega arith)) (omega arith) h (sym ((c .before .is-clash) .ensures) ∙ (c .if3) .taken)
+    clash-stop d (a .i .0) (a .p .0) (l .q) (at-phy-below .ensures ∙ phy-held _ _ _ h) ((c .before .before .phy-below2) .ensures ∙ phy-held _ _ _ (omega arith)) (omega arith) h (sym ((c .before .is-clash) .ensures) ∙ (c .if3) .taken)
 
 add-q : tie.Need-add-q Inv-loop μ-loop
 add-q c = omega arith
@@ -58,11 +59,12 @@ loop-less c = omega arith
 
 loop-again : tie.Need-loop-again Inv-loop μ-loop
 loop-again c =
+    let at-phy-below = c .before .before .before .before .before .before .before .before .phy-below in
     let a = (c .before .before .before .before .before .before .before .before .before .before .args) in
     let l = (c .before .before .before .before .before .loop) in
     let d : Domain = domainIn (a .rows .now) in
     let h = (c .before .before .before .before .before .before .before .before .before .before .pre) in
-    (omega arith, clash-go (expanderAt d (a .i .0) .phys) ((c .before .before .before .before .before .before .before .before .phy-below) .result) (a .p .0) (l .q) (l .inv .1) ((c .before .before .phy-below2) .ensures ∙ phy-held _ _ _ (omega arith)) (omega arith) (sym ((c .before .is-clash) .ensures) ∙ (c .if3) .left))
+    (omega arith, clash-go (expanderAt d (a .i .0) .phys) (at-phy-below .result) (a .p .0) (l .q) (l .inv .1) ((c .before .before .phy-below2) .ensures ∙ phy-held _ _ _ (omega arith)) (omega arith) (sym ((c .before .is-clash) .ensures) ∙ (c .if3) .left))
 
 returns-3 : tie.Need-returns-3 Inv-loop μ-loop
 returns-3 c =

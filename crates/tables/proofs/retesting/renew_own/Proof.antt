@@ -61,9 +61,10 @@ same-length c = search needs
 
 returns-2 : tie.Need-returns-2
 returns-2 c =
+    let at-expander-count = c .before .before .before .before .before .before .before .expander-count in
     let x = (c .before .before .before .before .before .before .before .before .before .before .args) in
     let h = (c .before .before .before .before .before .before .before .before .before .before .pre) in
-    let n = (c .before .before .before .before .before .before .before .expander-count) .ensures .0 in
+    let n = at-expander-count .ensures .0 in
     let d : Domain = domainIn (x .rows .now) in
     let ws : List ℕ = x .lists .now in
     let a : ℕ = 129 * x .e .0 in

@@ -37,18 +37,22 @@ returns c =
 
 returns-2 : tie.Need-returns-2
 returns-2 c =
+    let at-first-claim = c .before .before .before .before .before .before .first-claim in
     let a = (c .before .before .before .before .before .before .before .before .before .before .before .before .before .args) in
     let d : Domain = domainIn (a .rows .now) in
-    retested-by d (a .e .0) (a .s) (told d ((c .before .before .before .before .before .before .first-claim) .ensures) ((c .before .before .before .before .enum-told) .given .1)) (told d ((c .before .before .before .first-clash) .ensures) ((c .before .clashing) .given .1)) refl
+    retested-by d (a .e .0) (a .s) (told d (at-first-claim .ensures) ((c .before .before .before .before .enum-told) .given .1)) (told d ((c .before .before .before .first-clash) .ensures) ((c .before .clashing) .given .1)) refl
 
 same-length : tie.Need-same-length
 same-length c = search needs
 
 returns-3 : tie.Need-returns-3
 returns-3 c =
+    let at-first-claim = c .before .before .before .before .before .before .before .before .before .first-claim in
+    let at-enum-told = c .before .before .before .before .before .before .before .enum-told in
+    let at-first-clash = c .before .before .before .before .before .before .first-clash in
     let a = (c .before .before .before .before .before .before .before .before .before .before .before .before .before .before .before .before .args) in
     let d : Domain = domainIn (a .rows .now) in
-    retested-by d (a .e .0) (a .s) (told d ((c .before .before .before .before .before .before .before .before .before .first-claim) .ensures) ((c .before .before .before .before .before .before .before .enum-told) .given .1)) (told d ((c .before .before .before .before .before .before .first-clash) .ensures) ((c .before .before .before .before .enum-told2) .given .1)) (sym ((c .before .before .first-overlong-by) .ensures))
+    retested-by d (a .e .0) (a .s) (told d (at-first-claim .ensures) (at-enum-told .given .1)) (told d (at-first-clash .ensures) ((c .before .before .before .before .enum-told2) .given .1)) (sym ((c .before .before .first-overlong-by) .ensures))
 
 pub retest-spec : {M : Type 1} → statement M
 retest-spec = tie.close (tie.spec first-claim-requires enum-known-claimed enum-told first-clash-requires enum-known-clashing enum-told-2 first-overlong-by-requires returns returns-2 same-length returns-3)

@@ -41,13 +41,20 @@ module _ (t : ℕ) where
   returns c = search needs
 
   slice-aggregate-survey-file : survey-lts.Need-slice-aggregate-survey-file (claims t) (survey-at t) survey.Post
-  slice-aggregate-survey-file c = sym (length-take-le 2 ((c .before .before .before .before .before .before .args) .file .now) (omega (arith, (c .before .if3) .taken)))
+  slice-aggregate-survey-file c =
+      let at-args = c .before .before .before .before .before .before .args in
+      sym (length-take-le 2 (at-args .file .now) (omega (arith, (c .before .if3) .taken)))
 
   survey-file-requires : survey-lts.Need-survey-file-requires (claims t) (survey-at t) survey.Post
-  survey-file-requires c κs = (omega (arith, (c .before .before .before .before .before .before .pre) .0, (c .before .if3) .taken, length-take-le 2 ((c .before .before .before .before .before .before .args) .file .now) (omega (arith, (c .before .if3) .taken))), tt)
+  survey-file-requires c κs =
+      let at-pre = c .before .before .before .before .before .before .pre in
+      let at-args = c .before .before .before .before .before .before .args in
+      (omega (arith, at-pre .0, (c .before .if3) .taken, length-take-le 2 (at-args .file .now) (omega (arith, (c .before .if3) .taken))), tt)
 
   returns-2 : survey-lts.Need-returns-2 (claims t) (survey-at t) survey.Post
-  returns-2 c = rw (header-cut ((c .before .before .before .before .before .before .before .args) .setting) ((c .before .before .before .before .before .before .before .args) .file .now) ((c .before .before .if3) .taken) (omega (arith, (c .before .before .before .before .before .stated-count) .ensures, (c .before .before .before .if2) .taken))) at ((c .survey-file) .ensures)
+  returns-2 c =
+      let at-args = c .before .before .before .before .before .before .before .args in
+      rw (header-cut (at-args .setting) (at-args .file .now) ((c .before .before .if3) .taken) (omega (arith, (c .before .before .before .before .before .stated-count) .ensures, (c .before .before .before .if2) .taken))) at ((c .survey-file) .ensures)
 
   survey-many-requires : survey-lts.Need-survey-many-requires (claims t) (survey-at t) survey.Post
   survey-many-requires c κs = search needs

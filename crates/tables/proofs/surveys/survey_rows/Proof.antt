@@ -13,11 +13,14 @@ enum-known-verdict : tie.Need-enum-known-verdict
 enum-known-verdict c = search needs
 
 returns : tie.Need-returns
-returns c = survey-refused _ _ _ (sym (c .before .before .before .before .before .before .before .judge-rows .ensures .0) ∙ ap (checkAnswer _) (c .before .verdict .given .1))
+returns c =
+    let at-judge-rows = c .before .before .before .before .before .before .before .judge-rows in
+    survey-refused _ _ _ (sym (at-judge-rows .ensures .0) ∙ ap (checkAnswer _) (c .before .verdict .given .1))
 
 returns-2 : tie.Need-returns-2
 returns-2 c =
-    survey-good _ _ _ (c .place-of-word .result) (sym (c .before .before .before .before .before .before .before .before .before .judge-rows .ensures .0) ∙ ap (checkAnswer _) (c .before .before .before .enum-told .given .1)) (c .before .before .table-count .ensures .0) (c .before .needed-words .ensures .0)
+    let at-judge-rows = c .before .before .before .before .before .before .before .before .before .judge-rows in
+    survey-good _ _ _ (c .place-of-word .result) (sym (at-judge-rows .ensures .0) ∙ ap (checkAnswer _) (c .before .before .before .enum-told .given .1)) (c .before .before .table-count .ensures .0) (c .before .needed-words .ensures .0)
     (c .place-of-word .ensures)
 
 enum-told : tie.Need-enum-told

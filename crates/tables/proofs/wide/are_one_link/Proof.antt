@@ -35,7 +35,9 @@ returns-2 c =
     sym (linked-by (domainIn (a .rows .now)) (a .f) (a .g) (sym ((c .before .is-down) .ensures) ∙ not-true _ ((c .if2) .taken)) refl refl)
 
 is-down-requires-2 : tie.Need-is-down-requires-2
-is-down-requires-2 c κs = (c .before .before .before .before .before .before .before .pre) .1
+is-down-requires-2 c κs =
+    let at-pre = c .before .before .before .before .before .before .before .pre in
+    at-pre .1
 
 returns-3 : tie.Need-returns-3
 returns-3 c =

@@ -24,7 +24,8 @@ phy-attribute-requires c κs = search needs
 
 returns-2 : tie.Need-returns-2
 returns-2 c =
-    let φ = (c .before .before .before .before .before .before .args) .f in
+    let at-args = c .before .before .before .before .before .before .args in
+    let φ = at-args .f in
     let a = (c .before .phy-attribute) .ensures in
     simp (le-leb 2 (typeOf φ) (omega arith), ne-eqb (attributeOf φ) 2 (λ x. omega arith))
 
@@ -42,12 +43,13 @@ phy-attribute-requires-2 c κs = search needs
 
 returns-3 : tie.Need-returns-3
 returns-3 c =
+    let at-pre = c .before .before .before .before .before .before .before .before .before .before .pre in
     let a = (c .before .before .before .before .before .before .before .before .before .before .args) in
     let d : Domain = domainIn (a .rows .now) in
     let φ = a .f in
     let t : 2 ≤ typeOf φ = omega arith in
     let r = (c .before .before .before .before .before .phy-attribute) .ensures in
-    let j = (c .before .before .before .far-number) .ensures ∙ far-number-is (a .rows .now) (a .first .now) (a .i .0) (a .p .0) φ (c .before .before .before .before .before .before .before .before .before .before .pre) (le→leb 2 (typeOf φ) t) in
+    let j = (c .before .before .before .far-number) .ensures ∙ far-number-is (a .rows .now) (a .first .now) (a .i .0) (a .p .0) φ at-pre (le→leb 2 (typeOf φ) t) in
     let g : (c .before .phy-at) .result ≡ farPhy d φ = (c .before .phy-at) .ensures ∙ ap (λ n. phyAt d n ((c .before .before .phy-far) .result .0)) j ∙ ap (phyAt d _) ((c .before .before .phy-far) .ensures) in
     let h = (c .phy-attribute2) .ensures ∙ ap attributeOf g in
     simp (le-leb 2 (typeOf φ) t, eq-eqb (attributeOf φ) 2 (omega arith), h)

@@ -25,11 +25,15 @@ phy-below-requires : tie.Need-phy-below-requires
 phy-below-requires c κs = search needs
 
 are-one-link-requires : tie.Need-are-one-link-requires
-are-one-link-requires c κs = ((c .before .before .before .before .before .before .before .before .before .before .pre) .0, record { index = (c .before .before .before .before .before .before .before .before .before .before .pre) .0 .index; phy = (c .phy-below) .ensures ∙ phy-held _ _ _ (omega (arith, (c .before .before .before .before .before .before .before .before .before .before .pre) .1)) })
+are-one-link-requires c κs =
+    let at-pre = c .before .before .before .before .before .before .before .before .before .before .pre in
+    (at-pre .0, record { index = at-pre .0 .index; phy = (c .phy-below) .ensures ∙ phy-held _ _ _ (omega (arith, at-pre .1)) })
 
 returns-3 : tie.Need-returns-3
 returns-3 c =
-    λ h. linked-at (domainIn ((c .before .before .before .before .before .before .before .before .before .before .before .before .args) .rows .now)) ((c .before .before .before .before .before .before .before .before .before .before .before .before .pre) .0 .phy) ((c .before .before .phy-below) .ensures ∙ phy-held _ _ _ (omega (arith, (c .before .before .before .before .before .before .before .before .before .before .before .before .pre) .1))) ((c .before .are-one-link) .ensures) ((c .if3) .taken)
+    let at-args = c .before .before .before .before .before .before .before .before .before .before .before .before .args in
+    let at-pre = c .before .before .before .before .before .before .before .before .before .before .before .before .pre in
+    λ h. linked-at (domainIn (at-args .rows .now)) (at-pre .0 .phy) ((c .before .before .phy-below) .ensures ∙ phy-held _ _ _ (omega (arith, at-pre .1))) ((c .before .are-one-link) .ensures) ((c .if3) .taken)
 
 returns-4 : tie.Need-returns-4
 returns-4 c = λ h. absurd (omega (arith, h))

@@ -32,9 +32,11 @@ enum-known-sought c = search needs
 
 returns : tie.Need-returns Inv-loop μ-loop
 returns c =
-    let d : Domain = domainIn (c .before .before .before .before .before .before .before .before .args .rows .now) in
+    let at-args = c .before .before .before .before .before .before .before .before .args in
+    let at-expander-count = c .before .before .before .before .before .before .expander-count in
+    let d : Domain = domainIn (at-args .rows .now) in
     let l = c .before .before .before .before .before .loop in
-    find-next d (l .i) (l .left) (l .inv .1) (c .before .sought .given .1) (c .before .before .before .seek-at .ensures) (omega (arith, c .before .before .before .before .before .before .expander-count .ensures .0))
+    find-next d (l .i) (l .left) (l .inv .1) (c .before .sought .given .1) (c .before .before .before .seek-at .ensures) (omega (arith, at-expander-count .ensures .0))
 
 enum-known-sought-2 : tie.Need-enum-known-sought-2 Inv-loop μ-loop
 enum-known-sought-2 c = search needs
@@ -47,9 +49,11 @@ loop-less c = omega arith
 
 loop-again : tie.Need-loop-again Inv-loop μ-loop
 loop-again c =
-    let d : Domain = domainIn (c .before .before .before .before .before .before .before .before .args .rows .now) in
+    let at-args = c .before .before .before .before .before .before .before .before .args in
+    let at-expander-count = c .before .before .before .before .before .before .expander-count in
+    let d : Domain = domainIn (at-args .rows .now) in
     let l = c .before .before .before .before .before .loop in
-    (omega arith, find-next d (l .i) (l .left) (l .inv .1) (c .before .sought2 .given .1) (c .before .before .before .seek-at .ensures) (omega (arith, c .before .before .before .before .before .before .expander-count .ensures .0)))
+    (omega arith, find-next d (l .i) (l .left) (l .inv .1) (c .before .sought2 .given .1) (c .before .before .before .seek-at .ensures) (omega (arith, at-expander-count .ensures .0)))
 
 returns-2 : tie.Need-returns-2 Inv-loop μ-loop
 returns-2 c =

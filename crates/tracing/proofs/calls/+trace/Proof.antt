@@ -44,17 +44,26 @@ module _ (t : ℕ) where
   returns c = search needs
 
   slice-aggregate-trace : trace-lts.Need-slice-aggregate-trace (claims t) (trace-at t) trace.Post
-  slice-aggregate-trace c = sym (length-take-le 2 ((c .before .before .before .before .before .before .before .before .before .args) .file .now) (omega (arith, (c .before .if3) .taken)))
+  slice-aggregate-trace c =
+      let at-args = c .before .before .before .before .before .before .before .before .before .args in
+      sym (length-take-le 2 (at-args .file .now) (omega (arith, (c .before .if3) .taken)))
 
   trace-requires : trace-lts.Need-trace-requires (claims t) (trace-at t) trace.Post
-  trace-requires c κs = (omega (arith, (c .before .before .before .before .before .before .before .before .before .before .pre) .0, (c .before .before .if3) .taken, length-take-le 2 ((c .before .before .before .before .before .before .before .before .before .before .args) .file .now) (omega (arith, (c .before .before .if3) .taken))), tt)
+  trace-requires c κs =
+      let at-pre = c .before .before .before .before .before .before .before .before .before .before .pre in
+      let at-args = c .before .before .before .before .before .before .before .before .before .before .args in
+      (omega (arith, at-pre .0, (c .before .before .if3) .taken, length-take-le 2 (at-args .file .now) (omega (arith, (c .before .before .if3) .taken))), tt)
 
   same-length-2 : trace-lts.Need-same-length-2 (claims t) (trace-at t) trace.Post
   same-length-2 c = search needs
 
   returns-2 : trace-lts.Need-returns-2 (claims t) (trace-at t) trace.Post
   unfolding traceCall
-  returns-2 c = rw (header-cut ((c .before .before .before .before .before .before .before .before .before .before .before .before .before .args) .setting) ((c .before .before .before .before .before .before .before .before .before .before .before .before .before .args) .file .now) ((c .before .before .before .before .before .if3) .taken) (omega (arith, (c .before .before .before .before .before .before .before .before .stated-count) .ensures, (c .before .before .before .before .before .before .if2) .taken))) at ((c .before .before .trace) .ensures)
+  returns-2 c =
+      let at-args = c .before .before .before .before .before .before .before .before .before .before .before .before .before .args in
+      let at-stated-count = c .before .before .before .before .before .before .before .before .stated-count in
+      let at-if2 = c .before .before .before .before .before .before .if2 in
+      rw (header-cut (at-args .setting) (at-args .file .now) ((c .before .before .before .before .before .if3) .taken) (omega (arith, at-stated-count .ensures, at-if2 .taken))) at ((c .before .before .trace) .ensures)
 
   trace-many-requires : trace-lts.Need-trace-many-requires (claims t) (trace-at t) trace.Post
   trace-many-requires c κs = search needs

@@ -17,7 +17,9 @@ enum-told : tie.Need-enum-told
 enum-told c = search needs
 
 trace-rows-requires : tie.Need-trace-rows-requires
-trace-rows-requires c κs = (c .before .before .before .before .before .before .before .before .judge-rows) .ensures .1 .written (judged-room _ _ _ _ _ (sym ((c .before .before .before .before .before .before .before .before .judge-rows) .ensures .0) ∙ ap (checkAnswer _) ((c .before .before .enum-told) .given .1))) .index .firsts
+trace-rows-requires c κs =
+    let at-judge-rows = c .before .before .before .before .before .before .before .before .judge-rows in
+    at-judge-rows .ensures .1 .written (judged-room _ _ _ _ _ (sym (at-judge-rows .ensures .0) ∙ ap (checkAnswer _) ((c .before .before .enum-told) .given .1))) .index .firsts
 
 same-length : tie.Need-same-length
 same-length c = search needs
@@ -26,7 +28,9 @@ same-length-2 : tie.Need-same-length-2
 same-length-2 c = search needs
 
 returns : tie.Need-returns
-returns c = rows-refused _ _ _ _ _ _ _ _ (sym ((c .before .before .before .before .before .before .before .judge-rows) .ensures .0) ∙ ap (checkAnswer _) ((c .before .verdict) .given .1))
+returns c =
+    let at-judge-rows = c .before .before .before .before .before .before .before .judge-rows in
+    rows-refused _ _ _ _ _ _ _ _ (sym (at-judge-rows .ensures .0) ∙ ap (checkAnswer _) ((c .before .verdict) .given .1))
 
 same-length-3 : tie.Need-same-length-3
 same-length-3 c = search needs
@@ -38,7 +42,9 @@ same-length-5 : tie.Need-same-length-5
 same-length-5 c = search needs
 
 returns-2 : tie.Need-returns-2
-returns-2 c = rows-done _ _ _ _ _ _ _ _ _ (sym ((c .before .before .before .before .before .before .before .before .before .before .before .judge-rows) .ensures .0) ∙ ap (checkAnswer _) ((c .before .before .before .before .before .enum-told) .given .1)) ((c .before .before .trace-rows) .ensures)
+returns-2 c =
+    let at-judge-rows = c .before .before .before .before .before .before .before .before .before .before .before .judge-rows in
+    rows-done _ _ _ _ _ _ _ _ _ (sym (at-judge-rows .ensures .0) ∙ ap (checkAnswer _) ((c .before .before .before .before .before .enum-told) .given .1)) ((c .before .before .trace-rows) .ensures)
 
 pub request-rows-spec : {M : Type 1} → statement M
 request-rows-spec = tie.close (tie.spec judge-rows-requires enum-known-verdict enum-told trace-rows-requires same-length same-length-2 returns same-length-3 same-length-4 same-length-5 returns-2)

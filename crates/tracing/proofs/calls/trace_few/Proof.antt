@@ -43,9 +43,10 @@ slice-aggregate-trace-in-6 c = search needs
 
 trace-in-requires-2 : tie.Need-trace-in-requires-2
 trace-in-requires-2 c κs =
+    let at-pre = c .before .before .before .before .before .before .before .before .before .before .pre in
     let a = c .before .before .before .before .before .before .before .before .before .before .args in
     let f = a .file .now in
-    file-room (a .setting) 8 f _ _ _ (λ d e. omega (arith, stated-expanders (a .setting) f d e, (c .before .before .before .before .before .before .before .before .before .before .pre)))
+    file-room (a .setting) 8 f _ _ _ (λ d e. omega (arith, stated-expanders (a .setting) f d e, at-pre))
     (omega (arith, length-replicate {A = ℕ} 2064 0)) (omega (arith, length-replicate {A = ℕ} 1088 0)) (omega (arith, length-replicate {A = ℕ} 1024 0))
 
 same-length-2 : tie.Need-same-length-2

@@ -24,12 +24,15 @@ mul-e : tie.Need-mul-e
 mul-e c = search needs
 
 slice-reshare-prefix-request-rows : tie.Need-slice-reshare-prefix-request-rows
-slice-reshare-prefix-request-rows c = opened-fits _ _ _ _ _ _ ((c .before .before .before .before .before .before .before .before .before .before .before .before .before .before .pre) .rows) ((c .before .before .before .before .before .read-domain) .ensures) ((c .before .read2) .given .1) ((c .before .before .before .before .before .read-domain) .kept .1 .1 .0)
+slice-reshare-prefix-request-rows c =
+    let at-pre = c .before .before .before .before .before .before .before .before .before .before .before .before .before .before .pre in
+    opened-fits _ _ _ _ _ _ (at-pre .rows) ((c .before .before .before .before .before .read-domain) .ensures) ((c .before .read2) .given .1) ((c .before .before .before .before .before .read-domain) .kept .1 .1 .0)
 
 slice-aggregate-request-rows : tie.Need-slice-aggregate-request-rows
 slice-aggregate-request-rows c =
+    let at-pre = c .before .before .before .before .before .before .before .before .before .before .before .before .before .before .before .pre in
     let r = (c .before .before .before .before .before .before .read-domain) in
-    sym (length-take-le _ (r .last .1 .1 .0) (opened-fits _ _ _ _ _ _ ((c .before .before .before .before .before .before .before .before .before .before .before .before .before .before .before .pre) .rows) (r .ensures) ((c .before .before .read2) .given .1) (r .kept .1 .1 .0)))
+    sym (length-take-le _ (r .last .1 .1 .0) (opened-fits _ _ _ _ _ _ (at-pre .rows) (r .ensures) ((c .before .before .read2) .given .1) (r .kept .1 .1 .0)))
 
 request-rows-requires : tie.Need-request-rows-requires
 request-rows-requires c κs = search needs
@@ -38,7 +41,9 @@ same-length : tie.Need-same-length
 same-length c = search needs
 
 returns : tie.Need-returns
-returns c = call-refused _ _ _ _ _ _ (opened-as _ _ _ _ _ _ ((c .before .before .before .before .before .before .before .before .before .before .before .before .before .before .pre) .rows) ((c .before .before .before .before .before .read-domain) .ensures) ((c .before .read) .given .1))
+returns c =
+    let at-pre = c .before .before .before .before .before .before .before .before .before .before .before .before .before .before .pre in
+    call-refused _ _ _ _ _ _ (opened-as _ _ _ _ _ _ (at-pre .rows) ((c .before .before .before .before .before .read-domain) .ensures) ((c .before .read) .given .1))
 
 same-length-2 : tie.Need-same-length-2
 same-length-2 c = search needs
@@ -54,8 +59,12 @@ same-length-5 c = search needs
 
 returns-2 : tie.Need-returns-2
 returns-2 c =
-    let o = opened-as _ _ _ _ _ _ ((c .before .before .before .before .before .before .before .before .before .before .before .before .before .before .before .before .before .before .before .before .before .before .before .before .before .pre) .rows) ((c .before .before .before .before .before .before .before .before .before .before .before .before .before .before .before .before .read-domain) .ensures) ((c .before .before .before .before .before .before .before .before .before .before .before .before .read2) .given .1) in
-    call-done _ _ _ _ _ _ _ _ _ _ (o .0) (judged-own _ _ _ _ _ (o .0) ((c .before .before .before .before .before .before .before .before .before .before .before .before .before .before .before .before .before .before .before .before .before .before .before .before .before .pre) .index _ (o .0))) ((c .before .before .before .before .before .before .request-rows) .ensures)
+    let at-pre = c .before .before .before .before .before .before .before .before .before .before .before .before .before .before .before .before .before .before .before .before .before .before .before .before .before .pre in
+    let at-read-domain = c .before .before .before .before .before .before .before .before .before .before .before .before .before .before .before .before .read-domain in
+    let at-read2 = c .before .before .before .before .before .before .before .before .before .before .before .before .read2 in
+    let at-request-rows = c .before .before .before .before .before .before .request-rows in
+    let o = opened-as _ _ _ _ _ _ (at-pre .rows) (at-read-domain .ensures) (at-read2 .given .1) in
+    call-done _ _ _ _ _ _ _ _ _ _ (o .0) (judged-own _ _ _ _ _ (o .0) (at-pre .index _ (o .0))) (at-request-rows .ensures)
 
 pub trace-in-spec : {M : Type 1} → statement M
 trace-in-spec = tie.close (tie.spec read-domain-requires enum-known-read enum-known-read-2 cast-e mul-e slice-reshare-prefix-request-rows slice-aggregate-request-rows request-rows-requires same-length returns same-length-2 same-length-3 same-length-4 same-length-5 returns-2)

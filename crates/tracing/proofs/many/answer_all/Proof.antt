@@ -43,7 +43,9 @@ shared-slice-read-answer-one-2 : tie.Need-shared-slice-read-answer-one-2 Inv-loo
 shared-slice-read-answer-one-2 c = omega arith
 
 answer-one-requires : tie.Need-answer-one-requires Inv-loop μ-loop
-answer-one-requires c κs = ((c .before .before .before .before .before .before .before .before .before .before .pre)) .0
+answer-one-requires c κs =
+    let at-pre = c .before .before .before .before .before .before .before .before .before .before .pre in
+    (at-pre) .0
 
 mul-answers : tie.Need-mul-answers Inv-loop μ-loop
 mul-answers c = omega arith
@@ -64,7 +66,9 @@ same-length : tie.Need-same-length Inv-loop μ-loop
 same-length c = search needs
 
 returns : tie.Need-returns Inv-loop μ-loop
-returns c = let l = ((c .before .loop)) in answers-end _ _ _ (l .k) (l .answers) _ (l .inv .1 .1 .1) (omega arith) (((c .before .before .before .before .before .before .before .before .pre)) .1)
+returns c =
+    let at-pre = c .before .before .before .before .before .before .before .before .pre in
+    let l = ((c .before .loop)) in answers-end _ _ _ (l .k) (l .answers) _ (l .inv .1 .1 .1) (omega arith) ((at-pre) .1)
 
 pub answer-all-spec : {M : Type 1} → statement M
 answer-all-spec =

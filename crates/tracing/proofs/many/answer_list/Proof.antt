@@ -54,19 +54,22 @@ returns-3 c =
     (lt-leb (bytesFor (needed d)) (length (a .bits .now)) (omega (arith, c .before .before .before .before .before .needed-words .ensures .0, c .before .before .bytes-for .ensures)))) (c .refused3 .ensures)
 
 answer-all-requires : tie.Need-answer-all-requires
-answer-all-requires c κs = ((c .before .before .before .before .before .before .before .before .before .before .before .before .pre, record { words = omega (arith, c .before .before .before .before .before .needed-words .ensures .0); bits = omega (arith, c .before .before .before .before .before .needed-words .ensures .0, c .before .before .bytes-for .ensures) }), omega arith)
+answer-all-requires c κs =
+    let at-pre = c .before .before .before .before .before .before .before .before .before .before .before .before .pre in
+    ((at-pre, record { words = omega (arith, c .before .before .before .before .before .needed-words .ensures .0); bits = omega (arith, c .before .before .before .before .before .needed-words .ensures .0, c .before .before .bytes-for .ensures) }), omega arith)
 
 same-length : tie.Need-same-length
 same-length c = search needs
 
 returns-4 : tie.Need-returns-4
 returns-4 c =
+    let at-needed-words = c .before .before .before .before .before .before .before .before .needed-words in
     let a = c .before .before .before .before .before .before .before .before .before .before .before .before .before .before .before .args in
     let d : Domain = domainIn (a .rows .now) in
     let t = entries (a .words .now) (a .bits .now) in
     list-yes t (a .requests .now) (a .answers .now) (listFor (roomOf t) (length (a .answers .now)) (requestCount (a .requests .now)) d) d _ _
-    (list-by (roomOf t) (length (a .answers .now)) (requestCount (a .requests .now)) d (le-leb (needed d) (length (a .words .now)) (omega (arith, c .before .before .before .before .before .before .before .before .needed-words .ensures .0))) (le-leb (requestCount (a .requests .now)) (length (a .answers .now)) (omega arith))
-    (le-leb (bytesFor (needed d)) (length (a .bits .now)) (omega (arith, c .before .before .before .before .before .before .before .before .needed-words .ensures .0, c .before .before .before .before .before .bytes-for .ensures)))) refl (c .before .before .answer-all .ensures)
+    (list-by (roomOf t) (length (a .answers .now)) (requestCount (a .requests .now)) d (le-leb (needed d) (length (a .words .now)) (omega (arith, at-needed-words .ensures .0))) (le-leb (requestCount (a .requests .now)) (length (a .answers .now)) (omega arith))
+    (le-leb (bytesFor (needed d)) (length (a .bits .now)) (omega (arith, at-needed-words .ensures .0, c .before .before .before .before .before .bytes-for .ensures)))) refl (c .before .before .answer-all .ensures)
 
 pub answer-list-spec : {M : Type 1} → statement M
 answer-list-spec = tie.close (tie.spec needed-words-requires refused-requires returns refused-requires-2 returns-2 bytes-for-requires refused-requires-3 returns-3 answer-all-requires same-length returns-4)

@@ -19,7 +19,9 @@ pack-refusal-requires : tie.Need-pack-refusal-requires
 pack-refusal-requires c κs = search needs
 
 returns : tie.Need-returns
-returns c = one-high (domainIn (((c .before .before .before .before .before .before .before .args)) .rows .now)) (entries (((c .before .before .before .before .before .before .before .args)) .words .now) (((c .before .before .before .before .before .before .before .args)) .bits .now)) (((c .before .before .before .before .before .before .before .args)) .w) (((c .before .before .before .before .before .before .before .args)) .s) _ (omega arith) (((c .pack-refusal)) .ensures ∙ ap packRefusal (((c .before .refused)) .ensures))
+returns c =
+    let at-args = c .before .before .before .before .before .before .before .args in
+    one-high (domainIn ((at-args) .rows .now)) (entries ((at-args) .words .now) ((at-args) .bits .now)) ((at-args) .w) ((at-args) .s) _ (omega arith) (((c .pack-refusal)) .ensures ∙ ap packRefusal (((c .before .refused)) .ensures))
 
 cast-t14 : tie.Need-cast-t14
 cast-t14 c = search needs
@@ -31,13 +33,18 @@ slice-aggregate-trace-lent : tie.Need-slice-aggregate-trace-lent
 slice-aggregate-trace-lent c = search needs
 
 trace-lent-requires : tie.Need-trace-lent-requires
-trace-lent-requires c κs = (c .before .before .before .before .before .before .pre .0, (c .before .before .before .before .before .before .pre .1, omega (arith, length-replicate {A = ℕ} 64 0, domain-few (c .before .before .before .before .before .before .args .rows .now))))
+trace-lent-requires c κs =
+    let at-pre = c .before .before .before .before .before .before .pre in
+    let at-args = c .before .before .before .before .before .before .args in
+    (at-pre .0, (at-pre .1, omega (arith, length-replicate {A = ℕ} 64 0, domain-few (at-args .rows .now))))
 
 pack-trace-requires : tie.Need-pack-trace-requires
 pack-trace-requires c κs = search needs
 
 returns-2 : tie.Need-returns-2
-returns-2 c = one-low (domainIn (((c .before .before .before .before .before .before .before .before .before .args)) .rows .now)) (entries (((c .before .before .before .before .before .before .before .before .before .args)) .words .now) (((c .before .before .before .before .before .before .before .before .before .args)) .bits .now)) (((c .before .before .before .before .before .before .before .before .before .args)) .w) (((c .before .before .before .before .before .before .before .before .before .args)) .s) _ _ _ _ _ (omega arith) (length-replicate {A = ℕ} 64 0) (((c .pack-trace)) .ensures) (((c .before .before .trace-lent)) .ensures)
+returns-2 c =
+    let at-args = c .before .before .before .before .before .before .before .before .before .args in
+    one-low (domainIn ((at-args) .rows .now)) (entries ((at-args) .words .now) ((at-args) .bits .now)) ((at-args) .w) ((at-args) .s) _ _ _ _ _ (omega arith) (length-replicate {A = ℕ} 64 0) (((c .pack-trace)) .ensures) (((c .before .before .trace-lent)) .ensures)
 
 pub answer-one-spec : {M : Type 1} → statement M
 answer-one-spec =

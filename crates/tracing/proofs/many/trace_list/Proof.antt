@@ -17,7 +17,9 @@ enum-told : tie.Need-enum-told
 enum-told c = search needs
 
 answer-list-requires : tie.Need-answer-list-requires
-answer-list-requires c κs = (c .before .before .before .before .before .before .before .before .judge-rows) .ensures .1 .written (judged-room _ _ _ _ _ (sym ((c .before .before .before .before .before .before .before .before .judge-rows) .ensures .0) ∙ ap (checkAnswer _) ((c .before .before .enum-told) .given .1))) .index .firsts
+answer-list-requires c κs =
+    let at-judge-rows = c .before .before .before .before .before .before .before .before .judge-rows in
+    at-judge-rows .ensures .1 .written (judged-room _ _ _ _ _ (sym (at-judge-rows .ensures .0) ∙ ap (checkAnswer _) ((c .before .before .enum-told) .given .1))) .index .firsts
 
 same-length : tie.Need-same-length
 same-length c = search needs
@@ -26,7 +28,9 @@ same-length-2 : tie.Need-same-length-2
 same-length-2 c = search needs
 
 returns : tie.Need-returns
-returns c = list-refused _ _ _ _ _ _ _ _ _ (sym ((c .before .before .before .before .before .before .before .judge-rows) .ensures .0) ∙ ap (checkAnswer _) ((c .before .verdict) .given .1))
+returns c =
+    let at-judge-rows = c .before .before .before .before .before .before .before .judge-rows in
+    list-refused _ _ _ _ _ _ _ _ _ (sym (at-judge-rows .ensures .0) ∙ ap (checkAnswer _) ((c .before .verdict) .given .1))
 
 same-length-3 : tie.Need-same-length-3
 same-length-3 c = search needs
@@ -38,7 +42,9 @@ same-length-5 : tie.Need-same-length-5
 same-length-5 c = search needs
 
 returns-2 : tie.Need-returns-2
-returns-2 c = list-judged _ _ _ _ _ _ _ _ _ _ (sym ((c .before .before .before .before .before .before .before .before .before .before .before .judge-rows) .ensures .0) ∙ ap (checkAnswer _) ((c .before .before .before .before .before .enum-told) .given .1)) ((c .before .before .answer-list) .ensures)
+returns-2 c =
+    let at-judge-rows = c .before .before .before .before .before .before .before .before .before .before .before .judge-rows in
+    list-judged _ _ _ _ _ _ _ _ _ _ (sym (at-judge-rows .ensures .0) ∙ ap (checkAnswer _) ((c .before .before .before .before .before .enum-told) .given .1)) ((c .before .before .answer-list) .ensures)
 
 pub trace-list-spec : {M : Type 1} → statement M
 trace-list-spec = tie.close (tie.spec judge-rows-requires enum-known-verdict enum-told answer-list-requires same-length same-length-2 returns same-length-3 same-length-4 same-length-5 returns-2)

@@ -17,18 +17,20 @@ returns c =
 
 returns-2 : tie.Need-returns-2
 returns-2 c =
+    let at-expander-address = c .before .before .before .before .before .before .expander-address in
     let a = c .before .before .before .before .before .before .before .before .before .before .args in
     c .told2 .ensures ∙ reason-phy (domainIn (a .rows .now)) (counted (entries (a .words .now) (a .bits .now))) (a .i .0) (a .arrival .0) (a .s)
-    (λ e. c .before .before .before .before .before .if1 .left (c .before .before .before .before .before .before .expander-address .ensures ∙ e)) (ap pickAnswer (sym (c .before .before .p .given .1)) ∙ c .before .before .before .before .pick-bearing .ensures)
+    (λ e. c .before .before .before .before .before .if1 .left (at-expander-address .ensures ∙ e)) (ap pickAnswer (sym (c .before .before .p .given .1)) ∙ c .before .before .before .before .pick-bearing .ensures)
 
 returns-3 : tie.Need-returns-3
 returns-3 c =
+    let at-expander-address = c .before .before .before .before .before .before .expander-address in
     let a = c .before .before .before .before .before .before .before .before .before .before .args in
     let d : Domain = domainIn (a .rows .now) in
     let w = counted (entries (a .words .now) (a .bits .now)) in
     c .table-reason .ensures
     ∙ ap (λ (x : ℕ). byEntry d w (a .i .0) (a .s) (listingPick d w (a .i .0) (a .s)) (bySubtraction d (a .i .0) x (subtractingPick d (a .i .0)))) (c .before .came-from .ensures)
-    ∙ reason-on d w (a .i .0) (a .arrival .0) (a .s) (λ e. c .before .before .before .before .before .if1 .left (c .before .before .before .before .before .before .expander-address .ensures ∙ e)) (ap pickAnswer (sym (c .before .before .enum-told .given .1)) ∙ c .before .before .before .before .pick-bearing .ensures)
+    ∙ reason-on d w (a .i .0) (a .arrival .0) (a .s) (λ e. c .before .before .before .before .before .if1 .left (at-expander-address .ensures ∙ e)) (ap pickAnswer (sym (c .before .before .enum-told .given .1)) ∙ c .before .before .before .before .pick-bearing .ensures)
 
 expander-address-requires : tie.Need-expander-address-requires
 expander-address-requires c κs = search needs

@@ -11,15 +11,19 @@ use Rattle.tracing.proofs.reasons.subtractive_reason.Tie as tie
 
 returns : tie.Need-returns
 returns c =
-    let d : Domain = domainIn (c .before .before .before .before .before .before .before .before .before .args .rows .now) in
-    let e = ap pickAnswer (sym (c .before .before .before .before .before .p .given .1)) ∙ c .before .before .before .before .before .before .before .pick-subtracting .ensures in
-    c .told .ensures ∙ subtraction-at d (c .before .before .before .before .before .before .before .before .before .args .i .0) (c .before .before .before .before .before .before .before .before .before .args .came) e (eq-eqb _ _ (sym (c .before .before .phy-address .ensures ∙ ap addressOf (c .before .before .before .phy-at .ensures)) ∙ c .before .if1 .taken))
+    let at-args = c .before .before .before .before .before .before .before .before .before .args in
+    let at-pick-subtracting = c .before .before .before .before .before .before .before .pick-subtracting in
+    let d : Domain = domainIn (at-args .rows .now) in
+    let e = ap pickAnswer (sym (c .before .before .before .before .before .p .given .1)) ∙ at-pick-subtracting .ensures in
+    c .told .ensures ∙ subtraction-at d (at-args .i .0) (at-args .came) e (eq-eqb _ _ (sym (c .before .before .phy-address .ensures ∙ ap addressOf (c .before .before .before .phy-at .ensures)) ∙ c .before .if1 .taken))
 
 returns-2 : tie.Need-returns-2
 returns-2 c =
-    let d : Domain = domainIn (c .before .before .before .before .before .before .before .before .before .args .rows .now) in
-    let e = ap pickAnswer (sym (c .before .before .before .before .before .p .given .1)) ∙ c .before .before .before .before .before .before .before .pick-subtracting .ensures in
-    c .told2 .ensures ∙ subtraction-at d (c .before .before .before .before .before .before .before .before .before .args .i .0) (c .before .before .before .before .before .before .before .before .before .args .came) e (ne-eqb _ _ (λ f. c .before .if1 .left ((c .before .before .phy-address .ensures ∙ ap addressOf (c .before .before .before .phy-at .ensures)) ∙ f)))
+    let at-args = c .before .before .before .before .before .before .before .before .before .args in
+    let at-pick-subtracting = c .before .before .before .before .before .before .before .pick-subtracting in
+    let d : Domain = domainIn (at-args .rows .now) in
+    let e = ap pickAnswer (sym (c .before .before .before .before .before .p .given .1)) ∙ at-pick-subtracting .ensures in
+    c .told2 .ensures ∙ subtraction-at d (at-args .i .0) (at-args .came) e (ne-eqb _ _ (λ f. c .before .if1 .left ((c .before .before .phy-address .ensures ∙ ap addressOf (c .before .before .before .phy-at .ensures)) ∙ f)))
 
 returns-3 : tie.Need-returns-3
 returns-3 c =

@@ -14,7 +14,8 @@ use Rattle.tracing.proofs.reasons.table_reason.Tie as tie
 
 stretch-start-requires : tie.Need-stretch-start-requires
 stretch-start-requires c κs =
-    listing-range (domainIn (c .before .before .before .before .before .before .before .args .rows .now)) (c .before .before .before .before .before .before .before .args .i .0) (counted (entries (c .before .before .before .before .before .before .before .args .words .now) (c .before .before .before .before .before .before .before .args .bits .now))) (c .before .before .before .before .before .before .before .args .s)
+    let at-args = c .before .before .before .before .before .before .before .args in
+    listing-range (domainIn (at-args .rows .now)) (at-args .i .0) (counted (entries (at-args .words .now) (at-args .bits .now))) (at-args .s)
     (ap pickAnswer (sym (c .before .p .given .1)) ∙ c .before .before .before .pick-listing .ensures)
 
 index-of-requires : tie.Need-index-of-requires
@@ -22,10 +23,11 @@ index-of-requires c κs = omega (arith, c .before .stretch-start .ensures .1)
 
 returns : tie.Need-returns
 returns c =
+    let at-pick-listing = c .before .before .before .before .before .before .before .pick-listing in
     let a = c .before .before .before .before .before .before .before .before .before .before .before .args in
     let d : Domain = domainIn (a .rows .now) in
     let w = counted (entries (a .words .now) (a .bits .now)) in
-    let e = ap pickAnswer (sym (c .before .before .before .before .before .p .given .1)) ∙ c .before .before .before .before .before .before .before .pick-listing .ensures in
+    let e = ap pickAnswer (sym (c .before .before .before .before .before .p .given .1)) ∙ at-pick-listing .ensures in
     c .told .ensures ∙ ap (because 3 _) (c .before .index-of .ensures ∙ index-stretch d w (a .i .0) _ (a .s) (c .before .before .index-count .ensures) (c .before .before .before .stretch-start .ensures .0))
     ∙ entry-at d w (a .i .0) (a .s) (bySubtraction d (a .i .0) (a .came) (subtractingPick d (a .i .0))) e
 

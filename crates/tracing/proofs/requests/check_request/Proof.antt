@@ -52,11 +52,12 @@ refuse-requires-3 c κs = search needs
 
 returns-3 : tie.Need-returns-3
 returns-3 c =
+    let at-is-allowed = c .before .before .before .before .before .before .is-allowed in
     let a = c .before .before .before .before .before .before .before .before .args in
     let d : Domain = domainIn (a .rows .now) in
     ap (checkAnswer d) (c .refuse3 .ensures)
     ∙ sym (requested-by (record { words = a .words; bits = a .bits }) (a .bytes) (request (a .start .0) (a .arrival .0) (a .s)) d
-    (sym (c .before .before .before .before .before .before .is-allowed .ensures) ∙ not-false _ (c .before .before .before .before .before .if1 .left)) (le-leb (needed d) (a .words) (omega arith)) (lt-leb (length d) (a .bytes) (omega arith)) refl refl)
+    (sym (at-is-allowed .ensures) ∙ not-false _ (c .before .before .before .before .before .if1 .left)) (le-leb (needed d) (a .words) (omega arith)) (lt-leb (length d) (a .bytes) (omega arith)) refl refl)
 
 bytes-for-requires : tie.Need-bytes-for-requires
 bytes-for-requires c κs = search needs
@@ -66,32 +67,41 @@ refuse-requires-4 c κs = search needs
 
 returns-4 : tie.Need-returns-4
 returns-4 c =
+    let at-is-allowed = c .before .before .before .before .before .before .before .before .is-allowed in
+    let at-if1 = c .before .before .before .before .before .before .before .if1 in
+    let at-needed-words = c .before .before .before .before .before .before .needed-words in
     let a = c .before .before .before .before .before .before .before .before .before .before .args in
     let d : Domain = domainIn (a .rows .now) in
     ap (checkAnswer d) (c .refuse4 .ensures)
     ∙ sym (requested-by (record { words = a .words; bits = a .bits }) (a .bytes) (request (a .start .0) (a .arrival .0) (a .s)) d
-    (sym (c .before .before .before .before .before .before .before .before .is-allowed .ensures) ∙ not-false _ (c .before .before .before .before .before .before .before .if1 .left)) (le-leb (needed d) (a .words) (omega arith)) (le-leb (length d) (a .bytes) (omega arith))
-    (lt-leb (bytesFor (needed d)) (a .bits) (omega (arith, c .before .before .before .before .before .before .needed-words .ensures .0, c .before .before .bytes-for .ensures))) refl)
+    (sym (at-is-allowed .ensures) ∙ not-false _ (at-if1 .left)) (le-leb (needed d) (a .words) (omega arith)) (le-leb (length d) (a .bytes) (omega arith))
+    (lt-leb (bytesFor (needed d)) (a .bits) (omega (arith, at-needed-words .ensures .0, c .before .before .bytes-for .ensures))) refl)
 
 refuse-requires-5 : tie.Need-refuse-requires-5
 refuse-requires-5 c κs = search needs
 
 returns-5 : tie.Need-returns-5
 returns-5 c =
+    let at-is-allowed = c .before .before .before .before .before .before .before .before .before .is-allowed in
+    let at-if1 = c .before .before .before .before .before .before .before .before .if1 in
+    let at-needed-words = c .before .before .before .before .before .before .before .needed-words in
     let a = c .before .before .before .before .before .before .before .before .before .before .before .args in
     let d : Domain = domainIn (a .rows .now) in
     ap (checkAnswer d) (c .refuse5 .ensures)
     ∙ sym (requested-by (record { words = a .words; bits = a .bits }) (a .bytes) (request (a .start .0) (a .arrival .0) (a .s)) d
-    (sym (c .before .before .before .before .before .before .before .before .before .is-allowed .ensures) ∙ not-false _ (c .before .before .before .before .before .before .before .before .if1 .left)) (le-leb (needed d) (a .words) (omega arith)) (le-leb (length d) (a .bytes) (omega arith))
-    (le-leb (bytesFor (needed d)) (a .bits) (omega (arith, c .before .before .before .before .before .before .before .needed-words .ensures .0, c .before .before .before .bytes-for .ensures))) (eq-eqb (a .s) 0 (omega arith)))
+    (sym (at-is-allowed .ensures) ∙ not-false _ (at-if1 .left)) (le-leb (needed d) (a .words) (omega arith)) (le-leb (length d) (a .bytes) (omega arith))
+    (le-leb (bytesFor (needed d)) (a .bits) (omega (arith, at-needed-words .ensures .0, c .before .before .before .bytes-for .ensures))) (eq-eqb (a .s) 0 (omega arith)))
 
 returns-6 : tie.Need-returns-6
 returns-6 c =
+    let at-is-allowed = c .before .before .before .before .before .before .before .before .is-allowed in
+    let at-if1 = c .before .before .before .before .before .before .before .if1 in
+    let at-needed-words = c .before .before .before .before .before .before .needed-words in
     let a = c .before .before .before .before .before .before .before .before .before .before .args in
     let d : Domain = domainIn (a .rows .now) in
     sym (requested-by (record { words = a .words; bits = a .bits }) (a .bytes) (request (a .start .0) (a .arrival .0) (a .s)) d
-    (sym (c .before .before .before .before .before .before .before .before .is-allowed .ensures) ∙ not-false _ (c .before .before .before .before .before .before .before .if1 .left)) (le-leb (needed d) (a .words) (omega arith)) (le-leb (length d) (a .bytes) (omega arith))
-    (le-leb (bytesFor (needed d)) (a .bits) (omega (arith, c .before .before .before .before .before .before .needed-words .ensures .0, c .before .before .bytes-for .ensures))) (ne-eqb (a .s) 0 (λ e. omega arith)))
+    (sym (at-is-allowed .ensures) ∙ not-false _ (at-if1 .left)) (le-leb (needed d) (a .words) (omega arith)) (le-leb (length d) (a .bytes) (omega arith))
+    (le-leb (bytesFor (needed d)) (a .bits) (omega (arith, at-needed-words .ensures .0, c .before .before .bytes-for .ensures))) (ne-eqb (a .s) 0 (λ e. omega arith)))
 
 pub check-request-spec : {M : Type 1} → statement M
 check-request-spec = tie.close (tie.spec is-allowed-requires refuse-requires returns needed-words-requires refuse-requires-2 returns-2 expander-count-requires cast-if3 refuse-requires-3 returns-3 bytes-for-requires refuse-requires-4 returns-4 refuse-requires-5 returns-5 returns-6)

@@ -22,10 +22,11 @@ enum-told c = search needs
 
 walk-requires : tie.Need-walk-requires
 walk-requires c κs =
+    let at-pre = c .before .before .before .before .before .before .before .before .before .pre in
     let a = c .before .before .before .before .before .before .before .before .before .args in
     let d : Domain = domainIn (a .rows .now) in
     let e = ap (checkAnswer d) (sym (c .before .enum-told .given .1)) ∙ c .before .before .before .check-request .ensures in
-    (c .before .before .before .before .before .before .before .before .before .pre, room (roomOf (entries (a .words .now) (a .bits .now))) (length (a .passed .now)) (request (a .start .0) (a .arrival .0) (a .s)) d e)
+    (at-pre, room (roomOf (entries (a .words .now) (a .bits .now))) (length (a .passed .now)) (request (a .start .0) (a .arrival .0) (a .s)) d e)
 
 returns : tie.Need-returns
 returns c =
@@ -39,9 +40,10 @@ same-length c = search needs
 
 returns-2 : tie.Need-returns-2
 returns-2 c =
+    let at-check-request = c .before .before .before .before .before .before .check-request in
     let a = c .before .before .before .before .before .before .before .before .before .before .before .before .args in
     let d : Domain = domainIn (a .rows .now) in
-    let e = c .before .before .before .before .before .before .check-request .ensures in
+    let e = at-check-request .ensures in
     answer-yes d (entries (a .words .now) (a .bits .now)) (request (a .start .0) (a .arrival .0) (a .s)) (a .passed .now)
     (ap (checkAnswer d) (sym (c .before .before .before .before .enum-told .given .1)) ∙ e) (c .before .before .walk .ensures)
 

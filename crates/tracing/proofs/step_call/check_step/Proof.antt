@@ -29,28 +29,32 @@ returns-2 c =
 
 returns-3 : tie.Need-returns-3
 returns-3 c =
+    let at-may-arrive = c .before .before .before .before .before .before .may-arrive in
     let a = c .before .before .before .before .before .before .before .before .args in
     let d : Domain = domainIn (a .rows .now) in
     ap (checkAnswer d) (c .refuse3 .ensures)
     ∙ sym (stepRequested-by (record { words = a .words; bits = a .bits }) (request (a .i .0) (a .arrival .0) (a .s)) d
-    (sym (c .before .before .before .before .before .before .may-arrive .ensures) ∙ not-false _ (c .before .before .before .before .before .if1 .left)) (le-leb (needed d) (a .words) (omega arith))
+    (sym (at-may-arrive .ensures) ∙ not-false _ (c .before .before .before .before .before .if1 .left)) (le-leb (needed d) (a .words) (omega arith))
     (lt-leb (bytesFor (needed d)) (a .bits) (omega (arith, c .before .before .before .before .needed-words .ensures .0, c .before .before .bytes-for .ensures))) refl)
 
 returns-4 : tie.Need-returns-4
 returns-4 c =
+    let at-may-arrive = c .before .before .before .before .before .before .before .may-arrive in
+    let at-if1 = c .before .before .before .before .before .before .if1 in
     let a = c .before .before .before .before .before .before .before .before .before .args in
     let d : Domain = domainIn (a .rows .now) in
     ap (checkAnswer d) (c .refuse4 .ensures)
     ∙ sym (stepRequested-by (record { words = a .words; bits = a .bits }) (request (a .i .0) (a .arrival .0) (a .s)) d
-    (sym (c .before .before .before .before .before .before .before .may-arrive .ensures) ∙ not-false _ (c .before .before .before .before .before .before .if1 .left)) (le-leb (needed d) (a .words) (omega arith))
+    (sym (at-may-arrive .ensures) ∙ not-false _ (at-if1 .left)) (le-leb (needed d) (a .words) (omega arith))
     (le-leb (bytesFor (needed d)) (a .bits) (omega (arith, c .before .before .before .before .before .needed-words .ensures .0, c .before .before .before .bytes-for .ensures))) (eq-eqb (a .s) 0 (omega arith)))
 
 returns-5 : tie.Need-returns-5
 returns-5 c =
+    let at-may-arrive = c .before .before .before .before .before .before .may-arrive in
     let a = c .before .before .before .before .before .before .before .before .args in
     let d : Domain = domainIn (a .rows .now) in
     sym (stepRequested-by (record { words = a .words; bits = a .bits }) (request (a .i .0) (a .arrival .0) (a .s)) d
-    (sym (c .before .before .before .before .before .before .may-arrive .ensures) ∙ not-false _ (c .before .before .before .before .before .if1 .left)) (le-leb (needed d) (a .words) (omega arith))
+    (sym (at-may-arrive .ensures) ∙ not-false _ (c .before .before .before .before .before .if1 .left)) (le-leb (needed d) (a .words) (omega arith))
     (le-leb (bytesFor (needed d)) (a .bits) (omega (arith, c .before .before .before .before .needed-words .ensures .0, c .before .before .bytes-for .ensures))) (ne-eqb (a .s) 0 (λ e. omega arith)))
 
 may-arrive-requires : tie.Need-may-arrive-requires

@@ -8,13 +8,19 @@ use Rattle.tracing.proofs.step_call.judged_step.Statement.{statement}
 use Rattle.tracing.proofs.step_call.judged_step.Tie as tie
 
 step-rows-requires : tie.Need-step-rows-requires
-step-rows-requires c κs = (c .before .before .before .before .before .before .before .judge-rows) .ensures .1 .written (judged-room _ _ _ _ _ (sym ((c .before .before .before .before .before .before .before .judge-rows) .ensures .0) ∙ ap (checkAnswer _) ((c .before .enum-told) .given .1))) .index .firsts
+step-rows-requires c κs =
+    let at-judge-rows = c .before .before .before .before .before .before .before .judge-rows in
+    at-judge-rows .ensures .1 .written (judged-room _ _ _ _ _ (sym (at-judge-rows .ensures .0) ∙ ap (checkAnswer _) ((c .before .enum-told) .given .1))) .index .firsts
 
 returns : tie.Need-returns
-returns c = rows-no _ _ _ _ _ _ _ (sym ((c .before .before .before .before .before .before .before .judge-rows) .ensures .0) ∙ ap (checkAnswer _) ((c .before .verdict) .given .1))
+returns c =
+    let at-judge-rows = c .before .before .before .before .before .before .before .judge-rows in
+    rows-no _ _ _ _ _ _ _ (sym (at-judge-rows .ensures .0) ∙ ap (checkAnswer _) ((c .before .verdict) .given .1))
 
 returns-2 : tie.Need-returns-2
-returns-2 c = rows-yes _ _ _ _ _ _ _ (sym ((c .before .before .before .before .before .before .before .before .judge-rows) .ensures .0) ∙ ap (checkAnswer _) ((c .before .before .enum-told) .given .1)) ((c .step-rows) .ensures)
+returns-2 c =
+    let at-judge-rows = c .before .before .before .before .before .before .before .before .judge-rows in
+    rows-yes _ _ _ _ _ _ _ (sym (at-judge-rows .ensures .0) ∙ ap (checkAnswer _) ((c .before .before .enum-told) .given .1)) ((c .step-rows) .ensures)
 
 judge-rows-requires : tie.Need-judge-rows-requires
 judge-rows-requires c κs = search needs

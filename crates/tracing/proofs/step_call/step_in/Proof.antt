@@ -9,20 +9,28 @@ use Rattle.tracing.proofs.step_call.step_in.Statement.{statement}
 use Rattle.tracing.proofs.step_call.step_in.Tie as tie
 
 slice-reshare-prefix-judged-step : tie.Need-slice-reshare-prefix-judged-step
-slice-reshare-prefix-judged-step c = opened-fits _ _ _ _ _ _ ((c .before .before .before .before .before .before .before .before .before .before .before .before .before .pre) .rows) ((c .before .before .before .before .before .read-domain) .ensures) ((c .before .read2) .given .1) ((c .before .before .before .before .before .read-domain) .kept .1 .1 .0)
+slice-reshare-prefix-judged-step c =
+    let at-pre = c .before .before .before .before .before .before .before .before .before .before .before .before .before .pre in
+    opened-fits _ _ _ _ _ _ (at-pre .rows) ((c .before .before .before .before .before .read-domain) .ensures) ((c .before .read2) .given .1) ((c .before .before .before .before .before .read-domain) .kept .1 .1 .0)
 
 slice-aggregate-judged-step : tie.Need-slice-aggregate-judged-step
 slice-aggregate-judged-step c =
+    let at-pre = c .before .before .before .before .before .before .before .before .before .before .before .before .before .before .pre in
     let r = (c .before .before .before .before .before .before .read-domain) in
-    sym (length-take-le _ (r .last .1 .1 .0) (opened-fits _ _ _ _ _ _ ((c .before .before .before .before .before .before .before .before .before .before .before .before .before .before .pre) .rows) (r .ensures) ((c .before .before .read2) .given .1) (r .kept .1 .1 .0)))
+    sym (length-take-le _ (r .last .1 .1 .0) (opened-fits _ _ _ _ _ _ (at-pre .rows) (r .ensures) ((c .before .before .read2) .given .1) (r .kept .1 .1 .0)))
 
 returns : tie.Need-returns
-returns c = file-no _ _ _ _ _ (opened-as _ _ _ _ _ _ ((c .before .before .before .before .before .before .before .before .before .before .before .before .before .pre) .rows) ((c .before .before .before .before .before .read-domain) .ensures) ((c .before .read) .given .1))
+returns c =
+    let at-pre = c .before .before .before .before .before .before .before .before .before .before .before .before .before .pre in
+    file-no _ _ _ _ _ (opened-as _ _ _ _ _ _ (at-pre .rows) ((c .before .before .before .before .before .read-domain) .ensures) ((c .before .read) .given .1))
 
 returns-2 : tie.Need-returns-2
 returns-2 c =
-    let o = opened-as _ _ _ _ _ _ ((c .before .before .before .before .before .before .before .before .before .before .before .before .before .before .before .before .before .before .before .before .before .pre) .rows) ((c .before .before .before .before .before .before .before .before .before .before .before .before .before .read-domain) .ensures) ((c .before .before .before .before .before .before .before .before .before .read2) .given .1) in
-    file-yes _ _ _ _ _ _ _ _ (o .0) (judged-own _ _ _ _ _ (o .0) ((c .before .before .before .before .before .before .before .before .before .before .before .before .before .before .before .before .before .before .before .before .before .pre) .index _ (o .0))) ((c .before .before .before .before .judged-step) .ensures)
+    let at-pre = c .before .before .before .before .before .before .before .before .before .before .before .before .before .before .before .before .before .before .before .before .before .pre in
+    let at-read-domain = c .before .before .before .before .before .before .before .before .before .before .before .before .before .read-domain in
+    let at-read2 = c .before .before .before .before .before .before .before .before .before .read2 in
+    let o = opened-as _ _ _ _ _ _ (at-pre .rows) (at-read-domain .ensures) (at-read2 .given .1) in
+    file-yes _ _ _ _ _ _ _ _ (o .0) (judged-own _ _ _ _ _ (o .0) (at-pre .index _ (o .0))) ((c .before .before .before .before .judged-step) .ensures)
 
 read-domain-requires : tie.Need-read-domain-requires
 read-domain-requires c κs = search needs

@@ -17,9 +17,10 @@ enum-known-p c = search needs
 
 arrive-unless-requires : tie.Need-arrive-unless-requires
 arrive-unless-requires c κs =
+    let at-pre = c .before .before .before .before .before .before .before .before .pre in
     let a = c .before .before .before .before .before .before .before .before .args in
     let e = ap pickAnswer (sym (c .before .p .given .1)) ∙ c .before .before .before .pick-bearing .ensures in
-    (c .before .before .before .before .before .before .before .before .pre, bearing-attached (domainIn (a .rows .now)) (a .i .0) (a .s) e)
+    (at-pre, bearing-attached (domainIn (a .rows .now)) (a .i .0) (a .s) e)
 
 enum-told : tie.Need-enum-told
 enum-told c = search needs

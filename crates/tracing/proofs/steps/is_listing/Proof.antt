@@ -50,11 +50,12 @@ lists-requires c κs = search needs
 
 returns-3 : tie.Need-returns-3
 returns-3 c =
+    let at-phy-at = c .before .before .before .before .before .before .phy-at in
     let a = c .before .before .before .before .before .before .before .before .before .before .args in
     let d : Domain = domainIn (a .rows .now) in
     let φ : Phy = phyAt d (a .i .0) (a .p .0) in
     let o = c .before .before .before .before .before .before .before .before .before .before .pre in
-    let e = c .before .before .before .before .before .before .phy-at .ensures in
+    let e = at-phy-at .ensures in
     let t = c .before .before .before .before .before .phy-type in
     let y : t .result ≡ typeOf φ = t .ensures ∙ ap typeOf e in
     let r = c .before .before .before .phy-attribute in

@@ -73,10 +73,11 @@ loop-less c = omega arith
 
 loop-again : tie.Need-loop-again Inv-loop μ-loop
 loop-again c =
+    let at-phy-count = c .before .before .before .before .before .before .phy-count in
     let a = c .before .before .before .before .before .before .before .before .before .before .args in
     let d : Domain = domainIn (a .rows .now) in
     let l = c .before .before .before .before .loop in
-    let n : ℕ = c .before .before .before .before .before .before .phy-count .result in
+    let n : ℕ = at-phy-count .result in
     let z = phys-next d (a .i .0) (l .p) in (
       omega arith,
       omega arith,

@@ -15,9 +15,10 @@ enum-known-p c = search needs
 
 move-unless-requires : tie.Need-move-unless-requires
 move-unless-requires c κs =
+    let at-pre = c .before .before .before .before .before .before .pre in
     let a = c .before .before .before .before .before .before .args in
     let e = ap pickAnswer (sym (c .before .p .given .1)) ∙ c .before .before .before .pick-subtracting .ensures in
-    (c .before .before .before .before .before .before .pre, subtracting-far (domainIn (a .rows .now)) (a .i .0) e)
+    (at-pre, subtracting-far (domainIn (a .rows .now)) (a .i .0) e)
 
 enum-told : tie.Need-enum-told
 enum-told c = search needs

@@ -16,9 +16,10 @@ enum-known-p c = search needs
 
 move-unless-requires : tie.Need-move-unless-requires
 move-unless-requires c κs =
+    let at-pre = c .before .before .before .before .before .before .before .before .pre in
     let a = c .before .before .before .before .before .before .before .before .args in
     let e = ap pickAnswer (sym (c .before .p .given .1)) ∙ c .before .before .before .pick-listing .ensures in
-    (c .before .before .before .before .before .before .before .before .pre, listing-far (domainIn (a .rows .now)) (a .i .0) (counted (entries (a .words .now) (a .bits .now))) (a .s) e)
+    (at-pre, listing-far (domainIn (a .rows .now)) (a .i .0) (counted (entries (a .words .now) (a .bits .now))) (a .s) e)
 
 enum-told : tie.Need-enum-told
 enum-told c = search needs

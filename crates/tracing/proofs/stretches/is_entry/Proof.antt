@@ -18,10 +18,16 @@ bit-at-requires : tie.Need-bit-at-requires
 bit-at-requires c κs = search needs
 
 returns : tie.Need-returns
-returns c = entry-clear (c .before .before .before .before .before .before .args .words .now) (c .before .before .before .before .before .before .args .bits .now) (c .before .before .before .before .before .before .args .k) (c .before .before .before .before .before .before .args .s) (c .before .before .before .before .before .before .pre) (c .before .before .if1 .taken) (sym (c .before .bit-at .ensures) ∙ c .if2 .taken)
+returns c =
+    let at-args = c .before .before .before .before .before .before .args in
+    let at-pre = c .before .before .before .before .before .before .pre in
+    entry-clear (at-args .words .now) (at-args .bits .now) (at-args .k) (at-args .s) at-pre (c .before .before .if1 .taken) (sym (c .before .bit-at .ensures) ∙ c .if2 .taken)
 
 returns-2 : tie.Need-returns-2
-returns-2 c = entry-set (c .before .before .before .before .before .before .args .words .now) (c .before .before .before .before .before .before .args .bits .now) (c .before .before .before .before .before .before .args .k) (c .before .before .before .before .before .before .args .s) (c .before .before .before .before .before .before .pre) (λ e. c .if2 .left (c .before .bit-at .ensures ∙ e))
+returns-2 c =
+    let at-args = c .before .before .before .before .before .before .args in
+    let at-pre = c .before .before .before .before .before .before .pre in
+    entry-set (at-args .words .now) (at-args .bits .now) (at-args .k) (at-args .s) at-pre (λ e. c .if2 .left (c .before .bit-at .ensures ∙ e))
 
 returns-3 : tie.Need-returns-3
 returns-3 c = entry-other (c .before .before .before .before .before .args .words .now) (c .before .before .before .before .before .args .bits .now) (c .before .before .before .before .before .args .k) (c .before .before .before .before .before .args .s) (c .before .before .before .before .before .pre) (c .before .if1 .left) (c .if3 .taken)
@@ -30,7 +36,10 @@ bit-at-requires-2 : tie.Need-bit-at-requires-2
 bit-at-requires-2 c κs = search needs
 
 returns-4 : tie.Need-returns-4
-returns-4 c = ap (λ b. not (eqb b 0)) (c .bit-at2 .ensures) ∙ entry-zero (c .before .before .before .before .before .before .args .words .now) (c .before .before .before .before .before .before .args .bits .now) (c .before .before .before .before .before .before .args .k) (c .before .before .before .before .before .before .args .s) (c .before .before .before .before .before .before .pre) (c .before .before .if1 .left) (omega (arith, c .before .if3 .left))
+returns-4 c =
+    let at-args = c .before .before .before .before .before .before .args in
+    let at-pre = c .before .before .before .before .before .before .pre in
+    ap (λ b. not (eqb b 0)) (c .bit-at2 .ensures) ∙ entry-zero (at-args .words .now) (at-args .bits .now) (at-args .k) (at-args .s) at-pre (c .before .before .if1 .left) (omega (arith, c .before .if3 .left))
 
 pub is-entry-spec : {M : Type 1} → statement M
 is-entry-spec = tie.close (tie.spec mul-if1 shared-slice-read-if1 bit-at-requires returns returns-2 returns-3 bit-at-requires-2 returns-4)

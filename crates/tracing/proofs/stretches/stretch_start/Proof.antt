@@ -32,7 +32,9 @@ loop-less : tie.Need-loop-less Inv-loop μ-loop
 loop-less c = omega arith
 
 loop-again : tie.Need-loop-again Inv-loop μ-loop
-loop-again c = let z = phys-next (domainIn (c .before .before .before .before .before .before .args .rows .now)) (c .before .before .before .before .before .before .args .i .0) (c .before .before .before .loop .q) in (omega arith, omega arith, omega arith)
+loop-again c =
+    let at-args = c .before .before .before .before .before .before .args in
+    let z = phys-next (domainIn (at-args .rows .now)) (at-args .i .0) (c .before .before .before .loop .q) in (omega arith, omega arith, omega arith)
 
 returns : tie.Need-returns Inv-loop μ-loop
 returns c =

@@ -64,9 +64,10 @@ same-length c = simp length-set (c .before .before .before .before .before .loop
 returns : tie.Need-returns Inv-loop μ-loop
 unfolding afterStep
 returns c =
+    let at-expander-count = c .before .before .before .before .before .before .expander-count in
     let a = c .before .before .before .before .before .before .before .before .before .before .before .before .args in
     let l = c .before .before .before .before .before .loop in
-    let n : ℕ = c .before .before .before .before .before .before .expander-count .result in
+    let n : ℕ = at-expander-count .result in
     let e = ap stepAnswer (sym (c .before .enum-told .given .1)) ∙ c .before .before .before .take-step .ensures in
     rw (c .ended .ensures)
     (walk-stop (domainIn (a .rows .now)) (counted (entries (a .words .now) (a .bits .now))) (a .s) n (l .k) (l .i .0) (l .q .0) (l .passed) (a .passed .now)
@@ -79,14 +80,17 @@ ended-requires-2 : tie.Need-ended-requires-2 Inv-loop μ-loop
 ended-requires-2 c κs = search needs
 
 same-length-2 : tie.Need-same-length-2 Inv-loop μ-loop
-same-length-2 c = simp length-set (c .before .before .before .before .before .before .loop .inv .1)
+same-length-2 c =
+    let at-loop = c .before .before .before .before .before .before .loop in
+    simp length-set (at-loop .inv .1)
 
 returns-2 : tie.Need-returns-2 Inv-loop μ-loop
 unfolding afterStep
 returns-2 c =
+    let at-expander-count = c .before .before .before .before .before .before .before .expander-count in
     let a = c .before .before .before .before .before .before .before .before .before .before .before .before .before .args in
     let l = c .before .before .before .before .before .before .loop in
-    let n : ℕ = c .before .before .before .before .before .before .before .expander-count .result in
+    let n : ℕ = at-expander-count .result in
     let e = ap stepAnswer (sym (c .before .before .t .given .1)) ∙ c .before .before .before .before .take-step .ensures in
     rw (c .ended2 .ensures)
     (walk-stop (domainIn (a .rows .now)) (counted (entries (a .words .now) (a .bits .now))) (a .s) n (l .k) (l .i .0) (l .q .0) (l .passed) (a .passed .now)
@@ -104,9 +108,10 @@ same-length-3 c = simp length-set (c .before .before .before .before .before .lo
 returns-3 : tie.Need-returns-3 Inv-loop μ-loop
 unfolding afterStep
 returns-3 c =
+    let at-expander-count = c .before .before .before .before .before .before .expander-count in
     let a = c .before .before .before .before .before .before .before .before .before .before .before .before .args in
     let l = c .before .before .before .before .before .loop in
-    let n : ℕ = c .before .before .before .before .before .before .expander-count .result in
+    let n : ℕ = at-expander-count .result in
     let e = ap stepAnswer (sym (c .before .enum-told2 .given .1)) ∙ c .before .before .before .take-step .ensures in
     rw (c .ended3 .ensures)
     (walk-stop (domainIn (a .rows .now)) (counted (entries (a .words .now) (a .bits .now))) (a .s) n (l .k) (l .i .0) (l .q .0) (l .passed) (a .passed .now)
@@ -124,9 +129,10 @@ same-length-4 c = simp length-set (c .before .before .before .before .before .lo
 returns-4 : tie.Need-returns-4 Inv-loop μ-loop
 unfolding afterStep
 returns-4 c =
+    let at-expander-count = c .before .before .before .before .before .before .expander-count in
     let a = c .before .before .before .before .before .before .before .before .before .before .before .before .args in
     let l = c .before .before .before .before .before .loop in
-    let n : ℕ = c .before .before .before .before .before .before .expander-count .result in
+    let n : ℕ = at-expander-count .result in
     let e = ap stepAnswer (sym (c .before .enum-told3 .given .1)) ∙ c .before .before .before .take-step .ensures in
     rw (c .ended4 .ensures)
     (walk-stop (domainIn (a .rows .now)) (counted (entries (a .words .now) (a .bits .now))) (a .s) n (l .k) (l .i .0) (l .q .0) (l .passed) (a .passed .now)
@@ -140,10 +146,11 @@ loop-less c = omega arith
 
 loop-again : tie.Need-loop-again Inv-loop μ-loop
 loop-again c =
+    let at-expander-count = c .before .before .before .before .before .before .expander-count in
     let a = c .before .before .before .before .before .before .before .before .before .before .before .before .args in
     let d : Domain = domainIn (a .rows .now) in
     let l = c .before .before .before .before .before .loop in
-    let n : ℕ = c .before .before .before .before .before .before .expander-count .result in
+    let n : ℕ = at-expander-count .result in
     let e = ap stepAnswer (sym (c .before .t2 .given .1)) ∙ c .before .before .before .take-step .ensures in (
       omega arith,
       simp length-set (l .inv .1),

@@ -19,7 +19,9 @@ cast-v : tie.Need-cast-v
 cast-v c = omega (arith, c .slice-known2 .given (c .before .find .result))
 
 add-result : tie.Need-add-result
-add-result c = omega (arith, c .before .slice-known2 .given (c .before .before .find .result), c .before .before .before .before .before .before .pre .above, c .before .before .before .before .before .before .pre .few)
+add-result c =
+    let at-pre = c .before .before .before .before .before .before .pre in
+    omega (arith, c .before .slice-known2 .given (c .before .before .find .result), at-pre .above, at-pre .few)
 
 sub-result : tie.Need-sub-result
 sub-result c = search needs
@@ -28,7 +30,9 @@ same-length : tie.Need-same-length
 same-length c = search needs
 
 returns : tie.Need-returns
-returns c = added-same _ _ _ _ _ _ (c .before .before .before .before .before .before .pre) (c .before .before .find .result) (c .before .before .find .ensures .0) _ refl (omega arith)
+returns c =
+    let at-pre = c .before .before .before .before .before .before .pre in
+    added-same _ _ _ _ _ _ at-pre (c .before .before .find .result) (c .before .before .find .ensures .0) _ refl (omega arith)
 
 sub-cells : tie.Need-sub-cells
 sub-cells c = search needs
@@ -49,7 +53,9 @@ same-length-2 : tie.Need-same-length-2
 same-length-2 c = search needs
 
 returns-2 : tie.Need-returns-2
-returns-2 c = added-new _ _ _ _ _ _ (c .before .before .before .before .before .before .pre) (c .before .before .find .result) (c .before .before .find .ensures .0) (omega arith)
+returns-2 c =
+    let at-pre = c .before .before .before .before .before .before .pre in
+    added-new _ _ _ _ _ _ at-pre (c .before .before .find .result) (c .before .before .find .ensures .0) (omega arith)
 
 pub add-spec : {M : Type 1} → statement M
 add-spec = tie.close (tie.spec find-requires mul-v slice-read-v cast-v add-result sub-result same-length returns sub-cells add-cells cast-cells mul-cells slice-write-cells same-length-2 returns-2)

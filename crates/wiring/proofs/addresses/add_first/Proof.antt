@@ -32,7 +32,9 @@ phy-address-requires : tie.Need-phy-address-requires
 phy-address-requires c κs = search needs
 
 add-requires : tie.Need-add-requires
-add-requires c κs = let s = c .before .before .before .before .before .before .before .before .before .before in rw (c .before .before .phy-address .ensures) (first-can _ _ _ _ (s .pre .1 .0) (s .pre .1 .1) _ _ _ (s .pre .0) (sym (c .before .before .before .before .before .before .phy-type .ensures) ∙ c .before .if2 .taken))
+add-requires c κs =
+    let at-phy-type = c .before .before .before .before .before .before .phy-type in
+    let s = c .before .before .before .before .before .before .before .before .before .before in rw (c .before .before .phy-address .ensures) (first-can _ _ _ _ (s .pre .1 .0) (s .pre .1 .1) _ _ _ (s .pre .0) (sym (at-phy-type .ensures) ∙ c .before .if2 .taken))
 
 cast-first : tie.Need-cast-first
 cast-first c = search needs
@@ -50,7 +52,10 @@ same-length-2 : tie.Need-same-length-2
 same-length-2 c = search needs
 
 returns-2 : tie.Need-returns-2
-returns-2 c = let s = c .before .before .before .before .before .before .before .before .before .before .before .before .before in (first-device _ _ _ _ (s .pre .1 .0) (s .pre .1 .1) _ _ _ (s .pre .0) (sym (c .before .before .before .before .before .before .before .before .before .phy-type .ensures) ∙ c .before .before .before .before .if2 .taken) _ _ (rw (c .before .before .before .before .before .phy-address .ensures) at (c .before .before .add .ensures)), first-kept _ _ _ _ (s .pre .1 .0) (s .pre .1 .1) (λ z. (c .before .before .before .before .before .before .before .before .if1) .left (c .before .before .before .before .before .before .before .before .before .phy-type .ensures ∙ z)) _ _)
+returns-2 c =
+    let at-phy-type = c .before .before .before .before .before .before .before .before .before .phy-type in
+    let at-if1 = c .before .before .before .before .before .before .before .before .if1 in
+    let s = c .before .before .before .before .before .before .before .before .before .before .before .before .before in (first-device _ _ _ _ (s .pre .1 .0) (s .pre .1 .1) _ _ _ (s .pre .0) (sym (at-phy-type .ensures) ∙ c .before .before .before .before .if2 .taken) _ _ (rw (c .before .before .before .before .before .phy-address .ensures) at (c .before .before .add .ensures)), first-kept _ _ _ _ (s .pre .1 .0) (s .pre .1 .1) (λ z. at-if1 .left (at-phy-type .ensures ∙ z)) _ _)
 
 find-requires : tie.Need-find-requires
 find-requires c κs = let s = c .before .before .before .before .before .before .before .before .before .before in first-look _ _ _ _ (s .pre .1 .0) (s .pre .1 .1) _ _ _ (s .pre .0)
@@ -77,7 +82,10 @@ same-length-4 : tie.Need-same-length-4
 same-length-4 c = search needs
 
 returns-3 : tie.Need-returns-3
-returns-3 c = let s = c .before .before .before .before .before .before .before .before .before .before .before .before .before in (first-other _ _ _ _ (s .pre .1 .0) (s .pre .1 .1) _ _ _ (s .pre .0) (omega (arith, c .before .before .before .before .before .before .before .before .before .phy-type .ensures, c .before .before .before .before .before .before .before .before .if1 .left, c .before .before .before .before .if2 .left)) _ _ (rw (c .before .before .before .before .before .phy-address .ensures) at (c .before .before .find .ensures .0)) (c .slot-in .ensures), first-kept _ _ _ _ (s .pre .1 .0) (s .pre .1 .1) (λ z. (c .before .before .before .before .before .before .before .before .if1) .left (c .before .before .before .before .before .before .before .before .before .phy-type .ensures ∙ z)) _ _)
+returns-3 c =
+    let at-phy-type = c .before .before .before .before .before .before .before .before .before .phy-type in
+    let at-if1 = c .before .before .before .before .before .before .before .before .if1 in
+    let s = c .before .before .before .before .before .before .before .before .before .before .before .before .before in (first-other _ _ _ _ (s .pre .1 .0) (s .pre .1 .1) _ _ _ (s .pre .0) (omega (arith, at-phy-type .ensures, at-if1 .left, c .before .before .before .before .if2 .left)) _ _ (rw (c .before .before .before .before .before .phy-address .ensures) at (c .before .before .find .ensures .0)) (c .slot-in .ensures), first-kept _ _ _ _ (s .pre .1 .0) (s .pre .1 .1) (λ z. at-if1 .left (at-phy-type .ensures ∙ z)) _ _)
 
 pub add-first-spec : {M : Type 1} → statement M
 add-first-spec = tie.close (tie.spec phy-type-requires returns cast-t mul-t add-t cast-t-2 add-t-2 phy-address-requires add-requires cast-first mul-first slice-write-first same-length same-length-2 returns-2 find-requires mul-slot-in slice-read-slot-in slot-in-requires mul-first-2 slice-write-first-2 same-length-3 same-length-4 returns-3)

@@ -62,7 +62,10 @@ same-length-2 : tie.Need-same-length-2
 same-length-2 c = search needs
 
 returns-2 : tie.Need-returns-2
-returns-2 c = let s = c .before .before .before .before .before .before .before .before .before .before .before .before .before .before in (low-next _ _ _ _ (s .pre .1 .0) (s .pre .1 .1) _ _ (s .pre .0) _ _ (rw (c .before .before .before .before .before .phy-address .ensures) at (c .before .before .before .before .add .ensures)), low-kept _ _ _ _ (s .pre .1 .0) (s .pre .1 .1) (λ z. (c .before .before .before .before .before .before .before .before .before .if1) .left (c .before .before .before .before .before .before .before .before .before .before .phy-type .ensures ∙ z)) _ _)
+returns-2 c =
+    let at-if1 = c .before .before .before .before .before .before .before .before .before .if1 in
+    let at-phy-type = c .before .before .before .before .before .before .before .before .before .before .phy-type in
+    let s = c .before .before .before .before .before .before .before .before .before .before .before .before .before .before in (low-next _ _ _ _ (s .pre .1 .0) (s .pre .1 .1) _ _ (s .pre .0) _ _ (rw (c .before .before .before .before .before .phy-address .ensures) at (c .before .before .before .before .add .ensures)), low-kept _ _ _ _ (s .pre .1 .0) (s .pre .1 .1) (λ z. at-if1 .left (at-phy-type .ensures ∙ z)) _ _)
 
 pub add-low-spec : {M : Type 1} → statement M
 add-low-spec = tie.close (tie.spec phy-type-requires returns cast-from mul-from add-from cast-t add-t phy-address-requires add-requires cast-k mul-k cast-k-2 add-k sub-low cast-low slice-write-low same-length same-length-2 returns-2)

@@ -6,7 +6,9 @@ use Rattle.wiring.proofs.addresses.index_few.Statement.{statement}
 use Rattle.wiring.proofs.addresses.index_few.Tie as tie
 
 put-all-requires : tie.Need-put-all-requires
-put-all-requires c κs = (none-yet _ 256 896 _ (omega arith) (omega (arith, c .before .before .before .before .expander-count .ensures .0)) (c .before .before .before .before .before .before .before .before .pre .0 .slots), no-lows _ _ (c .before .before .before .before .before .before .before .before .pre .0 .phys))
+put-all-requires c κs =
+    let at-pre = c .before .before .before .before .before .before .before .before .pre in
+    (none-yet _ 256 896 _ (omega arith) (omega (arith, c .before .before .before .before .expander-count .ensures .0)) (at-pre .0 .slots), no-lows _ _ (at-pre .0 .phys))
 
 put-all-requires-2 : tie.Need-put-all-requires-2
 put-all-requires-2 c κs = let s = c .before .before .before .before .before .before .before .before in (none-yet _ 256 2432 _ (omega arith) (omega (arith, s .pre .1)) (s .pre .0 .slots), no-lows _ _ (s .pre .0 .phys))

@@ -36,10 +36,14 @@ cast-first : tie.Need-cast-first Inv-loop μ-loop
 cast-first c = omega (arith, c .before .before .add .ensures .upto)
 
 mul-first : tie.Need-mul-first Inv-loop μ-loop
-mul-first c = omega (arith, c .before .before .before .before .before .before .loop .inv .1 .1 .1 .0 .slots)
+mul-first c =
+    let at-loop = c .before .before .before .before .before .before .loop in
+    omega (arith, at-loop .inv .1 .1 .1 .0 .slots)
 
 slice-write-first : tie.Need-slice-write-first Inv-loop μ-loop
-slice-write-first c = omega (arith, c .before .before .before .before .before .before .loop .inv .1 .1 .1 .0 .slots)
+slice-write-first c =
+    let at-loop = c .before .before .before .before .before .before .loop in
+    omega (arith, at-loop .inv .1 .1 .1 .0 .slots)
 
 add-j : tie.Need-add-j Inv-loop μ-loop
 add-j c = omega arith

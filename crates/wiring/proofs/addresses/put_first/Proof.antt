@@ -46,7 +46,9 @@ same-length-2 : tie.Need-same-length-2 Inv-loop μ-loop
 same-length-2 c = c .before .loop .inv .1 .1 .0
 
 returns : tie.Need-returns Inv-loop μ-loop
-returns c = (phys-end _ _ _ _ _ _ (c .before .before .before .before .before .before .pre .1) (omega (arith, c .before .before .phy-count .ensures .1)) (omega (arith, c .before .before .phy-count .ensures .0)) (c .before .loop .inv .1 .1 .1 .0), c .before .loop .inv .1 .1 .1 .1)
+returns c =
+    let at-pre = c .before .before .before .before .before .before .pre in
+    (phys-end _ _ _ _ _ _ (at-pre .1) (omega (arith, c .before .before .phy-count .ensures .1)) (omega (arith, c .before .before .phy-count .ensures .0)) (c .before .loop .inv .1 .1 .1 .0), c .before .loop .inv .1 .1 .1 .1)
 
 pub put-first-spec : {M : Type 1} → statement M
 put-first-spec = tie.close (tie.spec Inv-loop μ-loop phy-count-requires loop-holds phy-below-requires add-first-requires add-p loop-less loop-again same-length same-length-2 returns)

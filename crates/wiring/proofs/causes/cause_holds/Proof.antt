@@ -33,7 +33,9 @@ unfolding causeOf
 returns-3 c = search (needs, eq-eqb, ne-eqb)
 
 is-fixed-requires : tie.Need-is-fixed-requires
-is-fixed-requires c κs = c .before .before .before .before .before .before .before .pre .1 .within
+is-fixed-requires c κs =
+    let at-pre = c .before .before .before .before .before .before .before .pre in
+    at-pre .1 .within
 
 returns-4 : tie.Need-returns-4
 unfolding causeOf

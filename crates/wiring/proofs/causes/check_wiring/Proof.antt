@@ -37,23 +37,35 @@ first-of-requires-4 : tie.Need-first-of-requires-4
 first-of-requires-4 c κs = search needs
 
 returns : tie.Need-returns
-returns c = let d = domainIn (c .before .before .before .before .before .before .before .args .rows .now) in wired-by d (told d (c .before .before .before .first-of .ensures) (c .before .unanswered .given .1)) refl refl refl
+returns c =
+    let at-args = c .before .before .before .before .before .before .before .args in
+    let d = domainIn (at-args .rows .now) in wired-by d (told d (c .before .before .before .first-of .ensures) (c .before .unanswered .given .1)) refl refl refl
 
 returns-2 : tie.Need-returns-2
 returns-2 c =
-    let d = domainIn (c .before .before .before .before .before .before .before .before .before .before .args .rows .now) in
-    wired-by d (told d (c .before .before .before .before .before .before .first-of .ensures) (c .before .before .before .before .enum-told .given .1)) (told d (c .before .before .before .first-of2 .ensures) (c .before .claimed .given .1)) refl refl
+    let at-args = c .before .before .before .before .before .before .before .before .before .before .args in
+    let at-first-of = c .before .before .before .before .before .before .first-of in
+    let d = domainIn (at-args .rows .now) in
+    wired-by d (told d (at-first-of .ensures) (c .before .before .before .before .enum-told .given .1)) (told d (c .before .before .before .first-of2 .ensures) (c .before .claimed .given .1)) refl refl
 
 returns-3 : tie.Need-returns-3
 returns-3 c =
-    let d = domainIn (c .before .before .before .before .before .before .before .before .before .before .before .before .before .args .rows .now) in
-    wired-by d (told d (c .before .before .before .before .before .before .before .before .before .first-of .ensures) (c .before .before .before .before .before .before .before .enum-told .given .1)) (told d (c .before .before .before .before .before .before .first-of2 .ensures) (c .before .before .before .before .enum-told2 .given .1))
+    let at-args = c .before .before .before .before .before .before .before .before .before .before .before .before .before .args in
+    let at-first-of = c .before .before .before .before .before .before .before .before .before .first-of in
+    let at-enum-told = c .before .before .before .before .before .before .before .enum-told in
+    let at-first-of2 = c .before .before .before .before .before .before .first-of2 in
+    let d = domainIn (at-args .rows .now) in
+    wired-by d (told d (at-first-of .ensures) (at-enum-told .given .1)) (told d (at-first-of2 .ensures) (c .before .before .before .before .enum-told2 .given .1))
     (told d (c .before .before .before .first-of3 .ensures) (c .before .clashing .given .1)) refl
 
 returns-4 : tie.Need-returns-4
 returns-4 c =
-    let d = domainIn (c .before .before .before .before .before .before .before .before .before .before .before .before .before .args .rows .now) in
-    wired-by d (told d (c .before .before .before .before .before .before .before .before .before .first-of .ensures) (c .before .before .before .before .before .before .before .enum-told .given .1)) (told d (c .before .before .before .before .before .before .first-of2 .ensures) (c .before .before .before .before .enum-told2 .given .1))
+    let at-args = c .before .before .before .before .before .before .before .before .before .before .before .before .before .args in
+    let at-first-of = c .before .before .before .before .before .before .before .before .before .first-of in
+    let at-enum-told = c .before .before .before .before .before .before .before .enum-told in
+    let at-first-of2 = c .before .before .before .before .before .before .first-of2 in
+    let d = domainIn (at-args .rows .now) in
+    wired-by d (told d (at-first-of .ensures) (at-enum-told .given .1)) (told d (at-first-of2 .ensures) (c .before .before .before .before .enum-told2 .given .1))
     (told d (c .before .before .before .first-of3 .ensures) (c .before .enum-told3 .given .1)) (sym (c .first-of4 .ensures))
 
 pub check-wiring-spec : {M : Type 1} → statement M

@@ -24,7 +24,9 @@ loop-holds : tie.Need-loop-holds Inv-loop μ-loop
 loop-holds c = (omega arith, refl)
 
 first-phy-requires : tie.Need-first-phy-requires Inv-loop μ-loop
-first-phy-requires c κs = c .before .before .before .before .before .before .pre
+first-phy-requires c κs =
+    let at-pre = c .before .before .before .before .before .before .pre in
+    at-pre
 
 enum-known-f : tie.Need-enum-known-f Inv-loop μ-loop
 enum-known-f c = search needs

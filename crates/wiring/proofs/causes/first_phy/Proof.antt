@@ -24,7 +24,9 @@ loop-holds : tie.Need-loop-holds Inv-loop μ-loop
 loop-holds c = (omega arith, λ q h. absurd (omega arith))
 
 cause-holds-requires : tie.Need-cause-holds-requires Inv-loop μ-loop
-cause-holds-requires c κs = ((c .before .before .before .before .before .before .pre), record { within = omega (arith, c .before .before .phy-count .ensures .0); none = c .before .loop .inv .1 })
+cause-holds-requires c κs =
+    let at-pre = c .before .before .before .before .before .before .pre in
+    (at-pre, record { within = omega (arith, c .before .before .phy-count .ensures .0); none = c .before .loop .inv .1 })
 
 check-refused-requires : tie.Need-check-refused-requires Inv-loop μ-loop
 check-refused-requires c κs = search needs

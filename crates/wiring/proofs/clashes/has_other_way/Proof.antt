@@ -55,10 +55,11 @@ loop-less c = omega arith
 
 loop-again : tie.Need-loop-again Inv-loop μ-loop
 loop-again c =
+    let at-pre = c .before .before .before .before .before .before .pre in
     let a = c .before .before .before .before .before .before .args in
     let l = c .before .before .before .before .loop in
     let d = domainIn (a .rows .now) in
-    let w = c .before .before .before .before .before .before .pre .within in
+    let w = at-pre .within in
     let e = c .before .before .phy-below .ensures ∙ phy-held _ _ _ (omega arith) in (
       omega arith,
       λ r h k. by-cases (ℕ-discrete r (l .q - 1))

@@ -52,8 +52,10 @@ same-length-2 c = search needs
 
 returns-3 : tie.Need-returns-3
 returns-3 c =
-    let n = c .before .before .before .before .before .before .before .before .before .before .before .before .expander-count .ensures .0 in
-    (c .check-indexed .ensures ∙ sym (checked-room _ _ _ _ (omega arith) (omega arith)), record { written = λ _. c .before .before .before .before .before .before .before .put-index .ensures; short = λ none. absurd (none (record { slots = omega arith; phys = omega arith })) })
+    let at-expander-count = c .before .before .before .before .before .before .before .before .before .before .before .before .expander-count in
+    let at-put-index = c .before .before .before .before .before .before .before .put-index in
+    let n = at-expander-count .ensures .0 in
+    (c .check-indexed .ensures ∙ sym (checked-room _ _ _ _ (omega arith) (omega arith)), record { written = λ _. at-put-index .ensures; short = λ none. absurd (none (record { slots = omega arith; phys = omega arith })) })
 
 pub check-domain-spec : {M : Type 1} → statement M
 check-domain-spec = tie.close (tie.spec expander-count-requires cast-n mul-if1 add-if1 check-refused-requires returns mul-if2 check-refused-requires-2 returns-2 put-index-requires check-indexed-requires same-length same-length-2 returns-3)

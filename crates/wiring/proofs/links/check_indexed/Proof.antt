@@ -16,7 +16,9 @@ enum-told : tie.Need-enum-told
 enum-told c = search needs
 
 check-links-requires : tie.Need-check-links-requires
-check-links-requires c κs = c .before .before .before .before .before .before .pre .firsts
+check-links-requires c κs =
+    let at-pre = c .before .before .before .before .before .before .pre in
+    at-pre .firsts
 
 returns : tie.Need-returns
 returns c = sym (checked-by _ _ _ (sym (c .before .before .before .check-wiring .ensures) ∙ ap (checkAnswer _) (c .before .wired .given .1)))

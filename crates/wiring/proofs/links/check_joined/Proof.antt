@@ -62,8 +62,9 @@ loop-less c = omega arith
 
 loop-again : tie.Need-loop-again Inv-loop μ-loop
 loop-again c =
+    let at-args = c .before .before .before .before .before .before .before .before .before .args in
     let l = c .before .before .before .loop in
-    let d = domainIn (c .before .before .before .before .before .before .before .before .before .args .rows .now) in (
+    let d = domainIn (at-args .rows .now) in (
       omega arith,
       (
         l .inv .1 .0,

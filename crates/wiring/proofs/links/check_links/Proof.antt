@@ -42,7 +42,9 @@ slice-aggregate-check-chains : tie.Need-slice-aggregate-check-chains
 slice-aggregate-check-chains c = search needs
 
 check-chains-requires : tie.Need-check-chains-requires
-check-chains-requires c κs = held _ _ _ (c .before .before .before .before .before .before .before .before .before .put-neighbours .ensures .1)
+check-chains-requires c κs =
+    let at-put-neighbours = c .before .before .before .before .before .before .before .before .before .put-neighbours in
+    held _ _ _ (at-put-neighbours .ensures .1)
 
 returns-2 : tie.Need-returns-2
 returns-2 c =

@@ -18,13 +18,17 @@ mul-has : tie.Need-mul-has
 mul-has c = search needs
 
 shared-slice-read-has : tie.Need-shared-slice-read-has
-shared-slice-read-has c = omega (arith, c .before .before .before .before .before .before .pre .0 .room)
+shared-slice-read-has c =
+    let at-pre = c .before .before .before .before .before .before .pre in
+    omega (arith, at-pre .0 .room)
 
 mul-t12 : tie.Need-mul-t12
 mul-t12 c = search needs
 
 shared-slice-read-t14 : tie.Need-shared-slice-read-t14
-shared-slice-read-t14 c = omega (arith, c .before .before .before .before .before .before .before .pre .0 .index .slots)
+shared-slice-read-t14 c =
+    let at-pre = c .before .before .before .before .before .before .before .pre in
+    omega (arith, at-pre .0 .index .slots)
 
 cast-t15 : tie.Need-cast-t15
 cast-t15 c =
@@ -42,13 +46,17 @@ mul-has-2 : tie.Need-mul-has-2
 mul-has-2 c = search needs
 
 shared-slice-read-has-2 : tie.Need-shared-slice-read-has-2
-shared-slice-read-has-2 c = omega (arith, c .before .before .before .before .before .before .before .before .before .pre .0 .room)
+shared-slice-read-has-2 c =
+    let at-pre = c .before .before .before .before .before .before .before .before .before .pre in
+    omega (arith, at-pre .0 .room)
 
 mul-t21 : tie.Need-mul-t21
 mul-t21 c = search needs
 
 shared-slice-read-t23 : tie.Need-shared-slice-read-t23
-shared-slice-read-t23 c = omega (arith, c .before .before .before .before .before .before .before .before .before .before .pre .0 .index .slots)
+shared-slice-read-t23 c =
+    let at-pre = c .before .before .before .before .before .before .before .before .before .before .pre in
+    omega (arith, at-pre .0 .index .slots)
 
 cast-t24 : tie.Need-cast-t24
 cast-t24 c =

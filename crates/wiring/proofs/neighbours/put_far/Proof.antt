@@ -24,7 +24,9 @@ loop-holds : tie.Need-loop-holds Inv-loop μ-loop
 loop-holds c = (omega arith, refl, λ j h. absurd (omega arith))
 
 far-word-requires : tie.Need-far-word-requires Inv-loop μ-loop
-far-word-requires c κs = c .before .before .before .before .before .before .pre .0
+far-word-requires c κs =
+    let at-pre = c .before .before .before .before .before .before .pre in
+    at-pre .0
 
 cast-words : tie.Need-cast-words Inv-loop μ-loop
 cast-words c = search needs
@@ -33,7 +35,9 @@ mul-words : tie.Need-mul-words Inv-loop μ-loop
 mul-words c = search needs
 
 slice-write-words : tie.Need-slice-write-words Inv-loop μ-loop
-slice-write-words c = omega (arith, c .before .before .before .before .before .before .before .pre .1, c .before .before .before .expander-count .ensures .0, c .before .before .loop .inv .1)
+slice-write-words c =
+    let at-pre = c .before .before .before .before .before .before .before .pre in
+    omega (arith, at-pre .1, c .before .before .before .expander-count .ensures .0, c .before .before .loop .inv .1)
 
 add-i : tie.Need-add-i Inv-loop μ-loop
 add-i c = omega arith
@@ -43,19 +47,22 @@ loop-less c = omega arith
 
 loop-again : tie.Need-loop-again Inv-loop μ-loop
 loop-again c =
+    let at-pre = c .before .before .before .before .before .before .before .pre in
     let a = c .before .before .before .before .before .before .before .args in
     let l = c .before .before .loop in
     let d = domainIn (a .rows .now) in (
       omega arith,
       simp length-set (l .inv .1),
-      each-set (λ (j w : ℕ). FarSet d (expanderAt d j .phys) w) (l .i) _ 0 (l .words) (l .inv .2) (c .far-word .ensures) (omega (arith, c .before .before .before .before .before .before .before .pre .1, c .before .before .before .expander-count .ensures .0, l .inv .1)),
+      each-set (λ (j w : ℕ). FarSet d (expanderAt d j .phys) w) (l .i) _ 0 (l .words) (l .inv .2) (c .far-word .ensures) (omega (arith, at-pre .1, c .before .before .before .expander-count .ensures .0, l .inv .1)),
     )
 
 same-length : tie.Need-same-length Inv-loop μ-loop
 same-length c = search needs
 
 returns : tie.Need-returns Inv-loop μ-loop
-returns c = let l = c .before .loop in subst (λ (n : ℕ). FarSets (domainIn (c .before .before .before .before .before .before .args .rows .now)) n (l .words)) (omega (arith, c .before .before .expander-count .ensures .0)) (l .inv .2)
+returns c =
+    let at-args = c .before .before .before .before .before .before .args in
+    let l = c .before .loop in subst (λ (n : ℕ). FarSets (domainIn (at-args .rows .now)) n (l .words)) (omega (arith, c .before .before .expander-count .ensures .0)) (l .inv .2)
 
 pub put-far-spec : {M : Type 1} → statement M
 put-far-spec = tie.close (tie.spec Inv-loop μ-loop expander-count-requires loop-holds far-word-requires cast-words mul-words slice-write-words add-i loop-less loop-again same-length returns)

@@ -42,9 +42,11 @@ slice-aggregate-neighbour-word c = search needs
 
 neighbour-word-requires : tie.Need-neighbour-word-requires Inv-loop μ-loop
 neighbour-word-requires c κs =
+    let at-args = c .before .before .before .before .before .before .before .before .before .before .args in
+    let at-pre = c .before .before .before .before .before .before .before .before .before .before .pre in
     let put-far = c .before .before .before .before .before .put-far in
-    let few = domain-few (c .before .before .before .before .before .before .before .before .before .before .args .rows .now) in
-    (record { index = c .before .before .before .before .before .before .before .before .before .before .pre .0; room = omega (arith, put-far .kept .1 .1 .0); sets = put-far .ensures }, omega (arith, c .before .before .before .expander-count .ensures .0))
+    let few = domain-few (at-args .rows .now) in
+    (record { index = at-pre .0; room = omega (arith, put-far .kept .1 .1 .0); sets = put-far .ensures }, omega (arith, c .before .before .before .expander-count .ensures .0))
 
 cast-words : tie.Need-cast-words Inv-loop μ-loop
 cast-words c = search needs

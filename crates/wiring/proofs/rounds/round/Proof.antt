@@ -35,7 +35,9 @@ mul-is-next : tie.Need-mul-is-next Inv-loop μ-loop
 mul-is-next c = omega arith
 
 shared-slice-read-is-next : tie.Need-shared-slice-read-is-next Inv-loop μ-loop
-shared-slice-read-is-next c = let h = c .before .before .before .before .before .before .pre .0 .enough in omega arith
+shared-slice-read-is-next c =
+    let at-pre = c .before .before .before .before .before .before .pre in
+    let h = at-pre .0 .enough in omega arith
 
 is-next-requires : tie.Need-is-next-requires Inv-loop μ-loop
 is-next-requires c κs = omega arith

@@ -17,9 +17,10 @@ wire-in-requires c κs =
 
 wire-in-requires-2 : tie.Need-wire-in-requires-2
 wire-in-requires-2 c κs =
+    let at-pre = c .before .before .before .before .before .before .before .before .pre in
     let a = c .before .before .before .before .before .before .before .before .args in
     let f = a .file .now in
-    file-room (a .setting) 8 f _ _ _ (λ d e. omega (arith, stated-expanders (a .setting) f d e, (c .before .before .before .before .before .before .before .before .pre)))
+    file-room (a .setting) 8 f _ _ _ (λ d e. omega (arith, stated-expanders (a .setting) f d e, at-pre))
     (omega (arith, length-replicate {A = ℕ} 2064 0)) (omega (arith, length-replicate {A = ℕ} 1088 0)) (omega (arith, length-replicate {A = ℕ} 1024 0))
 
 pub wire-few-spec : {M : Type 1} → statement M

@@ -57,8 +57,11 @@ same-length-7 c = search needs
 
 returns-3 : tie.Need-returns-3
 returns-3 c =
+    let at-check-wiring = c .before .before .before .before .before .before .before .before .before .check-wiring in
+    let at-enum-told = c .before .before .before .before .before .before .before .enum-told in
+    let at-expander-count = c .before .before .before .before .before .before .expander-count in
     let put-neighbours = c .before .before .put-neighbours in
-    wiring-done _ _ _ _ _ _ (sym (c .before .before .before .before .before .before .before .before .before .check-wiring .ensures) ∙ ap (checkAnswer _) (c .before .before .before .before .before .before .before .enum-told .given .1)) (omega (arith, c .before .before .before .before .before .before .expander-count .ensures .0))
+    wiring-done _ _ _ _ _ _ (sym (at-check-wiring .ensures) ∙ ap (checkAnswer _) (at-enum-told .given .1)) (omega (arith, at-expander-count .ensures .0))
     (put-neighbours .ensures .0) (put-neighbours .ensures .1)
 
 pub wire-rows-spec : {M : Type 1} → statement M
