@@ -46,7 +46,7 @@ set-after : (l : List ℕ) (n i a : ℕ) → set l (n + i) a ≡ take n l ++ set
 set-after l n i a =
     sym (take-append-drop n (set l (n + i) a)) ∙ ap₂ (λ (u v : List ℕ). u ++ v) (take-set-le n l (n + i) a (omega arith)) (drop-set-add n l i a)
 
--- the same in the frame at an offset
+-- the cable written into the frame at an offset
 pub cable-put : (out : List ℕ) (at s q m : ℕ) (part : List ℕ) → at + 33 ≤ length out → m ≡ length out - (at + 24)
     → part ≡ atFront (bytesOf 8 s) (midOf (at + 24) m (set (set out (at + 12) (typedTwo (byte out (at + 12)))) (at + 32) q))
     → putMid (at + 24) m (set (set out (at + 12) (typedTwo (byte out (at + 12)))) (at + 32) q) part ≡ cabledAt out at s q
@@ -194,7 +194,7 @@ length-joined first second i p j q h k a b c d =
     let v = length-drop 2 (cabledAt second to s p) in
     ap (λ (z : ℕ). suc (suc z)) (length-append (drop 2 (cabledAt first at t q)) (drop 2 (cabledAt second to s p))) ∙ omega arith
 
--- the same with places and addresses as they were found
+-- the joined file written, with places and addresses as they were found
 pub joined-put : (first second rest : List ℕ) (i p j q at to s t : ℕ) → at ≡ phyOffset first i p → to ≡ phyOffset second j q → s ≡ addressIn first i → t ≡ addressIn second j
     → Placed first i p → Placed second j q
     → cabledAt (cabledAt (0x10 ∷ (byte first 1 + byte second 1) ∷ (drop 2 first ++ (drop 2 second ++ rest))) at t q) (length first + (to - 2)) s p ≡ joinedFile first i p second j q ++ rest

@@ -46,7 +46,7 @@ differing d = unless (leb (length d) (repeated d)) (refusal 4 (repeated d) 0) (g
 abbrev pub judgedApart : ℕ → Domain → Result Domain
 judgedApart chain d = then (differing d) (judgedDomain chain)
 
--- the same with 14 by own lists, and room for entries of so many slots and phys
+-- 4, then judging with 14 by own lists, and room for entries of so many slots and phys
 abbrev pub apartIn : ℕ → ℕ → ℕ → Domain → Result Domain
 apartIn chain who low d = then (differing d) (judgedIn chain who low)
 

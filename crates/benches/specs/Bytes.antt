@@ -17,7 +17,7 @@ typedTwo b = b / 128 * 128 + 32 + b % 16
 unfoldable pub cabledFrame : List ℕ → ℕ → ℕ → List ℕ
 cabledFrame f s q = take 12 f ++ (typedTwo (byte f 12) ∷ (take 11 (drop 13 f) ++ (bytesOf 8 s ++ (q ∷ drop 33 f))))
 
--- the same of the frame at offset `at` of a file
+-- a file with the cable in the frame at offset `at`
 unfoldable pub cabledAt : List ℕ → ℕ → ℕ → ℕ → List ℕ
 cabledAt file at s q = take at file ++ cabledFrame (drop at file) s q
 

@@ -23,14 +23,14 @@ fn refused_here(k: u8) -> Refusal
     }
 }
 
-// The same of the call.
+// The join call's refusal with this number, at place 0, 0.
 pub(crate) fn joining_refused(k: u8) -> Joining
     ensures { λ r. ⌜ joiningAnswer r ≡ refused (refusal k 0 0) ⌝ }
 {
     Joining::Refused(refused_here(k))
 }
 
-// The same of both files.
+// The refusal of the two files with this number, at place 0, 0.
 pub(crate) fn files_refused(k: u8) -> Files
     ensures { λ r. ⌜ filesAnswer r ≡ refused (refusal k 0 0) ⌝ }
 {

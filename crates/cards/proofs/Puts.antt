@@ -120,7 +120,7 @@ pub phys-end : (φs : List Phy) (p at : ℕ) (l v : List ℕ) → length φs ≤
 unfolding physBits
 phys-end φs p at l v h inv = rw (drop-of-length-le φs h) at inv
 
--- the same of numbers that are the expander's
+-- an expander's bits written from numbers that are its own
 pub head-put-as : (e : Expander) (at : ℕ) (l l1 l2 l3 l4 : List ℕ) (a b c n : ℕ) → a ≡ e .address → b ≡ e .indexes → c ≡ e .configurable → n ≡ length (e .phys) - 1
     → l1 ≡ sets l at (numberBits 64 a) → l2 ≡ sets l1 (at + 64) (numberBits 16 b) → l3 ≡ sets l2 (at + 80) (numberBits 1 c) → l4 ≡ sets l3 (at + 81) (numberBits 7 n)
     → l4 ≡ sets l at (headBits e)

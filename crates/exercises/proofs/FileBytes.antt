@@ -17,7 +17,7 @@ use Rattle.files.specs.Domain.{Expander, Domain}
 use Rattle.files.specs.Read.{ReadExpander, Read, Bytes, FitsPhy, FitsExpander, FitsDomain}
 use Rattle.cards.specs.FileOf.{phyFrame, physFrames, unitHead, unitsOf, fileOf}
 
--- the same as a record, whose list antt finds by itself
+-- bytes as a record, whose list antt finds by itself
 record Full (s : List ℕ) : Type 0 where
   all : Bytes s
 

@@ -4,7 +4,7 @@ ghost use lib.ListN.{length, take};
 ghost use Rattle.files.specs.Lists.{isIn};
 ghost use Rattle.exercises.specs.Rig.{trimmed, noRig};
 
-// Is the address one of the words?
+// Whether the address is one of the words.
 fn has_word(words: &[u64], a: u64) -> bool
     ensures { λ r. ⌜ r ≡ isIn a (now (words .entry)) ⌝ }
 {
@@ -33,7 +33,7 @@ pub(crate) fn trimmed_count(words: &[u64]) -> usize
     n
 }
 
-// Is there no rig with these words as its table?
+// Whether there is no rig with these words as its table.
 pub(crate) fn is_no_rig(a: u64, b: u64, words: &[u64]) -> bool
     ensures { λ r. ⌜ r ≡ noRig a b (now (words .entry)) ⌝ }
 {

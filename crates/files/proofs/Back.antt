@@ -41,7 +41,7 @@ phys-back [] rest g h = refl
 phys-back (φ ∷ φs) rest g h =
     rw (phy-back φ (g φ (inl refl)) (h φ (inl refl)), phys-back φs rest (λ ψ k. g ψ (inr k)) (λ ψ k. h ψ (inr k)))
 
--- the same of expanders
+-- something holds of every expander of a domain
 module _ (P : Expander → Type 0) where
   abbrev Each : Domain → Type 0
   Each d = (e : Expander) → In e d → P e

@@ -146,7 +146,7 @@ module _ (most : Setting) (d : Domain) (g : Read most d) (f : FitsDomain d) (w :
   unfolding formIn formOf
   form-normal-back = expanders-back d 64 d few expander-in
 
--- the same form
+-- a normal domain has the form of the domain that it came from
 same-phy : (v : ℕ) (d : Domain) (φ : Phy) → formPhy (normalWith v d) (normalPhy v φ) ≡ formPhy d φ
 same-phy v d (Vacant r) = refl
 same-phy v d (Present f) = rw (number-same v d (f .address)) refl

@@ -176,7 +176,7 @@ module _ (most : Setting) (ws : List ℕ) (range : InRange most) (h : Words ws) 
     λ f e. not-one-iff most ws range h .1 f (late-one (formRead most ws) k late (then-one (then (formRead most ws) k) told (refusal 1 0 0) (sym q ∙ e))),
   )
 
--- the same of what each call promises
+-- when each call, by its promise, is not refused 1
 module _ (most : Setting) (ws : List ℕ) (range : InRange most) (h : Words ws) where
   pub tables-not-one : (before after : Entries) (answer : TablesGiven) → TablesDone (formTables most ws (roomOf before)) answer before after → (tablesAnswer answer ≢ refused (refusal 1 0 0)) ↔ FormOf most ws
   unfolding formTables

@@ -63,7 +63,7 @@ read-good : (answer : RouteRead) (q : Route) → routeAnswer answer ≡ good q �
 read-good (Refused r) q e = let z : _≡_ {A = ℕ} 0 1 = cc in absurd (omega arith)
 read-good (Read p) q e = cc
 
--- the same of the two functions' promises: what was read of the part that was handed back is what was written
+-- over the two functions' promises: what was read of the part that was handed back is what was written
 pub promised-back : (room : ℕ) (q : Route) (part : List ℕ) (answer : RouteRead) → Allowed q → 40 ≤ room
     → part ≡ partAfter (routeWritten room q) → routeAnswer answer ≡ routeRead part → answer ≡ Read q
 unfolding routeWritten

@@ -99,7 +99,7 @@ fn print_rows(rows: &[u64], chain: u8) -> bool {
     }
 }
 
-// The same of a file, which is read once, under the widest setting.
+// Writes the listing of a file, which is read once, under the widest setting, and answers whether all was written.
 fn print_listing(file: &[u8]) -> bool {
     if file.len() > 65536 {
         let mut line = [0u8; 80];

@@ -31,7 +31,7 @@ areKinds (k ∷ ks) = leb k 2 && areKinds ks
 unfoldable pub told : ℕ → ℕ → List ℕ → Bool
 told phys indexes kinds = leb 1 phys && (leb phys 16 && (leb indexes 64 && (eqb (length kinds) phys && areKinds kinds)))
 
--- the same in words
+-- what a fresh shelf can be told, number by number
 pub record Told (phys indexes : ℕ) (kinds : List ℕ) : Type 0 where
   pub some : 1 ≤ phys
   pub few : phys ≤ 16

@@ -57,7 +57,7 @@ abbrev pub Descent : Domain → ℕ → List ℕ → Type 0
 Descent d i [] = Unit {0}
 Descent d i (j ∷ l) = Table d i j × Descent d j l
 
--- the same, except that the last step may go to a table phy
+-- the walk i ∷ l goes by table phys, of which the last alone may be attached to a table phy
 abbrev pub Fall : Domain → ℕ → List ℕ → Type 0
 Fall d i [] = Unit {0}
 Fall d i (j ∷ []) = Link d 2 i j

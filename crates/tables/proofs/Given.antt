@@ -93,7 +93,7 @@ tables-same chain d e room f =
     let r = judged-routable chain d e (a .0) in
     (r .0, r .2, subst (λ x. Enough (needed x) room) (sym (r .0)) (a .1))
 
--- the same of files
+-- which files are accepted, and when tables are given for them
 module _ (setting : Setting) (file : List ℕ) (d : Domain) where
   -- an accepted file reads as a domain that is accepted
   pub judged-file : (judged setting file ≡ good d) ↔ ((domainRead setting file ≡ good d) × (judgedDomain (setting .chain) d ≡ good d))

@@ -49,7 +49,7 @@ fillable-by d x j =
     within : (i p : ℕ) → T (overOwn d i p) → p < length (expanderAt d i .phys)
     within i p t = routes-range d 2 i p (search tests) (omega arith)
 
--- the same by own lists, with room for so many entries
+-- causes 7 to 12, 23 and 14 by own lists, with room for so many entries
 module _ (chain first low : ℕ) (d : Domain) where
   pub own-checked : (x : Result Domain) → checkedIn chain first low d ≡ x → judgedIn chain first low d ≡ then x (λ _. firstOf 14 (overOwn d) d)
   unfolding judgedIn

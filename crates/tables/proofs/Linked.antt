@@ -36,7 +36,7 @@ far-number-is ws first i p φ x t =
     x .index i p far
     ∙ ap (λ ψ. numberOf d (addressOf ψ)) (sym (x .phy))
 
--- the same where the levels go on at φ
+-- the number of the expander at which the levels go on from φ, as the entries tell it
 pub far-down : (ws : List ℕ) (first : List ℕ) (i p : ℕ) (φ : Phy) → PhyIndexed (domainIn ws) first i p φ → down (domainIn ws) φ ≡ true
     → farNumber (domainIn ws) first i p ≡ numberOf (domainIn ws) (addressOf φ)
 far-down ws first i p φ x e = far-number-is ws first i p φ x (and-left (toExpander φ) _ (was-true _ e))

@@ -127,7 +127,7 @@ module _ (d : Domain) (x s : ℕ) where
       giveAll-new (physOf d es) [] (phyAt d m q)
       (flatMap-in (λ i. expanderAt d i .phys) es (phyAt d m q) m h (in-getD (expanderAt d m .phys) (Vacant 0) q (in-range d m q u .1))) u e k
 
-  -- the same of the expanders of the levels
+  -- who gives an address that is in a level list: an expander of the levels
   pub in-list : (p : ℕ) → s ≢ 0 → In s (levelList d x p) → (m q : ℕ) × In m (levels d x p) × GivenBy (phyAt d m q)
   unfolding levelList
   in-list p k o = in-given (levels d x p) k o

@@ -76,7 +76,7 @@ module _ (ws : List ℕ) (e p a : ℕ) (f : T (pluggable (phyAt (domainIn ws) e 
   pub rows-replugged : (ws′ : List ℕ) → PhySet ws ws′ e p (replug a (phyAt d e p)) → domainIn ws′ ≡ d′
   rows-replugged ws′ s = s .domain ∙ ap (setPhy d e p) held-replug
 
-  -- the same of the phy that was found and set
+  -- the rows after the phy was found, replugged and set hold the edited domain
   pub rows-are : (ws′ : List ℕ) (f′ g : Phy) → f′ ≡ phyAt d e p → g ≡ replug a f′ → PhySet ws ws′ e p g → domainIn ws′ ≡ d′
   rows-are ws′ f′ g u v s = rows-replugged ws′ (subst (PhySet ws ws′ e p) (v ∙ ap (replug a) u) s)
 
@@ -110,7 +110,7 @@ module _ (ws : List ℕ) (e p a : ℕ) (f : T (pluggable (phyAt (domainIn ws) e 
         cell = λ i l o. subst (λ x. take (suc (length x)) (drop (129 * i) lists) ≡ length x ∷ x) (sym (own-other d e p a f i o)) (h .cell i (subst (λ n. i < n) (size-same d e p a f) l));
       }
 
--- the same of a domain that is the edited one
+-- what is known of a domain that is the edited one
 module _ (ws : List ℕ) (e p a : ℕ) (f : T (pluggable (phyAt (domainIn ws) e p))) (d₂ : Domain) (is : d₂ ≡ replugged (domainIn ws) e p a) where
   pub fars-then : (first : List ℕ) → FarsKnown (domainIn ws) first → FarsKnown d₂ first
   fars-then first k = subst (λ x. FarsKnown x first) (sym is) (fars-replugged ws e p a f first k)

@@ -21,7 +21,7 @@ down d φ = toExpander φ && (routes 2 φ && not (routes 2 (farPhy d φ)))
 unfoldable pub belowPhys : Domain → List Phy → List ℕ
 belowPhys d φs = map (λ φ. numberOf d (addressOf φ)) (keep (down d) φs)
 
--- the same of the phys of expander i, lowest phy first
+-- the expanders at which the levels go on from the phys of expander i, lowest phy first
 unfoldable pub below : Domain → ℕ → List ℕ
 below d i = belowPhys d (expanderAt d i .phys)
 

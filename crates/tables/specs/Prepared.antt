@@ -23,7 +23,7 @@ use Rattle.tables.specs.Own.{own}
 abbrev pub Cells : ℕ → (ℕ → List ℕ) → ℕ → List ℕ → Type 0
 Cells stride list n words = (i : ℕ) → i < n → take (suc (length (list i))) (drop (stride * i) words) ≡ length (list i) ∷ list i
 
--- the same, and the words reach to stride * n
+-- such cells, and the words reach to stride * n
 pub record Stored (stride : ℕ) (list : ℕ → List ℕ) (n : ℕ) (words : List ℕ) : Type 0 where
   pub enough : stride * n ≤ length words
   pub cell : Cells stride list n words

@@ -11,7 +11,7 @@ use Rattle.files.specs.Domain.{Domain, phyAt, addressOf, toEnd}
 abbrev pub isEnd : ℕ → Phy → Bool
 isEnd s φ = toEnd φ && eqb (addressOf φ) s
 
--- the same at phy p of expander i
+-- phy p of expander i is attached to an end device with address s
 unfoldable pub endsAt : ℕ → Domain → ℕ → ℕ → Bool
 endsAt s d i p = isEnd s (phyAt d i p)
 

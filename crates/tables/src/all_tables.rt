@@ -18,7 +18,7 @@ ghost use Rattle.tables.specs.Filling.{placesAt, withTables, Put};
 ghost use Rattle.tables.specs.Prepared.{FarsKnown, OwnHeld, BelowHeld, orderOf, ownTablesOf, ownTables, FillRoom, Fillable};
 ghost use Rattle.wiring.specs.Addresses.{Indexed};
 
-// Is phy p of expander i a non-vacant table phy?
+// Whether phy p of expander i is a non-vacant table phy.
 pub(crate) fn is_table(rows: &[u64], i: ExpanderNumber, p: PhyId) -> bool
     ensures { λ r. ⌜ r ≡ routes 2 (phyAt (domainIn (now (rows .entry))) (i .0) (p .0)) ⌝ }
 {
@@ -177,7 +177,7 @@ fn put_all_in(
     }
 }
 
-// The same, with room for at most 8 expanders.
+// Writes all tables, with room for at most 8 expanders.
 fn put_few(rows: &[u64], first: &[u16], low: &[u8], words: &mut [u64])
     requires { ⌜ (length (domainIn (now rows)) ≤ 8) × (Indexed (domainIn (now rows)) (now first) (now low) × (Fillable (domainIn (now rows)) × (needed (domainIn (now rows)) ≤ length (now words)))) ⌝ }
     ensures { λ _. ⌜ now (words .exit) ≡ ownTables (domainIn (now (rows .entry))) ++ drop (needed (domainIn (now (rows .entry)))) (now (words .entry)) ⌝ }
@@ -196,7 +196,7 @@ fn put_few(rows: &[u64], first: &[u16], low: &[u8], words: &mut [u64])
     );
 }
 
-// The same, with room for the most expanders.
+// Writes all tables, with room for the most expanders.
 fn put_many(rows: &[u64], first: &[u16], low: &[u8], words: &mut [u64])
     requires { ⌜ Indexed (domainIn (now rows)) (now first) (now low) × (Fillable (domainIn (now rows)) × (needed (domainIn (now rows)) ≤ length (now words))) ⌝ }
     ensures { λ _. ⌜ now (words .exit) ≡ ownTables (domainIn (now (rows .entry))) ++ drop (needed (domainIn (now (rows .entry)))) (now (words .entry)) ⌝ }
@@ -215,7 +215,7 @@ fn put_many(rows: &[u64], first: &[u16], low: &[u8], words: &mut [u64])
     );
 }
 
-// The same. Few expanders need little room. Words after 64 rows say nothing; that it calls itself there gives each
+// Writes all tables. Few expanders need little room. Words after 64 rows say nothing; that it calls itself there gives each
 // room a stack frame of its own (docs/DECISIONS.md, 17).
 pub(crate) fn put_all(rows: &[u64], first: &[u16], low: &[u8], words: &mut [u64])
     requires { ⌜ Indexed (domainIn (now rows)) (now first) (now low) × (Fillable (domainIn (now rows)) × (needed (domainIn (now rows)) ≤ length (now words))) ⌝ }

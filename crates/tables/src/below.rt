@@ -16,7 +16,7 @@ ghost use Rattle.tables.specs.Levels.{belowPhys};
 ghost use Rattle.tables.specs.Filling.{Grown, Added};
 ghost use Rattle.tables.specs.Prepared.{FarsKnown, belowOnce, BelowHeld};
 
-// Is the number among these?
+// Whether the number is among these.
 pub(crate) fn has_number(l: &[u8], j: ExpanderNumber) -> bool
     ensures { λ r. ⌜ r ≡ isIn (j .0) (now (l .entry)) ⌝ }
 {
@@ -46,7 +46,7 @@ fn add_number(part: &mut [u8], m: usize, j: ExpanderNumber) -> usize
     m + 1
 }
 
-// The same of the expander attached to f, phy p of expander i, where the levels go on there.
+// Adds the expander attached to f, phy p of expander i, where the levels go on there.
 fn add_phy(
     rows: &[u64],
     first: &[u16],

@@ -25,7 +25,7 @@ fn copy_words(words: &[u64], part: &mut [u64], n: usize) -> usize
     to
 }
 
-// The same of expander i's own list.
+// Copies expander i's own list there.
 fn copy_own(rows: &[u64], lists: &[u64], i: ExpanderNumber, part: &mut [u64], n: usize) -> usize
     requires { ⌜ OwnHeld (domainIn (now rows)) (now lists) × (n + length (own (domainIn (now rows)) (i .0)) ≤ length (now part)) ⌝ }
     ensures { λ r. ⌜ Grown (now (part .entry)) (now (part .exit)) r (take n (now (part .entry)) ++ own (domainIn (now (rows .entry))) (i .0)) ⌝ }
@@ -39,7 +39,7 @@ fn copy_own(rows: &[u64], lists: &[u64], i: ExpanderNumber, part: &mut [u64], n:
     copy_words(&lists[from..to], part, n)
 }
 
-// The same of the own lists of these expanders, one after the other, from the front on.
+// Copies the own lists of these expanders, one after the other, from the front on.
 fn copy_lists(rows: &[u64], lists: &[u64], order: &[u8], part: &mut [u64]) -> usize
     requires { ⌜ OwnHeld (domainIn (now rows)) (now lists) × (length (flatMap (own (domainIn (now rows))) (now order)) ≤ length (now part)) ⌝ }
     ensures { λ r. ⌜ Grown (now (part .entry)) (now (part .exit)) r (flatMap (own (domainIn (now (rows .entry)))) (now (order .entry))) ⌝ }

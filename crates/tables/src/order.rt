@@ -29,7 +29,7 @@ fn append_numbers(order: &mut [u8], m: usize, more: &[u8]) -> usize
     to
 }
 
-// The same of the expanders below expander i.
+// Copies the numbers of the expanders below expander i there.
 fn append_below(rows: &[u64], below: &[u8], i: ExpanderNumber, order: &mut [u8], m: usize) -> usize
     requires { ⌜ BelowHeld (domainIn (now rows)) (now below) × (m + 65 ≤ length (now order)) ⌝ }
     ensures { λ r. ⌜ Grown (now (order .entry)) (now (order .exit)) r (take m (now (order .entry)) ++ belowOnce (domainIn (now (rows .entry))) (i .0)) ⌝ }
@@ -90,7 +90,7 @@ pub(crate) fn put_order(
     m
 }
 
-// The same, where the first n numbers of `order` are the order of g, phy q of expander i, which is kept where f is
+// Writes the order of f, phy p of expander i, and yields its length, where the first n numbers of `order` are the order of g, phy q of expander i, which is kept where f is
 // on g's link. Of a phy that is attached to no expander the order is empty.
 pub(crate) fn order_for(
     rows: &[u64],

@@ -124,7 +124,7 @@ pub(crate) fn overlong_each(
     Check::Passed
 }
 
-// The same, with room for the lists of the expanders below each, and for the levels of one phy.
+// The lowest such phy, with room for the lists of the expanders below each, and for the levels of one phy.
 fn overlong_in(rows: &[u64], first: &[u16], low: &[u8], below: &mut [u8], order: &mut [u8]) -> Check
     requires { ⌜ Indexed (domainIn (now rows)) (now first) (now low) × ((66 * length (domainIn (now rows)) ≤ length (now below)) × ((65 * length (domainIn (now rows)) < length (now order)) × (length (now order) ≤ 4161))) ⌝ }
     ensures { λ r. ⌜ checkAnswer (domainIn (now (rows .entry))) r

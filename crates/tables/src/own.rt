@@ -18,7 +18,7 @@ ghost use Rattle.tables.specs.Filling.{Grown};
 ghost use Rattle.tables.specs.Prepared.{OwnHeld, Counted, ownsBy};
 ghost use Rattle.wiring.specs.Addresses.{IndexedLow};
 
-// Is it an attached phy that bears the address?
+// Whether it is an attached phy that bears the address.
 pub(crate) fn phy_bears(s: u64, f: Phy) -> bool
     ensures { λ r. ⌜ r ≡ bears s f ⌝ }
 {
@@ -38,7 +38,7 @@ pub(crate) fn word_of(f: Phy) -> u64
     wiring::phy_address(f)
 }
 
-// Does f, phy p of expander i, give its word to the expander's own list? `low` has the lowest phy with its
+// Whether f, phy p of expander i, gives its word to the expander's own list. `low` has the lowest phy with its
 // address.
 fn is_own(low: &[u8], i: ExpanderNumber, p: PhyId, f: Phy) -> bool
     ensures { λ r. ⌜ r ≡ ownsBy (now (low .entry)) (i .0) (p .0) f ⌝ }

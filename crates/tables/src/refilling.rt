@@ -83,7 +83,7 @@ fn own_length(rows: &[u64], lists: &[u64], i: ExpanderNumber) -> usize
     lists[129 * (i.0 as usize)] as usize
 }
 
-// The same of expander i's own list, which has n words.
+// At how many places expander i's own list, which has n words, differs from the first words of `part`.
 fn count_own(rows: &[u64], lists: &[u64], i: ExpanderNumber, n: usize, part: &[u64]) -> usize
     requires { ⌜ OwnHeld (domainIn (now rows)) (now lists) × ((n ≡ length (own (domainIn (now rows)) (i .0))) × (n ≤ length (now part))) ⌝ }
     ensures { λ r. ⌜ (r ≡ changed (now (part .entry)) (own (domainIn (now (rows .entry))) (i .0))) × (r ≤ n) ⌝ }
@@ -96,7 +96,7 @@ fn count_own(rows: &[u64], lists: &[u64], i: ExpanderNumber, n: usize, part: &[u
     count_changed(part, &lists[from..to])
 }
 
-// The same of a table: the own lists of these expanders, one after the other, and zeros after them.
+// At how many places a table differs from `part`: the own lists of these expanders, one after the other, and zeros after them.
 fn count_table(rows: &[u64], lists: &[u64], order: &[u8], part: &[u64]) -> usize
     requires { ⌜ OwnHeld (domainIn (now rows)) (now lists) × (length (flatMap (own (domainIn (now rows))) (now order)) ≤ length (now part)) ⌝ }
     ensures { λ r. ⌜ (r ≡ changed (now (part .entry)) (filledTo (length (now (part .entry))) (flatMap (own (domainIn (now (rows .entry)))) (now (order .entry)))))
@@ -189,7 +189,7 @@ fn renew_table(
     n
 }
 
-// The same where expander e is in the order; elsewhere the table is passed over. The answer is the tally after it.
+// Writes a table afresh where expander e is in its order; elsewhere it is passed over. The answer is the tally after it.
 fn refill_table(
     rows: &[u64],
     lists: &[u64],
@@ -223,7 +223,7 @@ fn refill_table(
     }
 }
 
-// The same of all phys of expander i. `order` is room for the levels of one phy.
+// Goes so through the tables of expander i. `order` is room for the levels of one phy.
 fn refill_at(
     rows: &[u64],
     first: &[u16],

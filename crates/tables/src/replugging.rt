@@ -129,7 +129,7 @@ fn replug_in(
     }
 }
 
-// The same, with room for at most 8 expanders.
+// Replugs a drive that was admitted, with room for at most 8 expanders.
 fn replug_few(
     rows: &mut [u64],
     first: &[u16],
@@ -164,7 +164,7 @@ fn replug_few(
     )
 }
 
-// The same, with room for the most expanders.
+// Replugs a drive that was admitted, with room for the most expanders.
 fn replug_many(
     rows: &mut [u64],
     first: &[u16],
@@ -199,7 +199,7 @@ fn replug_many(
     )
 }
 
-// The same. Few expanders need little room. No phy has a number above 127; that it calls itself there gives each room a
+// Replugs a drive that was admitted. Few expanders need little room. No phy has a number above 127; that it calls itself there gives each room a
 // stack frame of its own (docs/DECISIONS.md, 17).
 fn replug_admitted(
     rows: &mut [u64],

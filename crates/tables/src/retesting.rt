@@ -22,7 +22,7 @@ ghost use Rattle.tables.specs.Prepared.{FarsKnown, OwnHeld, Counted, Bel
 ghost use Rattle.tables.specs.Replugging.{claimedWith, retested, OwnHeldBut};
 ghost use Rattle.tables.specs.Retests.{isEnd, endsAt, isFound};
 
-// Has an expander address s?
+// Whether an expander has address s.
 fn is_expander(rows: &[u64], s: u64) -> bool
     ensures { λ r. ⌜ r ≡ ltb (numberOf (domainIn (now (rows .entry))) s) (length (domainIn (now (rows .entry)))) ⌝ }
 {
@@ -37,7 +37,7 @@ fn is_expander(rows: &[u64], s: u64) -> bool
     false
 }
 
-// Is it attached to an end device with address s?
+// Whether it is attached to an end device with address s.
 fn is_end(s: u64, f: Phy) -> bool
     ensures { λ r. ⌜ r ≡ isEnd s f ⌝ }
 {
@@ -68,7 +68,7 @@ fn first_end(rows: &[u64], i: ExpanderNumber, s: u64) -> Check
     Check::Passed
 }
 
-// Did the search find a phy?
+// Whether the search found a phy.
 fn is_found(answer: Check) -> bool
     ensures { λ r. ⌜ r ≡ isFound answer ⌝ }
 {
@@ -99,8 +99,8 @@ pub(crate) fn first_claim(rows: &[u64], s: u64) -> Check
     Check::Passed
 }
 
-// Do two phys of one expander clash: both attached, with the same address and other attributes, or both
-// subtractive with other addresses?
+// Whether two phys of one expander clash: both attached, with the same address and other attributes, or both
+// subtractive with other addresses.
 fn is_clash(f: Phy, g: Phy) -> bool
     ensures { λ r. ⌜ r ≡ clash f g ⌝ }
 {
@@ -119,7 +119,7 @@ fn is_clash(f: Phy, g: Phy) -> bool
     wiring::phy_attribute(g) == 1
 }
 
-// Cause 9 at phy p of expander i: it clashes with a lower one.
+// Whether cause 9 holds at phy p of expander i: it clashes with a lower one.
 fn has_clash(rows: &[u64], i: ExpanderNumber, p: PhyId) -> bool
     requires { ⌜ p .0 < length (expanderAt (domainIn (now rows)) (i .0) .phys) ⌝ }
     ensures { λ r. ⌜ r ≡ clashing (domainIn (now (rows .entry))) (i .0) (p .0) ⌝ }
@@ -159,7 +159,7 @@ pub(crate) fn first_clash(rows: &[u64], e: ExpanderNumber) -> Check
     Check::Passed
 }
 
-// Bears an attached phy of expander i below p address s?
+// Whether an attached phy of expander i below p bears address s.
 fn is_borne(rows: &[u64], i: ExpanderNumber, p: PhyId, s: u64) -> bool
     requires { ⌜ p .0 < length (expanderAt (domainIn (now rows)) (i .0) .phys) ⌝ }
     ensures { λ r. ⌜ r ≡ any (bears s) (lower (expanderAt (domainIn (now (rows .entry))) (i .0) .phys) (p .0)) ⌝ }
@@ -174,7 +174,7 @@ fn is_borne(rows: &[u64], i: ExpanderNumber, p: PhyId, s: u64) -> bool
     false
 }
 
-// Does f, phy p of expander i, give its word to the expander's own list?
+// Whether f, phy p of expander i, gives its word to the expander's own list.
 fn gives_word(rows: &[u64], i: ExpanderNumber, p: PhyId, f: Phy) -> bool
     requires { ⌜ p .0 < length (expanderAt (domainIn (now rows)) (i .0) .phys) ⌝ }
     ensures { λ r. ⌜ r ≡ owns (lower (expanderAt (domainIn (now (rows .entry))) (i .0) .phys) (p .0)) f ⌝ }

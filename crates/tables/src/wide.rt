@@ -11,7 +11,7 @@ ghost use Rattle.files.specs.Rows.{domainIn};
 ghost use Rattle.tables.specs.Levels.{down};
 ghost use Rattle.tables.specs.Prepared.{oneLink, Told, PhyIndexed};
 
-// Do the levels go on at f, phy p of expander i: a table phy attached to an expander, and not to a table phy?
+// Whether the levels go on at f, phy p of expander i: a table phy attached to an expander, and not to a table phy.
 pub(crate) fn is_down(rows: &[u64], first: &[u16], i: ExpanderNumber, p: PhyId, f: Phy) -> bool
     requires { ⌜ PhyIndexed (domainIn (now rows)) (now first) (i .0) (p .0) f ⌝ }
     ensures { λ r. ⌜ r ≡ down (domainIn (now (rows .entry))) f ⌝ }
@@ -26,7 +26,7 @@ pub(crate) fn is_down(rows: &[u64], first: &[u16], i: ExpanderNumber, p: PhyId, 
     wiring::phy_attribute(wiring::phy_at(rows, j, wiring::phy_far(f))) != 2
 }
 
-// Do the levels go on at f and g, phys p and q of expander i, at the same expander?
+// Whether the levels go on at f and g, phys p and q of expander i, at the same expander.
 pub(crate) fn are_one_link(
     rows: &[u64],
     first: &[u16],

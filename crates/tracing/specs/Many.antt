@@ -44,7 +44,7 @@ listFor room answers count d =
 abbrev pub judgedList : ℕ → Domain → Room → ℕ → ℕ → Result Domain
 judgedList chain d room answers count = then (judgedDomain chain d) (listFor room answers count)
 
--- the same with 14 by own lists, and 16 where there is no room for entries of so many slots and phys
+-- the call on a list of requests with 14 by own lists, and 16 where there is no room for entries of so many slots and phys
 unfoldable pub listIn : ℕ → ℕ → ℕ → Domain → Room → ℕ → ℕ → Result Domain
 listIn chain first low d room answers count = then (judgedIn chain first low d) (listFor room answers count)
 

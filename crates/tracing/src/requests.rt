@@ -14,8 +14,8 @@ ghost use Rattle.tables.specs.Wiring.{refusal};
 ghost use Rattle.tables.specs.Entries.{entries};
 ghost use Rattle.tracing.specs.Trace.{request, allowed, requested, tracedRequest, TraceDone};
 
-// Does cause 15 not hold: the start is an expander, and the arrival phy is 255 or attached to an end
-// device?
+// Whether cause 15 does not hold: the start is an expander, and the arrival phy is 255 or attached to an end
+// device.
 pub(crate) fn is_allowed(rows: &[u64], start: ExpanderNumber, arrival: PhyId) -> bool
     ensures { λ r. ⌜ r ≡ allowed (domainIn (now (rows .entry))) (start .0) (arrival .0) ⌝ }
 {

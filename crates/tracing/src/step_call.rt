@@ -15,7 +15,7 @@ ghost use Rattle.tables.specs.Entries.{entries};
 ghost use Rattle.tracing.specs.Trace.{request};
 ghost use Rattle.tracing.specs.Reasons.{stepAllowed, stepRequested, stepAsked, stepIn, stepCall, toldAnswer};
 
-// Does cause 15 not hold: there is such an expander, and the arrival phy is 255 or attached?
+// Whether cause 15 does not hold: there is such an expander, and the arrival phy is 255 or attached.
 fn may_arrive(rows: &[u64], i: ExpanderNumber, arrival: PhyId) -> bool
     ensures { λ r. ⌜ r ≡ stepAllowed (domainIn (now (rows .entry))) (i .0) (arrival .0) ⌝ }
 {

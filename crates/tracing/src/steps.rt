@@ -23,7 +23,7 @@ pub(crate) enum Pick {
     Nowhere,
 }
 
-// Is the phy attached, and does it bear the address?
+// Whether the phy is attached and bears the address.
 fn is_bearing(f: Phy, s: u64) -> bool
     ensures { λ r. ⌜ r ≡ bears s f ⌝ }
 {
@@ -33,7 +33,7 @@ fn is_bearing(f: Phy, s: u64) -> bool
     tables::phy_address(f) == s
 }
 
-// Is it a subtractive phy attached to an expander?
+// Whether it is a subtractive phy attached to an expander.
 fn is_subtracting(f: Phy) -> bool
     ensures { λ r. ⌜ r ≡ (toExpander f && routes 1 f) ⌝ }
 {

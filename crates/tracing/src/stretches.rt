@@ -21,7 +21,7 @@ pub(crate) fn size_at(rows: &[u64], i: ExpanderNumber, p: PhyId) -> usize
     tables::index_count(rows, i) as usize
 }
 
-// Does word k count as s: is it s with its disable bit clear? One whose bit is set counts as 0.
+// Whether word k counts as s: it is s with its disable bit clear. One whose bit is set counts as 0.
 fn is_entry(words: &[u64], bits: &[u8], k: usize, s: u64) -> bool
     requires { ⌜ k < length (now words) ⌝ }
     ensures { λ r. ⌜ r ≡ eqb (getD (counted (entries (now (words .entry)) (now (bits .entry)))) k 0) s ⌝ }
@@ -38,7 +38,7 @@ fn is_entry(words: &[u64], bits: &[u8], k: usize, s: u64) -> bool
     tables::bit_at(bits, k) != 0
 }
 
-// Is s among the n words that count from `at` on?
+// Whether s is among the n words that count from `at` on.
 pub(crate) fn lists(words: &[u64], bits: &[u8], at: usize, n: usize, s: u64) -> bool
     ensures { λ r. ⌜ r ≡ isIn s (take n (drop at (counted (entries (now (words .entry)) (now (bits .entry)))))) ⌝ }
 {

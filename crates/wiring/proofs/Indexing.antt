@@ -232,7 +232,7 @@ module _ (ws : List ℕ) where
   abbrev d : Domain
   d = domainIn ws
 
-  -- the same of f, phy p of expander i
+  -- the entries of f, phy p of expander i
   module _ (i p : ℕ) (f : Phy) (e : f ≡ phyAt (domainIn ws) i p) (h : p < length (expanderAt (domainIn ws) i .phys)) where
     pub phy-few : p < 128
     phy-few = omega (arith, short-in ws i)

@@ -67,7 +67,7 @@ module _ (setting : Setting) (file before after : List ℕ) (e : Roomy setting f
           let o = g .range .expanders .1 in
           (q ∙ ap good (sym k), (omega arith, b ∙ ap length (sym k)))
 
--- the same of an answer that was matched
+-- what an answer that was matched says
 pub opened-as : (setting : Setting) (file before after : List ℕ) (answer known : DomainRead) → Roomy setting file before → RowsRead setting file answer before after → answer ≡ known
     → Opened setting file known after
 opened-as setting file before after answer known e r q = subst (λ a. Opened setting file a after) q (opened setting file before after e answer r)

@@ -33,11 +33,11 @@ pub record WordEach (n : ℕ) (f : ℕ → ℕ) (words : List ℕ) : Type 0 wher
 abbrev pub Held : Domain → List ℕ → Type 0
 Held d words = WordEach (length d) (neighbourWord d) words
 
--- does v belong to the next set, in a round of causes 11 and 23 (an expander that stays) or 12 (one that is reached)?
+-- whether v belongs to the next set, in a round of causes 11 and 23 (an expander that stays) or 12 (one that is reached)
 unfoldable pub roundTest : ℕ → ℕ → (ℕ → ℕ → Bool) → List ℕ → ℕ → Bool
 roundTest k n adj l v = cond (eqb k 11) (isIn v l && stays n adj l v) (near n adj l v)
 
--- the same of v's neighbour word and the set as words
+-- whether v belongs to the next set, by its neighbour word and the set as words
 unfoldable pub nextTest : ℕ → ℕ → ℕ → ℕ → Bool
 nextTest k word set v =
     cond (eqb k 11)

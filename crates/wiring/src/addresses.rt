@@ -86,7 +86,7 @@ fn add_low(rows: &[u64], cells: &mut [u16], i: ExpanderNumber, p: PhyId, f: Phy,
     low[k] = (r - from) as u8;
 }
 
-// The same of each phy of expander i.
+// Writes the lowest phy with its address for each attached phy of expander i.
 fn put_low(rows: &[u64], i: ExpanderNumber, low: &mut [u8])
     requires { ⌜ LowsBefore (domainIn (now rows)) (i .0) (now low) ⌝ }
     ensures { λ _. ⌜ LowsBefore (domainIn (now (rows .entry))) (i .0 + 1) (now (low .exit)) × KeptBut (attachedAt (domainIn (now (rows .entry)))) (now (low .entry)) (now (low .exit)) ⌝ }
@@ -154,7 +154,7 @@ fn add_first(
     first[t] = slot_in(cells[c]);
 }
 
-// The same of each phy of expander i.
+// Writes who has its address for each attached phy of expander i.
 fn put_first(rows: &[u64], cells: &mut [u16], size: usize, i: ExpanderNumber, first: &mut [u16])
     requires { ⌜ FirstsTo (domainIn (now rows)) (slotsBefore (i .0)) size (now cells) (now first) × (i .0 < length (domainIn (now rows))) ⌝ }
     ensures { λ _. ⌜ FirstsTo (domainIn (now (rows .entry))) (slotsBefore (i .0 + 1)) size (now (cells .exit)) (now (first .exit)) × KeptBut (tells (domainIn (now (rows .entry)))) (now (first .entry)) (now (first .exit)) ⌝ }

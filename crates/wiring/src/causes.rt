@@ -28,7 +28,7 @@ fn is_naming(s: u64, p: PhyId, f: Phy) -> bool
     files::phy_far(f).0 == p.0
 }
 
-// Cause 7: type 2 or 3 on a direct phy, or far end missing or not naming this phy back.
+// Whether cause 7 holds: type 2 or 3 on a direct phy, or far end missing or not naming this phy back.
 fn is_unanswered(rows: &[u64], first: &[u16], i: ExpanderNumber, p: PhyId) -> bool
     requires { ⌜ IndexedFirst (domainIn (now rows)) (now first) × (p .0 < length (expanderAt (domainIn (now rows)) (i .0) .phys)) ⌝ }
     ensures { λ r. ⌜ r ≡ unanswered (domainIn (now (rows .entry))) (i .0) (p .0) ⌝ }
@@ -45,7 +45,7 @@ fn is_unanswered(rows: &[u64], first: &[u16], i: ExpanderNumber, p: PhyId) -> bo
     !is_naming(files::expander_address(rows, i), p, g)
 }
 
-// Cause 8: type 1 bearing an expander's address, or that of an end device at an earlier expander.
+// Whether cause 8 holds: type 1 bearing an expander's address, or that of an end device at an earlier expander.
 fn is_claimed(rows: &[u64], first: &[u16], i: ExpanderNumber, p: PhyId) -> bool
     requires { ⌜ IndexedFirst (domainIn (now rows)) (now first) × (p .0 < length (expanderAt (domainIn (now rows)) (i .0) .phys)) ⌝ }
     ensures { λ r. ⌜ r ≡ claimed (domainIn (now (rows .entry))) (i .0) (p .0) ⌝ }
@@ -57,7 +57,7 @@ fn is_claimed(rows: &[u64], first: &[u16], i: ExpanderNumber, p: PhyId) -> bool
     (first[from + p.0 as usize] as usize) < from
 }
 
-// Cause 10: non-vacant table phy, configurable bit 0.
+// Whether cause 10 holds: non-vacant table phy, configurable bit 0.
 fn is_fixed(rows: &[u64], i: ExpanderNumber, p: PhyId) -> bool
     requires { ⌜ p .0 < length (expanderAt (domainIn (now rows)) (i .0) .phys) ⌝ }
     ensures { λ r. ⌜ r ≡ fixed (domainIn (now (rows .entry))) (i .0) (p .0) ⌝ }

@@ -14,7 +14,7 @@ ghost use Rattle.wiring.specs.Checks.{Testable};
 ghost use Rattle.wiring.specs.Clashes.{subtractive, leadsElsewhere};
 ghost use Rattle.wiring.specs.Addresses.{IndexedLow};
 
-// Is it an attached subtractive phy?
+// Whether it is an attached subtractive phy.
 fn is_subtractive(f: Phy) -> bool
     ensures { λ r. ⌜ r ≡ subtractive f ⌝ }
 {
@@ -24,7 +24,7 @@ fn is_subtractive(f: Phy) -> bool
     files::phy_attribute(f) == 1
 }
 
-// Has an attached subtractive phy of expander i below p another address than s? No two of these clash, so the
+// Whether an attached subtractive phy of expander i below p has another address than s. No two of these clash, so the
 // highest of them tells.
 fn has_other_way(rows: &[u64], i: ExpanderNumber, p: PhyId, s: u64) -> bool
     requires { ⌜ Testable 9 (domainIn (now rows)) (i .0) (p .0) ⌝ }
@@ -41,7 +41,7 @@ fn has_other_way(rows: &[u64], i: ExpanderNumber, p: PhyId, s: u64) -> bool
     false
 }
 
-// Cause 9 at phy p of expander i, where it does not hold at a lower phy of it. `low` has the lowest phy with its
+// Whether cause 9 holds at phy p of expander i, where it does not hold at a lower phy of it. `low` has the lowest phy with its
 // address.
 pub(crate) fn is_clashing(rows: &[u64], low: &[u8], i: ExpanderNumber, p: PhyId) -> bool
     requires { ⌜ IndexedLow (domainIn (now rows)) (now low) × Testable 9 (domainIn (now rows)) (i .0) (p .0) ⌝ }
