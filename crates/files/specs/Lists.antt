@@ -16,7 +16,7 @@ abbrev pub upTo : ℕ → List ℕ
 upTo n = numbers 0 n
 
 module _ {A : Type 0} where
-  -- does the test hold of a member?
+  -- whether the test holds of a member
   unfoldable pub any : (A → Bool) → List A → Bool
   any test [] = false
   any test (x ∷ xs) = test x || any test xs

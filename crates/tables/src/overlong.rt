@@ -37,7 +37,7 @@ fn count_words(rows: &[u64], counts: &[u8], order: &[u8]) -> usize
     sum
 }
 
-// Are the own lists of the levels of f, phy p of expander i, more than R words, and is it a table phy? q is a lower phy
+// Whether f, phy p of expander i, is a table phy and the own lists of its levels have more than R words. q is a lower phy
 // of its link, whose levels are the same and were not too long, or is not lower. `order` is room for the
 // levels of one phy.
 fn is_overlong(

@@ -43,7 +43,7 @@ fn is_subtracting(f: Phy) -> bool
     tables::phy_attribute(f) == 1
 }
 
-// Is phy p of expander i a table phy attached to an expander, with s in its stretch, which starts at `at`?
+// Whether phy p of expander i is a table phy attached to an expander, with s in its stretch, which starts at `at`.
 fn is_listing(
     rows: &[u64],
     words: &[u64],

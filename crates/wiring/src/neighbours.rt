@@ -57,7 +57,7 @@ fn put_far(rows: &[u64], first: &[u16], words: &mut [u64])
     }
 }
 
-// Is one of two expanders attached to the other? `words` has the sets of all, and `first` the number of the first
+// Whether one of two expanders is attached to the other. `words` has the sets of all, and `first` the number of the first
 // expander with the address of each.
 fn are_neighbours(
     rows: &[u64],
