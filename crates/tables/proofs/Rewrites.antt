@@ -1,9 +1,10 @@
 -- The touched tables written afresh, one after the other: one table, a place after others, and all places.
 use Prim.Native.Nat.{ℕ, zero, suc, _+_, _*_, _-_, _≤_, _<_}
 use mathlib.Core.Path.{_≡_, refl, sym, _∙_, ap, ap₂, subst}
-use mathlib.Core.Bool.{Bool, true, false, cond}
+use mathlib.Core.Bool.{Bool, true, false, cond, not}
 use mathlib.Core.List.{List, [], _∷_, _++_, append-nil, append-assoc}
 use native.Mathlib.Omega.{arith}
+use borrow.Author.Tests.{not-true}
 use native.Mathlib.Nat.{add-zero, zero-add}
 use native.Mathlib.Numerals.{add-one}
 use lib.ListN.{length, getD, take, drop, length-append, length-drop, length-map, take-append-drop}
@@ -278,6 +279,13 @@ module _ (d : Domain) (e : ℕ) where
       let m : phyPlaces i 0 p ++ (place i p ∷ []) ≡ phyPlaces i 0 (p + 1) =
       rw (add-one p) (sym (phys-more i 0 p ∙ ap (λ (x : ℕ). phyPlaces i 0 p ++ (place i x ∷ [])) z)) in
       subst (λ (l : List Place). Rewritten d e l s r a c) m (rewritten-then d e (phyPlaces i 0 p) (place i p ∷ []) s t r a b c u v h k)
+
+  -- a phy that has no table is passed over
+  pub phys-skip : (i p : ℕ) (s t : Tally) (a b : Entries) → Rewritten d e (phyPlaces i 0 p) s t a b → {x : Bool} → x ≡ routes 2 (phyAt d i p) → not x ≡ true
+      → s .at + sizes d (phyPlaces i 0 p) ≤ length (a .words) → s .at + sizes d (phyPlaces i 0 p) ≤ 8 * length (a .bits) → Rewritten d e (phyPlaces i 0 (p + 1)) s t a b
+  phys-skip i p s t a b u {x} q k h l =
+      let n = not-touched d e (place i p) (sym q ∙ not-true x k) in
+      phys-turn i p s t t a b b u (rewritten-old d e (place i p) t t b (n .0) (omega (arith, n .1)) refl refl) h l
 
   pub phys-end : (i p : ℕ) (s r : Tally) (a b : Entries) → Rewritten d e (phyPlaces i 0 p) s r a b → p ≡ length (expanderAt d i .phys) → Rewritten d e (placesAt d i) s r a b
   phys-end i p s r a b u q = subst (λ (n : ℕ). Rewritten d e (phyPlaces i 0 n) s r a b) q u

@@ -1,6 +1,7 @@
 // The tables with an expander in their order, written afresh among words and bits that hold tables already. The words that
 // change are counted before they are written.
 use crate::Replugged;
+use crate::all_tables;
 use crate::below;
 use crate::filling;
 use crate::order;
@@ -249,6 +250,10 @@ fn refill_at(
     let mut m: usize = 0;
     let mut p: u8 = 0;
     while p < n {
+        if !all_tables::is_table(rows, i, PhyId(p)) {
+            p += 1;
+            continue;
+        }
         let f = wiring::phy_below(rows, i, PhyId(p));
         m = order::order_for(rows, first, below, q, g, m, i, PhyId(p), f, order);
         q = PhyId(p);

@@ -1,4 +1,4 @@
--- refill_at meets its contract. The loop's invariant: the tables of the first p phys are gone through, and `order` is the order of the phy before.
+-- refill_at meets its contract. The loop's invariant: the tables of the first p phys are gone through, and `order` is the order of the table phy before.
 use Prim.Native.Nat.{ℕ, _+_, _-_, _≤_}
 use mathlib.Core.Path.{_≡_, refl, sym, _∙_, ap}
 use native.Mathlib.Omega.{arith}
@@ -17,7 +17,7 @@ use Rattle.tables.specs.Prepared.{orderOf}
 use Rattle.tables.specs.Rewriting.{Near, Rewritten}
 use Rattle.tables.proofs.Growing.{grown-kept, grown-again}
 use Rattle.tables.proofs.Orders.{order-none}
-use Rattle.tables.proofs.Rewrites.{phys-fit, phys-start, phys-turn, phys-end, near-none, near-then}
+use Rattle.tables.proofs.Rewrites.{phys-fit, phys-start, phys-turn, phys-skip, phys-end, near-none, near-then}
 use borrow.Author.Needs.{needs}
 use Rattle.tables.proofs.refilling.refill_at.Statement.{statement}
 use Rattle.tables.proofs.refilling.refill_at.Tie as tie
@@ -39,13 +39,33 @@ loop-holds c =
     let none : Vacant 0 ≡ phyAt d (a .i .0) 255 = sym (List·getD-eq-default (expanderAt d (a .i .0) .phys) (Vacant 0) (omega (arith, short-in (a .rows .now) (a .i .0)))) in
     (omega arith, (refl, ((none, o), (near-none (a .s), phys-start d (a .e .0) (a .i .0) (a .s) (entries (a .words .now) (a .bits .now))))))
 
+is-table-requires : tie.Need-is-table-requires Inv-loop μ-loop
+is-table-requires c κs = search needs
+
+add-p : tie.Need-add-p Inv-loop μ-loop
+add-p c = omega arith
+
+loop-less : tie.Need-loop-less Inv-loop μ-loop
+loop-less c = omega arith
+
+loop-again : tie.Need-loop-again Inv-loop μ-loop
+loop-again c =
+    let at-pre = c .before .before .before .before .before .before .before .before .before .before .before .before .pre in
+    let a = c .before .before .before .before .before .before .before .before .before .before .before .before .args in
+    let d : Domain = domainIn (a .rows .now) in
+    let l = c .before .before .before .loop in
+    let w = l .inv .1 .1 .1 in
+    let f = phys-fit d (a .i .0) (c .before .before .before .before .phy-count .result) (l .p) (omega (arith, c .before .before .loop-test .taken)) in
+    let n = ap (λ (k : ℕ). sizes d (phyPlaces (a .i .0) 0 k)) (c .before .before .before .before .phy-count .ensures .0) in
+    (omega (arith, c .before .before .loop-test .taken), (l .inv .1 .0, (l .inv .1 .1 .0, (near-then (l .p) 0 (l .p + 1) (a .s) (l .t) (l .t) (w .0) (near-none (l .t)) (omega arith), phys-skip d (a .e .0) (a .i .0) (l .p) (a .s) (l .t) (entries (a .words .now) (a .bits .now)) (entries (l .words) (l .bits)) (w .1) (c .before .is-table .ensures) (c .if1 .taken) (omega (arith, at-pre .1 .1 .1 .1 .1 .1 .0)) (omega (arith, at-pre .1 .1 .1 .1 .1 .1 .1))))))
+
 phy-below-requires : tie.Need-phy-below-requires Inv-loop μ-loop
 phy-below-requires c κs = search needs
 
 order-for-requires : tie.Need-order-for-requires Inv-loop μ-loop
 order-for-requires c κs =
-    let at-pre = c .before .before .before .before .before .before .before .before .before .before .before .before .pre in
-    ((record { index = at-pre .0; phy = (c .before .phy-below) .ensures ∙ phy-held _ _ _ (omega arith) }, (c .before .before .before .loop) .inv .1 .1 .0 .0), (at-pre .1 .1 .0, (omega (arith, at-pre .1 .1 .1 .0), (c .before .before .before .loop) .inv .1 .1 .0 .1)))
+    let at-pre = c .before .before .before .before .before .before .before .before .before .before .before .before .before .before .pre in
+    ((record { index = at-pre .0; phy = (c .before .phy-below) .ensures ∙ phy-held _ _ _ (omega arith) }, (c .before .before .before .before .before .loop) .inv .1 .1 .0 .0), (at-pre .1 .1 .0, (omega (arith, at-pre .1 .1 .1 .0), (c .before .before .before .before .before .loop) .inv .1 .1 .0 .1)))
 
 slice-reshare-prefix-refill-table : tie.Need-slice-reshare-prefix-refill-table Inv-loop μ-loop
 slice-reshare-prefix-refill-table c = omega (arith, (c .before .before .order-for) .ensures .same, (c .before .before .order-for) .ensures .fits)
@@ -56,11 +76,11 @@ slice-aggregate-refill-table c = sym (length-take-le ((c .before .before .before
 refill-table-requires : tie.Need-refill-table-requires Inv-loop μ-loop
 refill-table-requires c κs =
     let at-phy-below = c .before .before .before .before .before .before .before .phy-below in
-    let a = c .before .before .before .before .before .before .before .before .before .before .before .before .before .before .before .before .before .before .args in
-    let count = c .before .before .before .before .before .before .before .before .before .before .phy-count in
-    let pre = c .before .before .before .before .before .before .before .before .before .before .before .before .before .before .before .before .before .before .pre in
+    let a = c .before .before .before .before .before .before .before .before .before .before .before .before .before .before .before .before .before .before .before .before .args in
+    let count = c .before .before .before .before .before .before .before .before .before .before .before .before .phy-count in
+    let pre = c .before .before .before .before .before .before .before .before .before .before .before .before .before .before .before .before .before .before .before .before .pre in
     let d : Domain = domainIn (a .rows .now) in
-    let l = c .before .before .before .before .before .before .before .before .before .loop in
+    let l = c .before .before .before .before .before .before .before .before .before .before .before .loop in
     let w = l .inv .1 .1 .1 in
     let u = w .1 in
     let q = (c .before .before .before .before .before .order-for) .ensures .whole ∙ ap (orderOf d) (at-phy-below .ensures ∙ phy-held _ _ _ (omega arith)) in
@@ -70,22 +90,22 @@ refill-table-requires c κs =
     let k = ap (λ (x : Room). x .bits) (u .same) in
     (pre .1 .0, (q, (pre .1 .1 .1 .1 .0, ((omega (arith, w .0 .few, pre .1 .1 .1 .1 .1 .0 .0, count .ensures .1), omega (arith, w .0 .less, pre .1 .1 .1 .1 .1 .0 .1)), (omega (arith, u .next, pre .1 .1 .1 .1 .1 .1 .0), omega (arith, u .next, pre .1 .1 .1 .1 .1 .1 .1))))))
 
-add-p : tie.Need-add-p Inv-loop μ-loop
-add-p c = omega arith
+add-p-2 : tie.Need-add-p-2 Inv-loop μ-loop
+add-p-2 c = omega arith
 
-loop-less : tie.Need-loop-less Inv-loop μ-loop
-loop-less c = omega arith
+loop-less-2 : tie.Need-loop-less-2 Inv-loop μ-loop
+loop-less-2 c = omega arith
 
-loop-again : tie.Need-loop-again Inv-loop μ-loop
-loop-again c =
+loop-again-2 : tie.Need-loop-again-2 Inv-loop μ-loop
+loop-again-2 c =
     let at-order-for = c .before .before .before .before .before .before .before .before .before .before .order-for in
     let at-phy-below = c .before .before .before .before .before .before .before .before .before .before .before .before .phy-below in
-    let a = c .before .before .before .before .before .before .before .before .before .before .before .before .before .before .before .before .before .before .before .before .before .before .before .args in
-    let count = c .before .before .before .before .before .before .before .before .before .before .before .before .before .before .before .phy-count in
-    let test = c .before .before .before .before .before .before .before .before .before .before .before .before .before .loop-test in
-    let pre = c .before .before .before .before .before .before .before .before .before .before .before .before .before .before .before .before .before .before .before .before .before .before .before .pre in
+    let a = c .before .before .before .before .before .before .before .before .before .before .before .before .before .before .before .before .before .before .before .before .before .before .before .before .before .args in
+    let count = c .before .before .before .before .before .before .before .before .before .before .before .before .before .before .before .before .before .phy-count in
+    let test = c .before .before .before .before .before .before .before .before .before .before .before .before .before .before .before .loop-test in
+    let pre = c .before .before .before .before .before .before .before .before .before .before .before .before .before .before .before .before .before .before .before .before .before .before .before .before .before .pre in
     let d : Domain = domainIn (a .rows .now) in
-    let l = c .before .before .before .before .before .before .before .before .before .before .before .before .before .before .loop in
+    let l = c .before .before .before .before .before .before .before .before .before .before .before .before .before .before .before .before .loop in
     let w = l .inv .1 .1 .1 in
     let o = at-order-for .ensures in
     let t = c .before .before .before .before .refill-table in
@@ -112,4 +132,4 @@ returns c =
     (phys-end d (a .e .0) (a .i .0) (l .p) (a .s) (l .t) (entries (a .words .now) (a .bits .now)) (entries (l .words) (l .bits)) (w .1) (omega (arith, count .ensures .0)), near-then (l .p) 0 128 (a .s) (l .t) (l .t) (w .0) (near-none (l .t)) (omega (arith, count .ensures .1)))
 
 pub refill-at-spec : {M : Type 1} → statement M
-refill-at-spec = tie.close (tie.spec Inv-loop μ-loop phy-count-requires loop-holds phy-below-requires order-for-requires slice-reshare-prefix-refill-table slice-aggregate-refill-table refill-table-requires add-p loop-less loop-again same-length same-length-2 same-length-3 returns)
+refill-at-spec = tie.close (tie.spec Inv-loop μ-loop phy-count-requires loop-holds is-table-requires add-p loop-less loop-again phy-below-requires order-for-requires slice-reshare-prefix-refill-table slice-aggregate-refill-table refill-table-requires add-p-2 loop-less-2 loop-again-2 same-length same-length-2 same-length-3 returns)
