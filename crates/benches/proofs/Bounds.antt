@@ -46,10 +46,6 @@ module _ {A : Type 0} (n : ℕ) where
   up-placed i p (refused r) h = h
   up-placed i p (good a) h = tt
 
-  up-more : (m : ℕ) (x : Result A) → UpTo m x → m ≤ n → UpTo n x
-  up-more m (refused r) h l = omega arith
-  up-more m (good a) h l = tt
-
   pub up-refused : (x : Result A) (r : Refusal) → UpTo n x → x ≡ refused r → r .expander .0 ≤ n
   up-refused x r h e = subst (UpTo n) e h
 

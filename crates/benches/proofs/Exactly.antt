@@ -7,7 +7,7 @@ use mathlib.Core.List.{List}
 use native.Mathlib.Omega.{arith}
 use lib.ListN.{length}
 use lib.Dec.{T, leb, not-T, T-not, le→leb}
-use Rattle.frames.specs.Refusals.{Result, refused, good, then, refusal}
+use Rattle.frames.specs.Refusals.{Result, refused, good, then, refusal, fitting, lengthOf}
 use Rattle.files.specs.declared.Setting.{Setting}
 use Rattle.files.specs.declared.Phy.{Phy}
 use Rattle.files.specs.declared.Phy.the-variants.{Vacant}
@@ -28,7 +28,7 @@ use Rattle.benches.specs.declared.Joining.the-variants.{Refused, Bytes a
 use Rattle.benches.specs.Bench.{Free, Joinable}
 use Rattle.benches.specs.Bytes.{joinedFile}
 use Rattle.benches.specs.Joined.{joined}
-use Rattle.benches.specs.JoinCall.{upward, free, fitting, joinFor, joinCall, joiningAnswer, lengthOf, JoinDone}
+use Rattle.benches.specs.JoinCall.{upward, free, joinFor, joinCall, joiningAnswer, JoinDone}
 use Rattle.benches.proofs.Holds.{joined-length}
 use Rattle.benches.proofs.JoinedReads.{judging-joined, joined-exactly}
 use Rattle.benches.proofs.Joins.{both-accepted}

@@ -28,7 +28,7 @@ use Rattle.files.proofs.Reading.{size-whole, size-by, phy-unit-by}
 use Rattle.benches.specs.Bytes.{typedTwo, cabledFrame}
 use Rattle.benches.specs.Joined.{cabledTo}
 use Rattle.offsets.proofs.Offsets.{Found}
-use Rattle.benches.proofs.Written.{listed, all-firsts, length-frame}
+use Rattle.benches.proofs.Written.{listed, all-firsts, frame-length}
 
 pub record FrameOf (own p : ℕ) (φ : Phy) (f : List ℕ) : Type 0 where
   pub size : ℕ
@@ -162,7 +162,7 @@ cabled-frame own p φ f o h s q z k =
     let c = cabled-bytes f s q (omega arith) in
     let d = discover-is f (o .got) (o .reads) in
     let r = result-zero own 0 p f φ (ap (phyOf own 0 p) (d .1) ∙ o .is 0) h in
-    let lg : length g ≡ o .size = length-frame f s q (omega arith) ∙ l in
+    let lg : length g ≡ o .size = frame-length s q f (omega arith) ∙ l in
     let st : sizeStated DiscoverResponse (byte g 3) ≡ good (o .size) = ap (sizeStated DiscoverResponse) (c .third) ∙ o .states in
     let x : Discover = record { identifier = record { 0 = byte f 9 }; device = 2; own = numberAt f 16 8; attached = s; far = record { 0 = q }; attribute = bits 0 4 (byte f 44) } in
     let e : discovered g ≡ fields x = ap (λ (v : ℕ). byResult (eqb v 0) v (discoverFields g)) (c .second) ∙ ap (λ (b : Bool). byResult b (byte f 2) (discoverFields g)) (r .0) ∙ ap fields (cabled-fields f g s q c k) in

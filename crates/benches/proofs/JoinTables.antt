@@ -15,6 +15,7 @@ use Rattle.wiring.specs.Causes.{Place, place, phyPlaces, placesFrom, places}
 use Rattle.wiring.specs.Tested.{Linked}
 use Rattle.wiring.proofs.Wires.{Wired}
 use Rattle.tables.specs.Tables.{table, tablePlaces, tables}
+use Rattle.tables.proofs.Growing.{flat-append}
 use Rattle.benches.specs.Joined.{cabledTo, joined}
 use Rattle.benches.specs.Bench.{Joinable}
 use Rattle.benches.proofs.Holds.{Part, length-with, first-part, second-part}
@@ -25,11 +26,6 @@ abbrev words : Domain → Place → List ℕ
 words d q = cond (routes 2 (phyAt d (q .expander) (q .phy))) (table d (q .expander) (q .phy)) []
 
 module _ {A B : Type 0} where
-  flat-append : (f : A → List B) (l m : List A) → flatMap f (l ++ m) ≡ flatMap f l ++ flatMap f m
-  unfolding flatMap
-  flat-append f [] m = refl
-  flat-append f (x ∷ l) m = ap (λ r. f x ++ r) (flat-append f l m) ∙ sym (append-assoc (f x) (flatMap f l) (flatMap f m))
-
   flat-keep : (t : A → Bool) (f : A → List B) (l : List A) → flatMap f (keep t l) ≡ flatMap (λ q. cond (t q) (f q) []) l
   unfolding flatMap keep
   flat-keep t f [] = refl

@@ -1,15 +1,14 @@
 -- The joined file reads as the joined domain, or is refused with 3 or 4: judging the joined file is judging the joined domain.
-use Prim.Native.Nat.{ℕ, zero, suc, _+_, _-_, _≤_, _<_, _^_}
+use Prim.Native.Nat.{ℕ, _+_, _-_, _≤_, _<_, _^_}
 use mathlib.Core.Path.{_≡_, refl, sym, _∙_, ap, ap₂, subst}
 use mathlib.Core.Logic.{_≢_, _↔_}
 use mathlib.Core.Bool.{Bool, true, false}
 use mathlib.Core.List.{List, [], _++_}
 use native.Mathlib.Omega.{arith}
-use native.Mathlib.Nat.{pow-suc}
 use lib.ListN.{length, drop}
 use lib.Dec.{T, leb, eqb→eq}
 use borrow.Author.Tests.{le-leb}
-use Rattle.frames.specs.Bytes.{byte, numberAt}
+use Rattle.frames.specs.Bytes.{byte}
 use Rattle.frames.specs.Refusals.{Result, refused, good, unless, then, refusal}
 use Rattle.files.specs.declared.Setting.{Setting}
 use Rattle.files.specs.Settings.{inRange}
@@ -24,7 +23,7 @@ use Rattle.wiring.specs.Chains.{ShortChains}
 use Rattle.files.proofs.Members.{is-true}
 use Rattle.files.proofs.Ranges.{range-iff}
 use Rattle.files.proofs.Results.{unless-good}
-use Rattle.files.proofs.Read.{read-good, stated-expanders}
+use Rattle.files.proofs.Read.{read-good, stated-expanders, number-fits}
 use Rattle.wiring.proofs.Accepted.{read-expander}
 use Rattle.files.proofs.Domains.{routes-range}
 use Rattle.tables.specs.Judge.{judgedDomain, judged}
@@ -42,14 +41,6 @@ use Rattle.benches.proofs.Units.{UnitBytes, UnitsOf, unitsBytes, expand
 use Rattle.benches.proofs.Holds.{routes-inside, joined-length}
 use Rattle.benches.proofs.SameAddress.{tested-apart}
 use Rattle.benches.proofs.Accepts.{each-joined, joined-accepted}
-
-number-fits : (s : List ℕ) (i width : ℕ) → Bytes s → numberAt s i width < 256 ^ width
-unfolding numberAt
-number-fits s i zero b = omega arith
-number-fits s i (suc width) b =
-    let h = number-fits s i width b in
-    let k = b (i + width) in
-    rw (pow-suc 256 width) (omega arith)
 
 -- the address of an expander in a file
 pub address-in : (most : Setting) (file : List ℕ) (d : Domain) → domainRead most file ≡ good d → (i : ℕ) → i < length d → addressIn file i ≡ expanderAt d i .address

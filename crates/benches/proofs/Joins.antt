@@ -1,20 +1,17 @@
 -- The outcomes of the join call.
-use Prim.Native.Nat.{ℕ, suc, _+_, _-_, _≤_, _<_, min}
+use Prim.Native.Nat.{ℕ, _+_, _-_, _≤_, _<_, min}
 use mathlib.Core.Path.{_≡_, refl, sym, _∙_, ap, ap₂}
-use mathlib.Core.Bool.{Bool, true, false, not, _&&_, _||_}
+use mathlib.Core.Bool.{Bool, true, false, not, _&&_}
 use mathlib.Core.List.{List, _++_}
 use native.Mathlib.Omega.{arith}
-use lib.ListN.{length, getD, take, drop, drop-of-length-le}
-use lib.Seq.{drop-cons}
+use lib.ListN.{length, take, drop}
 use lib.Dec.{T, leb, leb→le}
 use borrow.Author.Tests.{le-leb, lt-leb, leb-false}
 use Rattle.frames.specs.Bytes.{byte}
-use Rattle.frames.specs.Refusals.{Result, refused, good, unless, then, refusal}
+use Rattle.frames.specs.Refusals.{Result, refused, good, unless, then, refusal, fitting}
 use Rattle.frames.specs.declared.Refusal.{Refusal}
 use Rattle.files.specs.declared.Setting.{Setting}
 use Rattle.wiring.specs.declared.Check.the-variants.{Refused as NotPassed, Passed}
-use Rattle.files.specs.declared.Phy.{Phy}
-use Rattle.files.specs.declared.Phy.the-variants.{Vacant}
 use Rattle.files.specs.Lists.{any}
 use Rattle.files.specs.Settings.{within, inRange}
 use Rattle.files.specs.Domain.{Domain, expanderAt, phyAt, routes, attached}
@@ -34,7 +31,7 @@ use Rattle.benches.specs.declared.Joining.the-variants.{Bytes}
 use Rattle.benches.specs.declared.Side.the-variants.{Accepted as IsAccepted}
 use Rattle.benches.specs.Bytes.{joinedFile}
 use Rattle.benches.specs.BenchRows.{checkOf}
-use Rattle.benches.specs.JoinCall.{upward, free, shifted, fitting, joinFor, joinCall, joiningAnswer, JoinDone}
+use Rattle.benches.specs.JoinCall.{upward, free, shifted, joinFor, joinCall, joiningAnswer, JoinDone}
 use Rattle.benches.specs.Parts.{Accepted, SideFound, sideAnswer, sideOf, Counts, countsFor, filesFor, Ready, statedBoth, JoinRoom}
 use Rattle.offsets.specs.Offsets.{Placed}
 use Rattle.benches.proofs.Bounds.{up-refused, judged-up}
@@ -246,17 +243,6 @@ shift-fits setting first second n r a e =
     let g = read-good setting first (a .domain) (judged-file setting first (a .domain) .0 (a .accepted) .0) in
     omega (arith, a .count, g .few, g .range .expanders .1)
 
--- a phy that is attached and subtractive, looked for in a list
-pub any-go : (f : Phy → Bool) (l : List Phy) (p : ℕ) (v : Bool) → any f (drop p l) ≡ v → p < length l → (b : Bool) → b ≡ f (getD l p (Vacant 0)) → (b || any f (drop (p + 1) l)) ≡ v
-unfolding any
-any-go f l p v inv h b e =
-    let z : suc p ≡ p + 1 = omega arith in
-    ap (λ (x : Bool). x || any f (drop (p + 1) l)) e ∙ ap (λ (n : ℕ). f (getD l p (Vacant 0)) || any f (drop n l)) (sym z) ∙ sym (ap (any f) (drop-cons l p (Vacant 0) h)) ∙ inv
-
-pub any-end : (f : Phy → Bool) (l : List Phy) (p : ℕ) (v : Bool) → any f (drop p l) ≡ v → length l ≤ p → false ≡ v
-unfolding any
-any-end f l p v inv h = sym (ap (any f) (drop-of-length-le l h)) ∙ inv
-
 -- 21, test by test
 pub free-by : (d : Domain) (x y : ℕ) {a b c : Bool} → routes 1 (phyAt d x y) ≡ a → attached (phyAt d x y) ≡ b → any upward (expanderAt d x .phys) ≡ c → free d x y ≡ (a && (not b && not c))
 unfolding free
@@ -269,9 +255,6 @@ module _ (setting : Setting) (file : List ℕ) (n : ℕ) (a : Accepted setting f
 
   pub accepted-few : n ≤ 64
   accepted-few = let g = read-good setting file (a .domain) accepted-read in omega (arith, a .count, g .few, g .range .expanders .1)
-
-  pub accepted-two : 2 ≤ length file
-  accepted-two = units-of setting file (a .domain) accepted-read .0
 
   pub accepted-bound : length file ≤ 529154
   accepted-bound = omega (arith, length-bound setting file (a .domain) accepted-read, a .count, accepted-few)

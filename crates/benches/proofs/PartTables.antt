@@ -21,6 +21,7 @@ use Rattle.files.proofs.Domains.{expander-attached, attached-cases, in-range, r
 use Rattle.tables.specs.Levels.{once, down, belowPhys, below, nextLevel, levelsFrom, levels}
 use Rattle.tables.specs.Tables.{heldBy, gives, give, giveAll, levelList, table}
 use Rattle.tables.proofs.Beyond.{Table, Sub, table-back, in-next, levels-enough, levels-none, down-leads}
+use Rattle.tables.proofs.BelowLists.{below-none, below-one}
 use Rattle.tables.proofs.Listed.{held-cases, held-self, held-phy}
 use Rattle.benches.proofs.Bridge.{All}
 use Rattle.benches.proofs.Holds.{Part}
@@ -30,14 +31,6 @@ pub attached-borne : (d : Domain) → Wired d → (s i p : ℕ) → T (attached 
 attached-borne d w s i p t e =
     ⊎-elim (λ u. (i, in-range d i p t .0, inr (p, u, e)))
     (λ u. (numberOf d (addressOf (phyAt d i p)), far-below d w i p u, inl (sym (far-is d w i p u .address) ∙ e))) (attached-cases (phyAt d i p) t)
-
-no-below : (d : Domain) (φ : Phy) → down d φ ≡ false → belowPhys d (φ ∷ []) ≡ []
-unfolding belowPhys keep
-no-below d φ e = rw e
-
-one-below : (d : Domain) (φ : Phy) → down d φ ≡ true → belowPhys d (φ ∷ []) ≡ numberOf d (addressOf φ) ∷ []
-unfolding belowPhys keep
-one-below d φ e = rw e
 
 -- numbers that are all greater by k
 module _ (k : ℕ) where
@@ -229,15 +222,15 @@ module _ (d e : Domain) (w : Wired d) (r : Linked d) (k i p s q : ℕ) (part : P
       inner : (b : Bool) → down d (phyAt d x y) ≡ b → All Inner (belowPhys d (phyAt d x y ∷ []))
       inner true o =
           let a = leads (subst T (sym o) tt) in
-          subst (All Inner) (sym (one-below d (phyAt d x y) o)) (λ v. ⊎-elim (λ m. subst Inner (sym m) (a .end, below-other x (numberOf d (addressOf (phyAt d x y))) a)) (λ m. absurd m))
-      inner false o = subst (All Inner) (sym (no-below d (phyAt d x y) o)) (λ v m. absurd m)
+          subst (All Inner) (sym (below-one d (phyAt d x y) o)) (λ v. ⊎-elim (λ m. subst Inner (sym m) (a .end, below-other x (numberOf d (addressOf (phyAt d x y))) a)) (λ m. absurd m))
+      inner false o = subst (All Inner) (sym (below-none d (phyAt d x y) o)) (λ v m. absurd m)
 
       fuel : (b : Bool) → down d (phyAt d x y) ≡ b → levelsFrom (length e) d (x ∷ []) (belowPhys d (phyAt d x y ∷ [])) ≡ levelsFrom (length d) d (x ∷ []) (belowPhys d (phyAt d x y ∷ []))
       fuel true o =
           let a = leads (subst T (sym o) tt) in
           levels-enough d w r x y (numberOf d (addressOf (phyAt d x y))) (a .end) (a .to) t (a .single) (length e) (let z = part .within in omega arith)
       fuel false o =
-          subst (λ l. levelsFrom (length e) d (x ∷ []) l ≡ levelsFrom (length d) d (x ∷ []) l) (sym (no-below d (phyAt d x y) o)) (levels-none (length e) d (x ∷ []) ∙ sym (levels-none (length d) d (x ∷ [])))
+          subst (λ l. levelsFrom (length e) d (x ∷ []) l ≡ levelsFrom (length d) d (x ∷ []) l) (sym (below-none d (phyAt d x y) o)) (levels-none (length e) d (x ∷ []) ∙ sym (levels-none (length d) d (x ∷ [])))
 
   pub table-same : (x y : ℕ) → x < length d → T (routes 2 (phyAt d x y)) → table e (k + x) y ≡ table d x y
   unfolding table

@@ -5,9 +5,8 @@ use mathlib.Core.Logic.{_≢_, inl, inr}
 use mathlib.Core.Bool.{Bool, true, false, cond, _||_}
 use mathlib.Core.List.{List, [], _∷_, _++_, append-assoc, append-nil, map-append}
 use native.Mathlib.Omega.{arith}
-use native.Mathlib.Numerals.{add-one}
-use lib.ListN.{length, drop, drop-of-length-le, length-append}
-use lib.Seq.{drop-cons, getD-append-seam}
+use lib.ListN.{length, length-append}
+use lib.Seq.{getD-append-seam}
 use lib.Dec.{eqb, leb, eqb→eq}
 use borrow.Author.Tests.{eq-eqb, ne-eqb, le-leb, lt-leb}
 use Rattle.frames.specs.declared.Refusal.{Refusal}
@@ -24,22 +23,6 @@ use Rattle.files.proofs.Members.{was-true, by-test}
 use Rattle.tables.specs.Prepared.{judgedIn}
 use Rattle.benches.specs.BenchRows.{repeatedFrom, repeated, differing, apartIn}
 use Rattle.benches.proofs.Units.{UnitBytes, UnitOf, UnitsOf, physAll, expandersAll, testedAll, length-phys}
-
--- the first expander with an address
-module _ (d : Domain) (s i : ℕ) {v : ℕ} (inv : i + numberOf (drop i d) s ≡ v) where
-  number-next : i < length d → numberOf (drop i d) s ≡ cond (eqb (expanderAt d i .address) s) 0 (suc (numberOf (drop (i + 1) d) s))
-  unfolding numberOf
-  number-next h = rw (drop-cons d i noExpander h, add-one) refl
-
-  pub number-stop : i < length d → expanderAt d i .address ≡ s → i ≡ v
-  number-stop h q = let e : numberOf (drop i d) s ≡ 0 = number-next h ∙ rw (eq-eqb (expanderAt d i .address) s q) refl in omega arith
-
-  pub number-go : i < length d → expanderAt d i .address ≢ s → i + 1 + numberOf (drop (i + 1) d) s ≡ v
-  number-go h q = let e : numberOf (drop i d) s ≡ suc (numberOf (drop (i + 1) d) s) = number-next h ∙ rw (ne-eqb (expanderAt d i .address) s q) refl in omega arith
-
-  pub number-end : length d ≤ i → i ≡ v
-  unfolding numberOf
-  number-end h = let e : numberOf (drop i d) s ≡ 0 = ap (λ (l : Domain). numberOf l s) (drop-of-length-le d h) in omega arith
 
 -- the lowest expander that has the address of one before it
 module _ (d : Domain) (n k : ℕ) {v : ℕ} (inv : repeatedFrom d (n - k) k ≡ v) where

@@ -6,7 +6,7 @@ use mathlib.Core.Bool.{true, false}
 use mathlib.Core.List.{List, [], _∷_, _++_, append-assoc}
 use native.Mathlib.Omega.{arith}
 use lib.ListN.{length, getD, take, drop, set, take-append-drop, length-append, length-drop, drop-of-length-le}
-use lib.Seq.{take-at, drop-at, drop-drop, length-take-le, getD-take, getD-drop, take-add, drop-append-le, take-all}
+use lib.Seq.{take-at, drop-at, drop-drop, length-take-le, getD-take, take-add, drop-append-le, take-all}
 use lib.Dec.{eqb, leb, eqb→eq}
 use borrow.Author.Tests.{le-leb, eq-eqb, ne-eqb}
 use Rattle.frames.specs.Bytes.{byte, numberAt}
@@ -16,7 +16,7 @@ use Rattle.frames.specs.ReportGeneral.{generalRead}
 use Rattle.frames.specs.declared.General.{General}
 use Rattle.frames.specs.declared.Response.the-variants.{ReportGeneral, Discover}
 use Rattle.frames.proofs.LongFrames.{size-least}
-use Rattle.frames.proofs.Numbers.{number-left}
+use Rattle.frames.proofs.Numbers.{number-left, number-drop}
 use Rattle.files.specs.declared.Setting.{Setting}
 use Rattle.files.specs.declared.ExpanderUnit.{ExpanderUnit}
 use Rattle.files.specs.declared.Phy.{Phy}
@@ -29,11 +29,11 @@ use Rattle.files.specs.PhySet.{withPhy, setPhy}
 use Rattle.files.specs.File.{Parsed, parsed, phyUnit, phyUnits, unitOf, unitTested, expanderUnit, expanderOf, expanders}
 use Rattle.files.specs.Units.{endsAt}
 use Rattle.files.proofs.Results.{good-one, unless-good, then-good}
-use Rattle.files.proofs.Reading.{size-whole, expander-unit-by}
+use Rattle.files.proofs.Reading.{size-whole, expander-unit-by, phys-count, tested-same}
 use Rattle.benches.specs.Bytes.{cabledFrame, cabledAt}
 use Rattle.offsets.specs.Offsets.{sizeFrom, physAfter, physFrom, expandersAfter}
 use Rattle.benches.specs.Joined.{cabledTo}
-use Rattle.offsets.proofs.Offsets.{unit-found, phy-found, phys-count, phys-after, head-found, unit-after, tested-same}
+use Rattle.offsets.proofs.Offsets.{unit-found, phy-found, phys-after, head-found, unit-after}
 use Rattle.benches.proofs.Written.{frame-left, cabled-right}
 use Rattle.benches.proofs.Frames.{FrameOf, size-there, frame-reads, frame-of, cabled-frame}
 
@@ -171,11 +171,6 @@ pub record HeadOf (u : ExpanderUnit) (h : List ℕ) : Type 0 where
   pub general : General
   pub reads : generalRead (drop 8 h) ≡ good general
   pub is : unitOf (numberAt h 0 8) general ≡ u
-
-number-drop : (s : List ℕ) (i k : ℕ) → numberAt s i k ≡ numberAt (drop i s) 0 k
-unfolding numberAt
-number-drop s i zero = refl
-number-drop s i (suc k) = let z : 0 + k ≡ k = omega arith in rw (number-drop s i k, z, getD-drop i s k 0)
 
 pub head-reads : (u : ExpanderUnit) (h : List ℕ) → HeadOf u h → (most : Setting) (file seen : List ℕ) (i at : ℕ) (rest : List ℕ) → drop at file ≡ h ++ rest
     → expanderUnit most file seen i at ≡ then (unitTested most seen i u) (endsAt (at + length h))

@@ -4,7 +4,7 @@ use mathlib.Core.Path.{_≡_, refl, sym, _∙_, ap, ap₂, subst}
 use mathlib.Core.List.{List, [], _∷_, _++_, append-assoc, append-nil}
 use native.Mathlib.Omega.{arith}
 use native.Mathlib.Nat.{zero-add}
-use lib.ListN.{length, take, drop, set, length-append, length-drop, length-set, take-append-drop, drop-of-length-le}
+use lib.ListN.{length, take, drop, set, length-append, length-drop, length-set, drop-of-length-le}
 use lib.Seq.{paste, take-at, take-all, drop-cons, drop-drop, take-append-le, drop-append-le, take-append-add, drop-append-add, length-take-le, getD-drop, take-set-le, drop-set-add, take-add}
 use borrow.Author.Tests.{le-leb}
 use borrow.Rule.Slice.PartMut.{midOf, putMid}
@@ -40,11 +40,6 @@ unfolding cabledFrame
 cable-stored f s q h =
     let e : f ≡ listed (λ k. byte f k) (drop 33 f) = all-firsts 33 0 f (omega arith) in
     subst (λ (v : List ℕ). Stored v (typedTwo (byte f 12)) (bytesOf 8 s) q) (sym e) (stored-listed (λ k. byte f k) (drop 33 f) (typedTwo (byte f 12)) (bytesOf 8 s) q)
-
--- a store after the first n
-set-after : (l : List ℕ) (n i a : ℕ) → set l (n + i) a ≡ take n l ++ set (drop n l) i a
-set-after l n i a =
-    sym (take-append-drop n (set l (n + i) a)) ∙ ap₂ (λ (u v : List ℕ). u ++ v) (take-set-le n l (n + i) a (omega arith)) (drop-set-add n l i a)
 
 -- the cable written into the frame at an offset
 pub cable-put : (out : List ℕ) (at s q m : ℕ) (part : List ℕ) → at + 33 ≤ length out → m ≡ length out - (at + 24)
@@ -98,7 +93,7 @@ module _ (s q : ℕ) where
   cabled-right x y at =
       ap₂ (λ (u v : List ℕ). u ++ cabledFrame v s q) (take-append-add x y at) (drop-append-add x y at) ∙ append-assoc x (take at y) (cabledFrame (drop at y) s q)
 
-  frame-length : (f : List ℕ) → 33 ≤ length f → length (cabledFrame f s q) ≡ length f
+  pub frame-length : (f : List ℕ) → 33 ≤ length f → length (cabledFrame f s q) ≡ length f
   unfolding cabledFrame
   frame-length f h =
       let n = length-bytesOf 8 s in
@@ -116,9 +111,6 @@ module _ (s q : ℕ) where
       let f = frame-length (drop at x) (omega arith) in
       let d = length-take-le at x (omega arith) in
       length-append (take at x) (cabledFrame (drop at x) s q) ∙ omega arith
-
-pub length-frame : (f : List ℕ) (s q : ℕ) → 33 ≤ length f → length (cabledFrame f s q) ≡ length f
-length-frame f s q h = frame-length s q f h
 
 -- a file of two bytes or more
 pub head-two : (l : List ℕ) → 2 ≤ length l → l ≡ byte l 0 ∷ byte l 1 ∷ drop 2 l

@@ -2,10 +2,9 @@
 use Prim.Native.Nat.{ℕ, _+_}
 use mathlib.Core.Path.{_≡_}
 use mathlib.Core.Bool.{Bool, not, _&&_}
-use mathlib.Core.List.{List, _++_}
-use lib.ListN.{length, drop}
-use lib.Dec.{leb}
-use Rattle.frames.specs.Refusals.{Result, refused, good, unless, then, refusal}
+use mathlib.Core.List.{List}
+use lib.ListN.{length}
+use Rattle.frames.specs.Refusals.{Result, refused, good, unless, then, refusal, fitting, lengthOf, newAfter}
 use Rattle.files.specs.declared.Setting.{Setting}
 use Rattle.files.specs.declared.Phy.{Phy}
 use Rattle.files.specs.Lists.{any}
@@ -29,10 +28,6 @@ module _ {A : Type 0} where
   shifted n (refused r) = refused (refusal (r .number) (n + r .expander .0) (r .phy .0))
   shifted n (good a) = good a
 
--- 16 where the lent bytes are too few
-abbrev pub fitting : ℕ → List ℕ → Result (List ℕ)
-fitting room new = unless (leb (length new) room) (refusal 16 0 0) (good new)
-
 -- 21, then the joined file judged, then 16: of two files that were accepted as these domains
 abbrev pub joinFor : Setting → List ℕ → ℕ → ℕ → Domain → List ℕ → ℕ → ℕ → Domain → ℕ → Result (List ℕ)
 joinFor setting first i p d₁ second j q d₂ room =
@@ -52,15 +47,7 @@ abbrev pub joiningAnswer : Joining → Result ℕ
 joiningAnswer (Refused r) = refused r
 joiningAnswer (Bytes n) = good n
 
-abbrev pub lengthOf : List ℕ → Result ℕ
-lengthOf new = good (length new)
-
--- the lent bytes after the call: the joined file, and the bytes after it as they were; all as they were where refused
-abbrev pub joinedAfter : Result (List ℕ) → List ℕ → List ℕ
-joinedAfter (refused r) before = before
-joinedAfter (good new) before = new ++ drop (length new) before
-
 -- all that a join call with this outcome promises: the answer, and the lent bytes after
 pub record JoinDone (outcome : Result (List ℕ)) (answer : Joining) (before after : List ℕ) : Type 0 where
   pub answers : joiningAnswer answer ≡ then outcome lengthOf
-  pub bytes : after ≡ joinedAfter outcome before
+  pub bytes : after ≡ newAfter outcome before

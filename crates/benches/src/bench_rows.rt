@@ -1,5 +1,4 @@
 // The joined domain in rows: made from two files, and judged.
-use crate::refusals;
 use crate::repeats;
 use wiring::Check;
 use wiring::ExpanderNumber;
@@ -58,7 +57,7 @@ fn judge_apart(rows: &[u64], who: &mut [u16], low: &mut [u8], chain: u8) -> Chec
 {
     let k = repeats::first_repeated(rows);
     if k < wiring::expander_count(rows) {
-        return refusals::repeated_at(ExpanderNumber(k));
+        return Check::Refused(wiring::refusal_at(4, ExpanderNumber(k), PhyId(0)));
     }
     tables::judge_rows(rows, who, low, chain)
 }

@@ -3,7 +3,6 @@ use wiring::ExpanderNumber;
 use wiring::Phy;
 use wiring::PhyId;
 ghost use mathlib.Core.Path.{_≡_};
-ghost use mathlib.Core.Bool.{not};
 ghost use Rattle.files.specs.Lists.{any};
 ghost use Rattle.files.specs.Domain.{expanderAt};
 ghost use Rattle.files.specs.Rows.{domainIn};

@@ -1,24 +1,8 @@
 // 4 of a domain in rows: an expander that has the address of one before it.
 use wiring::ExpanderNumber;
 ghost use mathlib.Core.Path.{_≡_};
-ghost use Rattle.files.specs.Domain.{numberOf};
 ghost use Rattle.files.specs.Rows.{domainIn};
 ghost use Rattle.benches.specs.BenchRows.{repeated};
-
-// The first expander with this address; the count of expanders where there is none.
-fn number_of(rows: &[u64], s: u64) -> u8
-    ensures { λ r. ⌜ r ≡ numberOf (domainIn (now (rows .entry))) s ⌝ }
-{
-    let n = wiring::expander_count(rows);
-    let mut i: u8 = 0;
-    while i < n {
-        if wiring::expander_address(rows, ExpanderNumber(i)) == s {
-            return i;
-        }
-        i += 1;
-    }
-    n
-}
 
 // The lowest expander that has the address of one before it; the count of expanders where there is none.
 pub(crate) fn first_repeated(rows: &[u64]) -> u8
@@ -27,7 +11,7 @@ pub(crate) fn first_repeated(rows: &[u64]) -> u8
     let n = wiring::expander_count(rows);
     let mut k: u8 = 0;
     while k < n {
-        if number_of(rows, wiring::expander_address(rows, ExpanderNumber(k))) != k {
+        if wiring::number_of(rows, wiring::expander_address(rows, ExpanderNumber(k))) != k {
             return k;
         }
         k += 1;

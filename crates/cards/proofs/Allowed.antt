@@ -1,28 +1,25 @@
 -- Domains that causes 22 and 1 to 6 leave (`Read`) and that fit in bytes are those that cards and files hold.
-use Prim.Native.Nat.{ℕ, zero, suc, _+_, _≤_, _<_, _^_}
-use mathlib.Core.Path.{_≡_, refl, sym, _∙_, ap, subst}
-use mathlib.Core.Logic.{_≢_, inl, inr, ⊎-elim}
-use mathlib.Core.Bool.{Bool, true, false, not, _||_, _&&_}
-use mathlib.Core.List.{List, [], _∷_, _++_, append-assoc, append-nil}
+use Prim.Native.Nat.{ℕ, _+_, _≤_}
+use mathlib.Core.Path.{_≡_, refl, sym, _∙_, subst}
+use mathlib.Core.Logic.{inl, inr, ⊎-elim}
+use mathlib.Core.Bool.{Bool, true, false, not, _||_}
+use mathlib.Core.List.{List, [], _∷_, _++_}
 use native.Mathlib.Omega.{arith}
 use lib.ListN.{length}
-use lib.Dec.{T, eqb, leb}
+use lib.Dec.{eqb}
 use borrow.Author.Tests.{eqb-false, ne-eqb, le-leb}
-use Rattle.frames.specs.Refusals.{Result, good, unless, then, refusal}
+use Rattle.frames.specs.Refusals.{Result}
 use Rattle.files.specs.declared.Setting.{Setting}
-use Rattle.files.specs.declared.PhyFields.{PhyFields}
 use Rattle.files.specs.declared.Phy.{Phy}
 use Rattle.files.specs.declared.Phy.the-variants.{Vacant, Present}
 use Rattle.files.specs.Lists.{In, isIn, Distinct}
-use Rattle.files.specs.Settings.{within}
 use Rattle.files.specs.Domain.{Expander, Domain}
-use Rattle.files.specs.Read.{ReadFields, ReadPhy, ReadExpander, addresses, Read, FitsPhy, FitsExpander, FitsDomain}
-use Rattle.files.specs.File.{ranged, unitTested, domainRead}
-use Rattle.files.proofs.Members.{was-true, was-false, is-false, of-isIn, in-append, T?}
+use Rattle.files.specs.Read.{ReadPhy, ReadExpander, addresses, Read, FitsPhy, FitsExpander, FitsDomain}
+use Rattle.files.proofs.Members.{is-false, of-isIn, in-append}
 use Rattle.files.proofs.Read.{read-good}
-use Rattle.cards.specs.CardRead.{phyRanged, physTested, unitFields, unitsTested}
+use Rattle.cards.specs.CardRead.{phyRanged, physTested, unitsTested}
 use Rattle.cards.specs.FileOf.{fileOf}
-use Rattle.cards.proofs.Legal.{FieldsRange, PhyRange, PhysRange, ExpanderRange, ExpandersRange, Legal}
+use Rattle.cards.proofs.Legal.{PhyRange, PhysRange, ExpanderRange, ExpandersRange, Legal}
 use Rattle.cards.proofs.FileBack.{file-of}
 
 -- a domain that a card or a file holds is one that the causes leave: its file reads as it

@@ -3,16 +3,14 @@ use Prim.Native.Nat.{ℕ, zero, suc, _+_, _*_, _/_, _%_, _-_, _^_, _≤_, _<_}
 use mathlib.Core.Path.{_≡_, refl, sym, _∙_, ap, subst}
 use mathlib.Core.List.{List, [], _∷_, _++_, append-assoc}
 use native.Mathlib.Omega.{arith}
-use native.Mathlib.Numerals.{add-one}
-use native.Mathlib.Nat.{add-zero, one-mul, mod-eq-of-lt, div-mul-le-self, mod-lt, mul-le-mul-right}
-use lib.ListN.{length, getD, take, drop, set, length-drop}
-use lib.Seq.{sets, sets-eq, getD-set-other, getD-drop, drop-drop, drop-at, length-take-le}
-use lib.Pow.{pow-pos, pow-mono, shl-exact, shl-shr, low, mod-pow-add}
+use native.Mathlib.Nat.{add-zero, mod-eq-of-lt}
+use lib.ListN.{length, getD, take, drop, set}
+use lib.Seq.{sets, sets-eq, getD-set-other, getD-drop, drop-drop, drop-at, length-take-le, set-out}
+use lib.Pow.{pow-pos, shl-shr, low, mod-pow-add}
 use Rattle.frames.specs.Bytes.{byte, numberAt}
 use Rattle.frames.specs.Bits.{numberBits, field, bitsOf}
-use Rattle.frames.proofs.PackedBits.{Bits, pow-suc, length-numberBits, length-bitsOf, field-next, bits-drop}
+use Rattle.frames.proofs.PackedBits.{Bits, length-numberBits, length-bitsOf, field-next, bits-drop}
 use Rattle.frames.proofs.DisableBits.{field-none}
-use Rattle.cards.specs.Walks.{withBit}
 use Rattle.frames.proofs.NumberBits.{field-back, field-lt, field-split, field-high, field-low}
 use Rattle.frames.proofs.Packing.{Bytes, bits-bitsOf, bitsOf-drop}
 
@@ -116,37 +114,8 @@ first-bits s at w x h e =
     ap (λ (i : ℕ). i / 2 ^ (64 - w)) (e ∙ ap (λ (i : ℕ). field i (from s at)) (sym n)) ∙ field-high w (64 - w) (from s at) (bits-drop w (from s at) (from-bits s at)) in
     (q, subst (λ (i : ℕ). i < 2 ^ w) (sym q) (field-lt w (from s at) (from-bits s at)))
 
--- the weight of a bit in its byte
-pub weighed : (r : ℕ) → ((1 * 2 ^ (7 - r)) % 2 ^ 64 ≡ 2 ^ (7 - r)) × ((0 < (1 * 2 ^ (7 - r)) % 2 ^ 64) × ((1 * 2 ^ (7 - r)) % 2 ^ 64 ≤ 128))
-weighed r =
-    let e : (1 * 2 ^ (7 - r)) % 2 ^ 64 ≡ 2 ^ (7 - r) = shl-exact {a = 1} 1 (7 - r) 64 (omega arith) (omega arith) ∙ one-mul (2 ^ (7 - r)) in
-    let p = pow-pos (7 - r) in
-    let q : 2 ^ (7 - r) ≤ 2 ^ 7 = pow-mono {i = 7 - r} {j = 7} (omega arith) in
-    (e, (omega arith, omega arith))
-
--- a byte with another bit, in the code's terms
-pub record Mixed (v m b : ℕ) : Type 0 where
-  pub high : v / (2 * m) * (2 * m) ≤ v
-  pub middle : b * m ≤ m
-  pub low : v % m < m
-
-pub mixed : (v m b : ℕ) → 0 < m → b < 2 → Mixed v m b
-mixed v m b h k =
-    let b1 : b ≤ 1 = omega arith in
-    let e : b * m ≤ 1 * m = mul-le-mul-right m b1 in
-    record { high = div-mul-le-self v (2 * m); middle = omega arith; low = mod-lt v h }
-
-pub mixed-is : (v m b n : ℕ) → m ≡ 2 ^ n → v / (2 * m) * (2 * m) + (b * m + v % m) ≡ withBit v n b
-mixed-is v m b n e = rw (e, pow-suc n)
-
--- no bit past the end
-set-none : (l : List ℕ) (k a : ℕ) → length l ≤ k → set l k a ≡ l
-set-none [] k a h = refl
-set-none (x ∷ l) zero a h = absurd (omega arith)
-set-none (x ∷ l) (suc k) a h = ap (λ (m : List ℕ). x ∷ m) (set-none l k a (omega arith))
-
 pub bit-past : (s : List ℕ) (j r b : ℕ) → length s ≤ j → bitsOf s ≡ set (bitsOf s) (8 * j + r) b
-bit-past s j r b h = sym (set-none (bitsOf s) (8 * j + r) b (omega (arith, length-bitsOf s)))
+bit-past s j r b h = sym (set-out (bitsOf s) (8 * j + r) b (omega (arith, length-bitsOf s)))
 
 -- a turn of putting a number's bits, its start and its end
 pub put-turn : (v : List ℕ) (s t : List ℕ) (at k width x b place : ℕ) → k < width → sets (bitsOf s) (at + k) (numberBits (width - k) x) ≡ v

@@ -1,16 +1,16 @@
 -- The card of a domain gives it back.
-use Prim.Native.Nat.{ℕ, zero, suc, _+_, _-_, _*_, _/_, _%_, _≤_, _<_, _^_}
+use Prim.Native.Nat.{ℕ, suc, _+_, _-_, _*_, _≤_, _<_, _^_}
 use mathlib.Core.Path.{_≡_, refl, sym, _∙_, ap}
-use mathlib.Core.Bool.{Bool, true, false, not, _&&_}
+use mathlib.Core.Bool.{Bool, true, false}
 use mathlib.Core.List.{List, [], _∷_, _++_, append-assoc}
 use native.Mathlib.Omega.{arith}
 use native.Mathlib.Nat.{mod-eq-of-lt}
 use lib.ListN.{length, drop, replicate, length-append}
 use lib.Seq.{drop-at}
-use lib.Dec.{eqb, leb}
+use lib.Dec.{eqb}
 use borrow.Author.Tests.{eq-eqb, ne-eqb, eqb-true, le-leb}
-use Rattle.frames.specs.Bits.{numberBits, field, bitsOf, bytesFor, packed}
-use Rattle.frames.proofs.PackedBits.{Bits, length-numberBits, length-packedIn}
+use Rattle.frames.specs.Bits.{numberBits, field, bitsOf, bytesFor}
+use Rattle.frames.proofs.PackedBits.{Bits, length-packedIn}
 use Rattle.frames.proofs.NumberBits.{bits-numberBits, bits-append, field-back}
 use Rattle.frames.proofs.Packing.{unpacked, drop-past, field-zeros}
 use Rattle.frames.specs.Refusals.{good}
@@ -22,8 +22,8 @@ use Rattle.files.specs.Settings.{within, inRange}
 use Rattle.files.specs.Domain.{Expander, Domain}
 use Rattle.files.proofs.Members.{is-true}
 use Rattle.files.proofs.Ranges.{range-iff}
-use Rattle.cards.specs.Card.{endBits, phyBits, physBits, headBits, expandersBits, cardBits, cardOf, presentSize, phySize, physSize, expandersSize, cardSize, presentOn, phyBy, phyOn, physOn, expanderOn, expandersOn, domainOn}
-use Rattle.cards.specs.CardRead.{resultFine, resultsFine, allFine, formed, cardRead}
+use Rattle.cards.specs.Card.{endBits, phyBits, physBits, headBits, expandersBits, cardBits, cardOf, presentSize, phySize, physSize, expandersSize, cardSize, phyBy, phyOn, physOn, expanderOn, expandersOn, domainOn}
+use Rattle.cards.specs.CardRead.{resultsFine, allFine, formed, cardRead}
 use Rattle.cards.proofs.Legal.{FieldsRange, PhyRange, PhysRange, ExpanderRange, ExpandersRange, Legal}
 
 -- a number in range comes back

@@ -1,20 +1,20 @@
 -- What is read of a card: it is the card's own domain.
-use Prim.Native.Nat.{ℕ, zero, suc, _+_, _-_, _*_, _/_, _%_, _≤_, _<_, _^_}
+use Prim.Native.Nat.{ℕ, zero, suc, _+_, _-_, _*_, _/_, _≤_, _<_, _^_}
 use mathlib.Core.Path.{_≡_, refl, sym, _∙_, ap, subst}
-use mathlib.Core.Bool.{Bool, true, false, not, _&&_}
+use mathlib.Core.Bool.{Bool, true, false, not}
 use mathlib.Core.List.{List, [], _∷_, _++_, append-nil}
 use native.Mathlib.Omega.{arith}
 use native.Mathlib.Nat.{div-eq-of-lt}
 use lib.Pow.{pow-pos}
 use lib.ListN.{length, take, drop, replicate, length-drop, take-append-drop}
 use lib.Seq.{take-add, drop-drop, take-all}
-use lib.Dec.{T, eqb, leb, leb→le}
+use lib.Dec.{eqb, leb, leb→le}
 use borrow.Author.Tests.{eqb-true, eqb-false}
-use Rattle.frames.specs.Bits.{numberBits, field, bitsOf, bytesFor, packed}
+use Rattle.frames.specs.Bits.{numberBits, field, bitsOf, bytesFor}
 use Rattle.frames.proofs.PackedBits.{Bits, length-bitsOf, bits-drop}
 use Rattle.frames.proofs.NumberBits.{bits-back, field-lt}
 use Rattle.frames.proofs.Packing.{Bytes, bits-bitsOf, unpacked, bytes-packedIn, same-bits}
-use Rattle.frames.specs.Refusals.{Result, good, unless, then, refusal}
+use Rattle.frames.specs.Refusals.{Result, good, then, refusal}
 use Rattle.files.specs.declared.Setting.{Setting}
 use Rattle.files.specs.declared.ExpanderUnit.{ExpanderUnit}
 use Rattle.files.specs.declared.Phy.{Phy}
@@ -25,7 +25,7 @@ use Rattle.files.specs.File.{unitTested}
 use Rattle.files.proofs.Members.{and-right, is-true}
 use Rattle.files.proofs.Ranges.{range-iff}
 use Rattle.files.proofs.Results.{unless-good, good-unless, then-good, good-one, both}
-use Rattle.cards.specs.Card.{endBits, phyBits, physBits, headBits, expandersBits, cardBits, cardOf, presentSize, phySize, physSize, expandersSize, cardSize, presentOn, phyOn, physOn, expanderOn, expandersOn, domainOn}
+use Rattle.cards.specs.Card.{phyBits, physBits, headBits, expandersBits, cardBits, cardOf, presentSize, phySize, physSize, expandersSize, cardSize, presentOn, phyOn, physOn, expanderOn, expandersOn, domainOn}
 use Rattle.cards.specs.CardRead.{resultFine, resultsFine, allFine, formed, phyRanged, physTested, unitFields, unitsTested, cardReadBy, cardRead}
 use Rattle.cards.proofs.Legal.{FieldsRange, PhyRange, PhysRange, ExpanderRange, ExpandersRange, Legal}
 use Rattle.cards.proofs.CardBack.{field-one, phy-by, bits-card, size-card}

@@ -1,15 +1,13 @@
 -- 3, 4 and 6 of a card's units: by how many phys come before the first of which 6 holds, and one expander more.
 use Prim.Native.Nat.{ℕ, suc, _+_, _-_, _≤_, _<_}
-use mathlib.Core.Path.{_≡_, refl, sym, _∙_, ap, subst}
+use mathlib.Core.Path.{_≡_, refl, sym, _∙_, ap}
 use mathlib.Core.Bool.{Bool, true, false, cond, _&&_}
 use mathlib.Core.List.{List, [], _∷_, _++_}
 use native.Mathlib.Omega.{arith}
-use native.Mathlib.Numerals.{add-one}
 use native.Mathlib.Nat.{zero-add}
 use lib.ListN.{length, take, drop, set}
-use lib.Seq.{take-suc-set}
 use lib.Dec.{eqb, leb}
-use borrow.Author.Tests.{eq-eqb, ne-eqb, eqb-true, eqb-false, le-leb, lt-leb}
+use borrow.Author.Tests.{eq-eqb, ne-eqb, eqb-true, le-leb, lt-leb}
 use Rattle.frames.specs.Bits.{field}
 use Rattle.frames.specs.Refusals.{Result, refused, good, unless, then, refusal}
 use Rattle.frames.specs.declared.Refusal.{Refusal}
@@ -18,9 +16,10 @@ use Rattle.files.specs.declared.ExpanderUnit.{ExpanderUnit}
 use Rattle.files.specs.declared.Phy.{Phy}
 use Rattle.wiring.specs.declared.Check.{Check}
 use Rattle.files.specs.Domain.{Expander, Domain}
-use Rattle.files.specs.File.{Parsed, parsed, unitTested}
+use Rattle.files.specs.File.{parsed, unitTested}
 use Rattle.files.specs.Units.{endsAt}
-use Rattle.files.proofs.Results.{never, good-one}
+use Rattle.files.proofs.Results.{never}
+use Rattle.files.proofs.OneMore.{set-next}
 use Rattle.cards.specs.Card.{unitOn, expanderOn}
 use Rattle.cards.specs.CardRead.{phyRanged, physTested, unitFields, unitsTested}
 use Rattle.cards.specs.Walks.{rangedCount, afterCheck}
@@ -107,7 +106,7 @@ module _ (most : Setting) (l seen : List ℕ) (i at : ℕ) where
   unfolding unitsTested
   tests-go d check unit both u r v qu qr f g h inv k =
       let o : u ≡ unitFields (expanderOn (drop at l)) = qu ∙ sym fields-on in
-      let t : take (i + 1) (set seen i (u .address)) ≡ take i seen ++ (u .address ∷ []) = rw add-one (take-suc-set seen i (u .address) h) in
+      let t = set-next seen i (u .address) h in
       let s : take (i + 1) (set seen i (u .address)) ≡ take i seen ++ (expanderOn (drop at l) .address ∷ []) = t ∙ ap (λ (w : ExpanderUnit). take i seen ++ (w .address ∷ [])) o in
       ap (λ (x : List ℕ). afterCheck both (unitsTested most (i + 1) x d k)) s
       ∙ g (unitsTested most (i + 1) (take i seen ++ (expanderOn (drop at l) .address ∷ [])) d k)

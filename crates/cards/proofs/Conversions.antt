@@ -1,26 +1,23 @@
 -- Card to file to card, and file to card to file, over what the calls promise; and of which domain a card is.
 use Prim.Native.Nat.{ℕ}
-use mathlib.Core.Path.{_≡_, refl, sym, _∙_, ap, subst}
-use mathlib.Core.List.{List, _++_}
+use mathlib.Core.Path.{_≡_, refl, sym, _∙_, ap}
+use mathlib.Core.List.{List}
 use lib.ListN.{length, take, drop}
 use lib.Seq.{take-at}
 use lib.Dec.{leb}
-use Rattle.frames.specs.Bits.{bytesFor}
-use Rattle.frames.specs.Refusals.{Result, refused, good, unless, then, refusal}
-use Rattle.frames.proofs.Packing.{bytes-packedIn}
+use Rattle.frames.specs.Refusals.{Result, refused, good, refusal, fitting}
 use Rattle.files.specs.declared.Setting.{Setting}
 use Rattle.files.specs.Domain.{Domain}
 use Rattle.files.specs.Read.{Bytes, Read, FitsDomain}
 use Rattle.files.specs.File.{domainRead}
 use Rattle.files.proofs.Read.{read-good, read-fits}
 use Rattle.files.proofs.Results.{never, good-one, unless-good, then-good}
-use Rattle.cards.specs.declared.Made.{Made}
-use Rattle.cards.specs.declared.Made.the-variants.{Refused, Bytes as MadeBytes}
-use Rattle.cards.specs.Card.{cardBits, cardOf}
+use Rattle.cards.specs.declared.Made.the-variants.{Bytes as MadeBytes}
+use Rattle.cards.specs.Card.{cardOf}
 use Rattle.cards.specs.CardRead.{cardRead}
 use Rattle.cards.specs.FileOf.{fileOf}
-use Rattle.cards.specs.Calls.{fitting, cardFor, cardCall, fileFor, fileCall, madeAnswer, lengthOf, newAfter, MadeDone}
-use Rattle.cards.proofs.CardBack.{bits-card, card-back}
+use Rattle.cards.specs.Calls.{cardFor, cardCall, fileFor, fileCall, MadeDone}
+use Rattle.cards.proofs.CardBack.{card-back}
 use Rattle.cards.proofs.CardIs.{card-is}
 use Rattle.cards.proofs.FileBack.{file-of}
 use Rattle.cards.proofs.Allowed.{legal-read, legal-fits, read-legal}

@@ -1,36 +1,35 @@
 -- The file of a domain gives it back.
-use Prim.Native.Nat.{ℕ, zero, suc, _+_, _*_, _≤_, _<_, _^_}
+use Prim.Native.Nat.{ℕ, suc, _+_, _*_, _≤_, _<_, _^_}
 use mathlib.Core.Path.{_≡_, refl, sym, _∙_, ap}
-use mathlib.Core.Bool.{Bool, true, false, not, _&&_}
+use mathlib.Core.Bool.{Bool, true, false}
 use mathlib.Core.List.{List, [], _∷_, _++_, append-assoc}
 use native.Mathlib.Omega.{arith}
 use lib.ListN.{length, take, drop, length-append, length-drop}
-use lib.Seq.{take-at, drop-at, drop-drop, getD-drop}
-use lib.Dec.{eqb, leb}
+use lib.Seq.{take-at, drop-at, drop-drop}
+use lib.Dec.{eqb}
 use borrow.Author.Tests.{eq-eqb, eqb-true, le-leb}
 use Rattle.frames.specs.Bytes.{numberAt, bytesOf}
-use Rattle.frames.specs.Refusals.{Result, good, then, refusal}
+use Rattle.frames.specs.Refusals.{good, refusal}
 use Rattle.frames.specs.Sizes.{frameSize}
 use Rattle.frames.specs.ReportGeneral.{generalRead}
-use Rattle.frames.specs.Discovery.{Discovered, vacant, fields, discoverRead}
+use Rattle.frames.specs.Discovery.{vacant, fields, discoverRead}
 use Rattle.frames.specs.declared.Response.{Response}
 use Rattle.frames.specs.declared.Response.the-variants.{ReportGeneral, Discover as DiscoverResponse}
 use Rattle.cards.specs.ShortFrames.{shortGeneral, shortVacant, shortDiscover}
-use Rattle.frames.proofs.Numbers.{number-back, number-left, length-bytesOf}
+use Rattle.frames.proofs.Numbers.{number-back, number-left, length-bytesOf, number-drop}
 use Rattle.cards.proofs.ShortFrames.{length-general, length-vacant, length-discover, size-general, size-vacant, size-discover, general-back, vacant-back, discover-back}
 use Rattle.files.specs.declared.Setting.{Setting}
 use Rattle.files.specs.declared.ExpanderUnit.{ExpanderUnit}
 use Rattle.files.specs.declared.Phy.{Phy}
 use Rattle.files.specs.declared.Phy.the-variants.{Vacant, Present}
 use Rattle.files.specs.declared.PhyFields.{PhyFields}
-use Rattle.files.specs.Lists.{isIn}
-use Rattle.files.specs.Settings.{within, inRange}
+use Rattle.files.specs.Settings.{inRange}
 use Rattle.files.specs.Domain.{Expander, Domain}
-use Rattle.files.specs.File.{Parsed, parsed, sizeAt, fieldsOf, ranged, phyOf, phyUnit, phyUnits, unitTested, expanderUnit, expanders, headerUnit, domainRead}
+use Rattle.files.specs.File.{parsed, sizeAt, fieldsOf, ranged, phyOf, phyUnit, phyUnits, unitTested, expanderUnit, expanders, headerUnit, domainRead}
 use Rattle.files.proofs.Members.{is-true}
 use Rattle.files.proofs.Ranges.{range-iff}
-use Rattle.files.proofs.Reading.{size-by, phy-unit-by, expander-unit-by}
-use Rattle.files.proofs.Results.{unless-good, then-good, good-one}
+use Rattle.files.proofs.Reading.{size-by, phy-unit-by, expander-unit-by, tested-same}
+use Rattle.files.proofs.Results.{unless-good, then-good}
 use Rattle.cards.specs.CardRead.{phyRanged, physTested, unitFields, unitsTested}
 use Rattle.cards.specs.FileOf.{generalOf, discoverOf, phyFrame, physFrames, unitHead, unitsOf, fileOf}
 use Rattle.cards.proofs.Legal.{FieldsRange, PhyRange, PhysRange, ExpanderRange, ExpandersRange, Legal}
@@ -112,18 +111,6 @@ module _ (file : List ℕ) (own i : ℕ) (o : own < 2 ^ 64) where
       let r = phy-units φs (p + 1) (at + 52) rest x (after file at frame (physFrames own (p + 1) φs ++ rest) q′ 52 (length-phy own p φ)) (h .1) (t .1) in
       let e : at + 52 + 52 * length φs ≡ at + 52 * suc (length φs) = omega arith in
       rw (u, r, e)
-
--- the tests of an expander's fields yield the fields
-pub tested-same : (most : Setting) (seen : List ℕ) (i : ℕ) (v u : ExpanderUnit) → unitTested most seen i v ≡ good u → v ≡ u
-tested-same most seen i v u t =
-    let a = unless-good (within (most .phys) (v .phys)) (refusal 3 i 0) _ u t in
-    let b = unless-good (not (eqb (v .address) 0) && not (isIn (v .address) seen)) (refusal 4 i 0) (good v) u (a .1) in
-    good-one v u (b .1)
-
-number-drop : (s : List ℕ) (i k : ℕ) → numberAt s i k ≡ numberAt (drop i s) 0 k
-unfolding numberAt
-number-drop s i zero = refl
-number-drop s i (suc k) = let z : 0 + k ≡ k = omega arith in rw (number-drop s i k, z, getD-drop i s k 0)
 
 module _ (most : Setting) (file : List ℕ) where
   expander-unit : (seen : List ℕ) (i at : ℕ) (e : Expander) (rest : List ℕ) (u : ExpanderUnit) → drop at file ≡ unitHead e ++ rest → ExpanderRange e

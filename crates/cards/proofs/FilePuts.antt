@@ -1,12 +1,10 @@
 -- Writing a file's units one after the other.
-use Prim.Native.Nat.{ℕ, suc, _+_, _*_, _≤_, _<_}
+use Prim.Native.Nat.{ℕ, _+_, _*_, _≤_, _<_}
 use mathlib.Core.Path.{_≡_, refl, sym, _∙_, ap}
-use mathlib.Core.List.{List, [], _∷_, _++_, append-assoc, append-nil}
+use mathlib.Core.List.{List, _∷_, _++_, append-assoc, append-nil}
 use native.Mathlib.Omega.{arith}
-use native.Mathlib.Numerals.{add-one}
-use native.Mathlib.Nat.{zero-add}
 use lib.ListN.{length, getD, take, drop, set, length-append, drop-of-length-le}
-use lib.Seq.{sets, sets-eq, drop-cons}
+use lib.Seq.{sets}
 use Rattle.frames.specs.Bytes.{bytesOf, atFront}
 use Rattle.cards.specs.ShortFrames.{shortGeneral}
 use Rattle.frames.specs.declared.General.{General}
@@ -15,10 +13,12 @@ use Rattle.cards.proofs.ShortFrames.{length-general}
 use Rattle.files.specs.declared.Phy.{Phy}
 use Rattle.files.specs.declared.Phy.the-variants.{Vacant}
 use Rattle.files.specs.Domain.{Expander, Domain, noExpander, expanderAt}
+use Rattle.files.proofs.OneMore.{drop-next}
 use Rattle.cards.specs.FileOf.{generalOf, phyFrame, physFrames, unitHead, unitsOf, fileOf}
 use Rattle.cards.proofs.FileBack.{length-phy, length-frames, length-head}
 use Rattle.cards.proofs.Puts.{puts}
 use Rattle.cards.proofs.RowPuts.{mid-sets}
+use Rattle.tables.proofs.BitSets.{sets-front}
 
 -- a frame written at the front of a part that it fills
 pub front-whole : (new before : List ℕ) → length before ≡ length new → atFront new before ≡ new
@@ -38,10 +38,6 @@ head-put e s s1 s2 r1 r2 to k1 k2 own g h n qo qg q1 e1 f1 q2 e2 f2 =
     let b : r2 ≡ shortGeneral (generalOf e) = e2 ∙ ap shortGeneral qg in
     puts s s1 s2 to (to + 8) r1 r2 p1 p2 (omega arith) ∙ ap (λ (m : List ℕ). sets s to (m ++ r2)) a ∙ ap (λ (m : List ℕ). sets s to (bytesOf 8 (e .address) ++ m)) b
 
--- one phy more, and the end
-phys-next : (φs : List Phy) (p : ℕ) → p < length φs → drop p φs ≡ getD φs p (Vacant 0) ∷ drop (p + 1) φs
-phys-next φs p h = rw add-one (drop-cons φs p (Vacant 0) h)
-
 pub frames-go : (φs : List Phy) (s v r : List ℕ) (own o p to a k : ℕ) (φ : Phy) → p < length φs → to + 52 * length φs ≤ length s → o ≡ own → φ ≡ getD φs p (Vacant 0)
     → sets s (to + 52 * p) (physFrames own p (drop p φs)) ≡ v → a ≡ to + 52 * p → k ≡ 52 → r ≡ phyFrame o p φ
     → sets (take a s ++ (r ++ drop k (drop a s))) (to + 52 * (p + 1)) (physFrames own (p + 1) (drop (p + 1) φs)) ≡ v
@@ -54,15 +50,11 @@ frames-go φs s v r own o p to a k φ h m qo qφ inv qa qk qr =
     let t : take a s ++ (r ++ drop k (drop a s)) ≡ sets s (to + 52 * p) f = mid-sets s r a k lr (omega arith) ∙ ap (λ (x : ℕ). sets s x r) qa ∙ ap (sets s (to + 52 * p)) e in
     let rest : List ℕ = physFrames own (p + 1) (drop (p + 1) φs) in
     puts s _ (sets (take a s ++ (r ++ drop k (drop a s))) (to + 52 * (p + 1)) rest) (to + 52 * p) (to + 52 * (p + 1)) f rest t refl (omega arith)
-    ∙ sym (ap (λ (x : List Phy). sets s (to + 52 * p) (physFrames own p x)) (phys-next φs p h)) ∙ inv
+    ∙ sym (ap (λ (x : List Phy). sets s (to + 52 * p) (physFrames own p x)) (drop-next (Vacant 0) φs p h)) ∙ inv
 
 pub frames-end : (φs : List Phy) (s v : List ℕ) (own p to : ℕ) → length φs ≤ p → sets s to (physFrames own p (drop p φs)) ≡ v → s ≡ v
 unfolding physFrames
 frames-end φs s v own p to h inv = sym (ap (λ (x : List Phy). sets s to (physFrames own p x)) (drop-of-length-le φs h)) ∙ inv
-
--- one expander more, and the end
-units-next : (d : Domain) (i : ℕ) → i < length d → drop i d ≡ expanderAt d i ∷ drop (i + 1) d
-units-next d i h = rw add-one (drop-cons d i noExpander h)
 
 pub length-next : (d : Domain) (i : ℕ) → i < length d → length (unitsOf (drop i d)) ≡ 36 + 52 * length (expanderAt d i .phys) + length (unitsOf (drop (i + 1) d))
 unfolding unitsOf
@@ -71,7 +63,7 @@ length-next d i h =
     let a = length-head e in
     let f = length-frames (e .address) 0 (e .phys) in
     let r : List ℕ = unitsOf (drop (i + 1) d) in
-    ap (λ (x : Domain). length (unitsOf x)) (units-next d i h) ∙ omega (arith, length-append (unitHead e) (physFrames (e .address) 0 (e .phys) ++ r), length-append (physFrames (e .address) 0 (e .phys)) r)
+    ap (λ (x : Domain). length (unitsOf x)) (drop-next noExpander d i h) ∙ omega (arith, length-append (unitHead e) (physFrames (e .address) 0 (e .phys) ++ r), length-append (physFrames (e .address) 0 (e .phys)) r)
 
 pub length-none : (d : Domain) (i : ℕ) → length d ≤ i → length (unitsOf (drop i d)) ≡ 0
 unfolding unitsOf
@@ -90,7 +82,7 @@ units-go d i to s s1 s2 v n h qn inv e1 e2 =
     let lg = length-frames (e .address) 0 (e .phys) in
     let p = puts s s1 s2 to (to + 36) f g e1 e2 (omega arith) in
     puts s s2 (sets s2 (to + (36 + 52 * n)) r) to (to + (36 + 52 * n)) (f ++ g) r p refl (omega (arith, length-append f g))
-    ∙ ap (sets s to) (append-assoc f g r) ∙ sym (ap (λ (x : Domain). sets s to (unitsOf x)) (units-next d i h)) ∙ inv
+    ∙ ap (sets s to) (append-assoc f g r) ∙ sym (ap (λ (x : Domain). sets s to (unitsOf x)) (drop-next noExpander d i h)) ∙ inv
 
 pub units-end : (d : Domain) (i to : ℕ) (s v : List ℕ) → length d ≤ i → sets s to (unitsOf (drop i d)) ≡ v → s ≡ v
 unfolding unitsOf
@@ -105,8 +97,7 @@ pub file-put : (d : Domain) (n : ℕ) (s t : List ℕ) → n ≡ length d → le
     → t ≡ fileOf d ++ drop (length (fileOf d)) s
 unfolding fileOf
 file-put d n s t e h q =
-    q ∙ ap (λ (k : ℕ). sets (set (set s 0 0x10) 1 k) 2 (unitsOf d)) e ∙ sets-eq (0x10 ∷ length d ∷ unitsOf d) s 0 (omega arith)
-    ∙ ap (λ (k : ℕ). (0x10 ∷ length d ∷ unitsOf d) ++ drop k s) (zero-add (length (0x10 ∷ length d ∷ unitsOf d)))
+    q ∙ ap (λ (k : ℕ). sets (set (set s 0 0x10) 1 k) 2 (unitsOf d)) e ∙ sets-front (0x10 ∷ length d ∷ unitsOf d) s (omega arith)
 
 pub general-same : (e : Expander) (r m c : ℕ) → r ≡ e .indexes → m ≡ length (e .phys) → c ≡ e .configurable → record { indexes = r; phys = m; configurable = c } ≡ generalOf e
 general-same e r m c qr qm qc = rw (qr, qm, qc)

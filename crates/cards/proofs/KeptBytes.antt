@@ -1,20 +1,18 @@
 -- The file of a file's domain, in bytes of the file: unit by unit, by what reading the unit yields.
-use Prim.Native.Nat.{ℕ, zero, suc, _+_, _-_, _*_, _/_, _%_, _^_, _≤_, _<_}
-use mathlib.Core.Path.{_≡_, refl, sym, _∙_, ap, subst}
-use mathlib.Core.Bool.{Bool, true, false, not, _&&_}
+use Prim.Native.Nat.{ℕ, zero, suc, _+_, _-_, _*_, _/_, _%_}
+use mathlib.Core.Path.{_≡_, refl, sym, _∙_, ap}
+use mathlib.Core.Bool.{Bool, true, false, _&&_}
 use mathlib.Core.List.{List, [], _∷_, _++_, append-assoc}
 use native.Mathlib.Omega.{arith}
-use lib.ListN.{length, getD, take, drop, replicate}
-use lib.Seq.{getD-drop}
-use lib.Dec.{T, eqb, leb}
+use lib.ListN.{length, take, drop, replicate}
+use lib.Dec.{eqb}
 use borrow.Author.Tests.{eqb-true}
 use Rattle.frames.specs.Bytes.{byte, bits, numberAt, bytesOf}
 use Rattle.frames.specs.Refusals.{Result, refused, good, unless, then, refusal}
 use Rattle.frames.specs.Sizes.{frameSize, byItself}
-use Rattle.frames.specs.ReportGeneral.{generalFixed, generalFields, generalIn, generalRead}
-use Rattle.frames.specs.Discovery.{Discovered, vacant, fields, discoverFixed, discoverFields, byResult, discovered, discoverIn, discoverRead}
+use Rattle.frames.specs.ReportGeneral.{generalFields, generalRead}
+use Rattle.frames.specs.Discovery.{Discovered, discoverFixed, discoverFields, byResult, discovered, discoverIn, discoverRead}
 use Rattle.cards.specs.ShortFrames.{shortGeneral, shortVacant, shortDiscover}
-use Rattle.frames.specs.declared.General.{General}
 use Rattle.frames.specs.declared.Discover.{Discover}
 use Rattle.frames.specs.declared.Response.{Response}
 use Rattle.frames.specs.declared.Response.the-variants.{ReportGeneral, Discover as DiscoverResponse}
@@ -22,17 +20,17 @@ use Rattle.files.specs.declared.Setting.{Setting}
 use Rattle.files.specs.declared.ExpanderUnit.{ExpanderUnit}
 use Rattle.files.specs.declared.Phy.{Phy}
 use Rattle.files.specs.declared.Phy.the-variants.{Vacant, Present}
-use Rattle.files.specs.declared.PhyFields.{PhyFields}
-use Rattle.files.specs.Settings.{within, inRange}
-use Rattle.files.specs.Domain.{Expander, Domain}
+use Rattle.files.specs.Settings.{inRange}
+use Rattle.files.specs.Domain.{Domain}
 use Rattle.files.specs.Read.{Bytes}
 use Rattle.files.specs.File.{Parsed, parsed, placed, sizeAt, frameAt, fieldsOf, ranged, phyOf, phyUnit, phyUnits, unitOf, unitTested, expanderUnit, expanderOf, expanders, headerUnit, domainRead}
 use Rattle.files.specs.ShortFile.{orStay}
 use Rattle.files.proofs.Members.{and-left, and-right, is-true}
 use Rattle.files.proofs.Results.{never, good-one, unless-good, then-good}
+use Rattle.files.proofs.Read.{part}
+use Rattle.files.proofs.Reading.{general-is, tested-same, phys-count}
 use Rattle.cards.specs.FileOf.{generalOf, discoverOf, phyFrame, physFrames, unitHead, unitsOf, fileOf}
 use Rattle.cards.specs.KeptBytes.{eight, keptGeneral, keptEnd, keptBy, keptDiscover, keptPhys, keptExpanders, keptFile}
-use Rattle.cards.proofs.FileBack.{tested-same}
 
 -- the bytes of a number are those that it was read of
 bytes-of : (s : List ℕ) (i k : ℕ) → Bytes s → bytesOf (suc k) (numberAt s i (suc k)) ≡ bytesOf k (numberAt s i k) ++ (byte s (i + k) ∷ [])
@@ -57,15 +55,6 @@ eight-of s i b =
     ∙ ap (λ (l : List ℕ). l ++ (byte s (i + 3) ∷ [])) (bytes-of s i 2 b
     ∙ ap (λ (l : List ℕ). l ++ (byte s (i + 2) ∷ [])) (two-of s i b)))))) ∙ rw z
 
-taken : (n : ℕ) (s : List ℕ) → Bytes s → Bytes (take n s)
-taken zero s b k = omega arith
-taken (suc n) [] b k = omega arith
-taken (suc n) (x ∷ s) b zero = b zero
-taken (suc n) (x ∷ s) b (suc k) = taken n s (λ j. b (suc j)) k
-
-part : (n at : ℕ) (s : List ℕ) → Bytes s → Bytes (take n (drop at s))
-part n at s b = taken n (drop at s) (λ k. rw getD-drop (b (at + k)))
-
 -- a frame that was read
 by-itself : {A : Type 0} (kind : Response) (rest : List ℕ → Result A) (s : List ℕ) (a : A) → byItself kind rest s ≡ good a → rest s ≡ good a
 by-itself kind rest s a e =
@@ -75,10 +64,6 @@ by-itself kind rest s a e =
 discover-read : (s : List ℕ) (D : Discovered) → discoverRead s ≡ good D → discovered s ≡ D
 unfolding discoverRead
 discover-read s D e = good-one (discovered s) D (unless-good (discoverFixed s) (refusal 2 0 0) (good (discovered s)) D (by-itself DiscoverResponse discoverIn s D e) .1)
-
-general-read : (s : List ℕ) (g : General) → generalRead s ≡ good g → generalFields s ≡ g
-unfolding generalRead
-general-read s g e = good-one (generalFields s) g (unless-good (generalFixed s) (refusal 2 0 0) (good (generalFields s)) g (by-itself ReportGeneral generalIn s g e) .1)
 
 -- a unit's frame, and what was read of it
 record Framed {A : Type 0} (read : List ℕ → Result A) (file : List ℕ) (from : ℕ) (f : Parsed A) : Type 0 where
@@ -169,16 +154,6 @@ module _ (file : List ℕ) (b : Bytes file) where
       ∙ ap (λ (l : List ℕ). l ++ keptPhys file own i count (p + 1) (t .0 .next) rest) u
       ∙ sym (ap (λ (x : Result (Parsed Phy)). orStay [] x (λ v. keptDiscover (take (v .next - at) (drop at file)) ++ keptPhys file own i count (p + 1) (v .next) rest)) (t .1))
 
--- as many phys as were counted
-count-units : (file : List ℕ) (own i count p at : ℕ) (us : Parsed (List Phy)) → phyUnits file own i count p at ≡ good us → length (us .value) ≡ count
-unfolding phyUnits
-count-units file own i zero p at us e = sym (ap (λ (y : Parsed (List Phy)). length (y .value)) (good-one (parsed [] at) us e))
-count-units file own i (suc count) p at us e =
-    let t = then-good (phyUnit file own i p at) (λ u. then (phyUnits file own i count (p + 1) (u .next)) (λ vs. good (parsed (u .value ∷ vs .value) (vs .next)))) us e in
-    let s = then-good (phyUnits file own i count (p + 1) (t .0 .next)) (λ vs. good (parsed (t .0 .value ∷ vs .value) (vs .next))) us (t .2) in
-    let z : parsed (t .0 .value ∷ s .0 .value) (s .0 .next) ≡ us = good-one (parsed (t .0 .value ∷ s .0 .value) (s .0 .next)) us (s .2) in
-    sym (ap (λ (y : Parsed (List Phy)). length (y .value)) z) ∙ ap suc (count-units file own i count (p + 1) (t .0 .next) (s .0) (s .1))
-
 -- REPORT GENERAL
 general-kept : (s : List ℕ) → Bytes s → shortGeneral (generalFields s) ≡ keptGeneral s
 unfolding shortGeneral keptGeneral
@@ -194,7 +169,7 @@ module _ (most : Setting) (file : List ℕ) (b : Bytes file) where
       let z : parsed (s .0) (t .0 .next) ≡ u = good-one (parsed (s .0) (t .0 .next)) u (s .2) in
       let f = framed ReportGeneral generalRead i 0 file (at + 8) (t .0) (t .1) in
       let k : u .next - (at + 8) ≡ f .size = omega (arith, ap (λ (y : Parsed ExpanderUnit). y .next) z, f .next) in
-      let d = general-read (take (f .size) (drop (at + 8) file)) (t .0 .value) (f .reads) in
+      let d = general-is (take (f .size) (drop (at + 8) file)) (t .0 .value) (f .reads) in
       let v : unitOf (numberAt file at 8) (t .0 .value) ≡ u .value = tested-same most seen i (unitOf (numberAt file at 8) (t .0 .value)) (s .0) (s .1) ∙ ap (λ (y : Parsed ExpanderUnit). y .value) z in
       let g : generalOf (expanderOf (u .value) φs) ≡ t .0 .value =
       ap (λ (n : ℕ). record { indexes = u .value .indexes; phys = n; configurable = u .value .configurable }) c
@@ -216,7 +191,7 @@ module _ (most : Setting) (file : List ℕ) (b : Bytes file) where
       let s = then-good (phyUnits file (t .0 .value .address) i (t .0 .value .phys) 0 (t .0 .next)) (λ φs. then (expanders most file count (i + 1) (φs .next) (seen ++ (t .0 .value .address ∷ []))) (λ r. good (expanderOf (t .0 .value) (φs .value) ∷ r))) d (t .2) in
       let r = then-good (expanders most file count (i + 1) (s .0 .next) (seen ++ (t .0 .value .address ∷ []))) (λ r. good (expanderOf (t .0 .value) (s .0 .value) ∷ r)) d (s .2) in
       let z : expanderOf (t .0 .value) (s .0 .value) ∷ r .0 ≡ d = good-one (expanderOf (t .0 .value) (s .0 .value) ∷ r .0) d (r .2) in
-      let c = count-units file (t .0 .value .address) i (t .0 .value .phys) 0 (t .0 .next) (s .0) (s .1) in
+      let c = phys-count file (t .0 .value .address) i (t .0 .value .phys) 0 (t .0 .next) (s .0) (s .1) in
       let h = head-kept seen i at (t .0) (s .0 .value) (t .1) c in
       let k = expanders-kept count (i + 1) (s .0 .next) (seen ++ (t .0 .value .address ∷ [])) (r .0) (r .1) in
       let p = phys-kept file b (t .0 .value .address) i (t .0 .value .phys) 0 (t .0 .next) (s .0) (λ n. keptExpanders most file count (i + 1) n (seen ++ (t .0 .value .address ∷ []))) (s .1) in

@@ -1,5 +1,5 @@
 -- What a domain is that a file or a card holds: the ranges of its numbers, member by member, and the tests that it passes.
-use Prim.Native.Nat.{ℕ, _≤_, _<_, _^_}
+use Prim.Native.Nat.{_≤_, _<_, _^_}
 use mathlib.Core.Path.{_≡_}
 use mathlib.Core.List.{List, [], _∷_}
 use lib.ListN.{length}

@@ -1,4 +1,3 @@
-pub mod BitSets
 pub mod BitPlaces
 pub mod ShortFrames
 pub mod Legal

@@ -15,7 +15,7 @@ use Rattle.files.specs.declared.Phy.{Phy}
 use Rattle.files.specs.declared.Phy.the-variants.{Vacant, Present}
 use Rattle.files.specs.Lists.{any, isIn}
 use Rattle.files.specs.Settings.{inRange, widest}
-use Rattle.files.specs.Domain.{Expander, Domain}
+use Rattle.files.specs.Domain.{Domain}
 use Rattle.files.specs.File.{sizeAt, domainRead, headerUnit, expanders, expanderUnit, phyUnits, phyUnit}
 use Rattle.cards.specs.Card.{physBits, expandersBits, cardBits, cardOf, physSize, expandersSize, cardSize, phyOn, physOn, expanderOn, expandersOn, domainOn}
 use Rattle.cards.specs.CardRead.{resultsFine, allFine, formed, physTested, unitsTested, cardRead}

@@ -1,15 +1,14 @@
 -- The calls' promises, by their tests.
 use Prim.Native.Nat.{ℕ, suc, _+_, _*_, _≤_, _<_}
-use mathlib.Core.Path.{_≡_, refl, sym, _∙_, ap, subst}
-use mathlib.Core.Bool.{Bool, true, false}
+use mathlib.Core.Path.{_≡_, sym, _∙_, ap, subst}
+use mathlib.Core.Bool.{true, false}
 use mathlib.Core.List.{List, [], _++_}
 use native.Mathlib.Omega.{arith}
-use native.Mathlib.Nat.{zero-add}
 use lib.ListN.{length, take, drop}
-use lib.Seq.{sets, sets-eq, take-at}
+use lib.Seq.{sets, take-at}
 use borrow.Author.Tests.{le-leb, lt-leb}
 use Rattle.frames.specs.Bits.{field, bitsOf, bytesFor}
-use Rattle.frames.specs.Refusals.{Result, refused, good, unless, then, refusal}
+use Rattle.frames.specs.Refusals.{Result, refused, good, refusal, fitting}
 use Rattle.frames.specs.declared.Refusal.{Refusal}
 use Rattle.frames.proofs.PackedBits.{length-packedIn}
 use Rattle.frames.proofs.Packing.{Bytes}
@@ -18,7 +17,7 @@ use Rattle.wiring.specs.declared.Check.{Check}
 use Rattle.wiring.specs.declared.Check.the-variants.{Refused as NotPassed, Passed as AllPassed}
 use Rattle.files.specs.Settings.{within, inRange}
 use Rattle.files.specs.Domain.{Domain}
-use Rattle.files.specs.Read.{Read, FitsDomain}
+use Rattle.files.specs.Read.{Read}
 use Rattle.files.specs.File.{domainRead}
 use Rattle.files.specs.Rows.{rowsOf, domainIn}
 use Rattle.wiring.proofs.Opening.{Roomy}
@@ -27,14 +26,14 @@ use Rattle.files.proofs.Back.{length-rowsOf, domain-back}
 use Rattle.cards.specs.declared.Made.{Made}
 use Rattle.cards.specs.declared.Made.the-variants.{Refused, Bytes as MadeBytes}
 use Rattle.cards.specs.Card.{cardBits, cardOf, cardSize, domainOn}
-use Rattle.cards.specs.CardRead.{formed, unitsTested, cardReadBy, cardRead}
-use Rattle.cards.specs.FileOf.{fileOf}
-use Rattle.cards.specs.Calls.{fitting, cardFor, cardCall, fileFor, fileCall, madeAnswer, lengthOf, newAfter, MadeDone}
+use Rattle.cards.specs.CardRead.{formed, unitsTested, cardRead}
+use Rattle.cards.specs.Calls.{cardFor, cardCall, fileFor, fileCall, madeAnswer, MadeDone}
 use Rattle.cards.specs.Walks.{afterCheck}
 use Rattle.cards.proofs.CardBack.{size-card}
 use Rattle.cards.proofs.CardIs.{card-is, count-expanders}
 use Rattle.cards.proofs.RowPuts.{domain-on}
 use Rattle.cards.proofs.Allowed.{legal-read, legal-fits}
+use Rattle.tables.proofs.BitSets.{sets-front}
 
 -- what was made did not fit, or it fitted
 pub not-fitted : (new before : List ℕ) (answer : Made) → length before < length new → madeAnswer answer ≡ refused (refusal 16 0 0) → MadeDone (fitting (length before) new) answer before before
@@ -105,7 +104,7 @@ module _ (setting : Setting) (card before : List ℕ) where
           pub rows-hold : (rows after : List ℕ) (k : ℕ) → k ≡ 258 * n → 258 * n ≤ length rows → after ≡ sets rows 0 (rowsOf D) → domainIn (take k after) ≡ D
           rows-hold rows after k qk h s =
               let l = length-rowsOf setting D read-is in
-              let t : after ≡ rowsOf D ++ drop (length (rowsOf D)) rows = s ∙ sets-eq (rowsOf D) rows 0 (omega arith) ∙ ap (λ (m : ℕ). rowsOf D ++ drop m rows) (zero-add (length (rowsOf D))) in
+              let t : after ≡ rowsOf D ++ drop (length (rowsOf D)) rows = s ∙ sets-front (rowsOf D) rows (omega arith) in
               ap (λ (m : List ℕ). domainIn (take k m)) t ∙ ap domainIn (take-at (rowsOf D) _ k (omega arith))
               ∙ domain-back setting D read-is (legal-fits setting D (card-is setting card D b read .legal))
 

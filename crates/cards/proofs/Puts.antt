@@ -1,33 +1,29 @@
 -- Putting a domain's bits one number after the other.
-use Prim.Native.Nat.{ℕ, zero, suc, _+_, _-_, _*_, _/_, _%_, _≤_, _<_}
+use Prim.Native.Nat.{ℕ, zero, suc, _+_, _-_, _*_, _≤_, _<_}
 use mathlib.Core.Path.{_≡_, refl, sym, _∙_, ap}
 use mathlib.Core.Bool.{Bool, true, false}
 use mathlib.Core.List.{List, [], _∷_, _++_, append-assoc}
 use native.Mathlib.Omega.{arith}
-use native.Mathlib.Numerals.{add-one}
-use native.Mathlib.Nat.{zero-add}
 use lib.ListN.{length, getD, drop, replicate, length-append, drop-of-length-le}
-use lib.Seq.{drop-cons, sets, sets-eq, getD-drop}
+use lib.Seq.{sets, getD-drop}
 use lib.Dec.{eqb}
 use borrow.Author.Tests.{eq-eqb, ne-eqb}
-use Rattle.frames.specs.Bits.{numberBits, bitsOf, bytesFor, packed}
+use Rattle.frames.specs.Bits.{numberBits, bitsOf, bytesFor}
 use Rattle.frames.proofs.PackedBits.{length-numberBits, length-bitsOf, length-packedIn}
 use Rattle.frames.proofs.Packing.{Bytes, sets-append, unpacked, bitsOf-append, bitsOf-drop, same-bits, bytes-packedIn}
 use Rattle.files.specs.declared.Phy.{Phy}
 use Rattle.files.specs.declared.Phy.the-variants.{Vacant, Present}
 use Rattle.files.specs.declared.PhyFields.{PhyFields}
 use Rattle.files.specs.Domain.{Expander, Domain, noExpander, expanderAt}
-use Rattle.cards.specs.Card.{endBits, phyBits, physBits, headBits, expandersBits, cardBits, cardOf, presentSize, phySize, physSize, expandersSize, cardSize}
+use Rattle.files.proofs.OneMore.{drop-next}
+use Rattle.cards.specs.Card.{phyBits, physBits, headBits, expandersBits, cardBits, cardOf, presentSize, phySize, physSize, expandersSize, cardSize}
 use Rattle.cards.proofs.CardBack.{size-phy, size-phys, length-head, size-expanders, size-card, bits-card}
 use Rattle.cards.proofs.CardIs.{zero-bits}
+use Rattle.tables.proofs.BitSets.{sets-front}
 
 -- one put after another
 pub puts : (l m n : List ℕ) (i j : ℕ) (vs us : List ℕ) → m ≡ sets l i vs → n ≡ sets m j us → j ≡ i + length vs → n ≡ sets l i (vs ++ us)
 puts l m n i j vs us e f k = f ∙ rw (e, k) (sym (sets-append l i vs us))
-
--- sizes by the test
-pub size-zero : (f : PhyFields) → f .device ≡ 0 → phySize (Present f) ≡ 6
-size-zero f e = rw (eq-eqb (f .device) 0 e)
 
 pub size-more : (f : PhyFields) → (f .device ≡ 0 → ⊥) → phySize (Present f) ≡ 78
 size-more f e = rw (ne-eqb (f .device) 0 e)
@@ -84,13 +80,9 @@ head-put e at l l1 l2 l3 l4 a b c d =
     puts l l3 l4 at (at + 81) ((x ++ y) ++ z) (numberBits 7 (length (e .phys) - 1)) q d (omega (arith, length-append (x ++ y) z, length-append x y))
     ∙ ap (sets l at) (append-assoc (x ++ y) z (numberBits 7 (length (e .phys) - 1)) ∙ append-assoc x y (z ++ numberBits 7 (length (e .phys) - 1)))
 
--- one phy more
-phys-next : (φs : List Phy) (p : ℕ) → p < length φs → drop p φs ≡ getD φs p (Vacant 0) ∷ drop (p + 1) φs
-phys-next φs p h = rw add-one (drop-cons φs p (Vacant 0) h)
-
 pub sizes-next : (φs : List Phy) (p : ℕ) → p < length φs → physSize (drop p φs) ≡ phySize (getD φs p (Vacant 0)) + physSize (drop (p + 1) φs)
 unfolding physSize
-sizes-next φs p h = ap physSize (phys-next φs p h)
+sizes-next φs p h = ap physSize (drop-next (Vacant 0) φs p h)
 
 pub sizes-none : (φs : List Phy) (p : ℕ) → length φs ≤ p → physSize (drop p φs) ≡ 0
 unfolding physSize
@@ -111,7 +103,7 @@ unfolding physBits
 phys-turn φs p at l l′ v h inv e =
     let φ : Phy = getD φs p (Vacant 0) in
     let s : List ℕ = physBits (drop (p + 1) φs) in
-    let w : sets l at (physBits (drop p φs)) ≡ sets l at (phyBits φ ++ s) = ap (λ (m : List Phy). sets l at (physBits m)) (phys-next φs p h) in
+    let w : sets l at (physBits (drop p φs)) ≡ sets l at (phyBits φ ++ s) = ap (λ (m : List Phy). sets l at (physBits m)) (drop-next (Vacant 0) φs p h) in
     let x = sets-append l at (phyBits φ) s in
     let y : at + length (phyBits φ) ≡ at + phySize φ = ap (λ (n : ℕ). at + n) (size-phy φ) in
     rw e (ap (λ (n : ℕ). sets (sets l at (phyBits φ)) n s) (sym y) ∙ sym x ∙ sym w ∙ inv)
@@ -128,13 +120,9 @@ head-put-as e at l l1 l2 l3 l4 a b c n p q r s w x y z =
     head-put e at l l1 l2 l3 l4 (w ∙ ap (λ (k : ℕ). sets l at (numberBits 64 k)) p) (x ∙ ap (λ (k : ℕ). sets l1 (at + 64) (numberBits 16 k)) q)
     (y ∙ ap (λ (k : ℕ). sets l2 (at + 80) (numberBits 1 k)) r) (z ∙ ap (λ (k : ℕ). sets l3 (at + 81) (numberBits 7 k)) s)
 
--- one expander more
-expanders-next : (d : Domain) (i : ℕ) → i < length d → drop i d ≡ expanderAt d i ∷ drop (i + 1) d
-expanders-next d i h = rw add-one (drop-cons d i noExpander h)
-
 pub total-next : (d : Domain) (i : ℕ) → i < length d → expandersSize (drop i d) ≡ 88 + (physSize (expanderAt d i .phys) + expandersSize (drop (i + 1) d))
 unfolding expandersSize
-total-next d i h = ap expandersSize (expanders-next d i h)
+total-next d i h = ap expandersSize (drop-next noExpander d i h)
 
 pub total-none : (d : Domain) (i : ℕ) → length d ≤ i → expandersSize (drop i d) ≡ 0
 unfolding expandersSize
@@ -148,7 +136,7 @@ unfolding expandersBits
 expanders-turn d i at at′ l m l′ v h inv e f k =
     let x : Expander = expanderAt d i in
     let s : List ℕ = expandersBits (drop (i + 1) d) in
-    let w : sets l at (expandersBits (drop i d)) ≡ sets l at (headBits x ++ (physBits (x .phys) ++ s)) = ap (λ (n : Domain). sets l at (expandersBits n)) (expanders-next d i h) in
+    let w : sets l at (expandersBits (drop i d)) ≡ sets l at (headBits x ++ (physBits (x .phys) ++ s)) = ap (λ (n : Domain). sets l at (expandersBits n)) (drop-next noExpander d i h) in
     let p = puts l m l′ at (at + 88) (headBits x) (physBits (x .phys)) e f (omega (arith, length-head x)) in
     let n : at′ ≡ at + length (headBits x ++ physBits (x .phys)) = omega (arith, length-append (headBits x) (physBits (x .phys)), length-head x, size-phys (x .phys)) in
     puts l l′ (sets l′ at′ s) at at′ (headBits x ++ physBits (x .phys)) s p refl n
@@ -199,6 +187,6 @@ card-put d s s1 s2 s3 s4 s5 k at fill b b′ h e f g p1 p2 p3 p4 p5 =
     let lc : length (cardOf d) ≡ c = length-packedIn (bytesFor (length (cardBits d))) (cardBits d) ∙ ap bytesFor l in
     let lb : length (bitsOf (cardOf d)) ≡ 8 * c = length-bitsOf (cardOf d) ∙ ap (λ (m : ℕ). 8 * m) lc in
     let q7 : bitsOf s5 ≡ bitsOf (cardOf d) ++ drop (8 * c) (bitsOf s) =
-    q6 ∙ sets-eq (bitsOf (cardOf d)) (bitsOf s) 0 (omega (arith, length-bitsOf s)) ∙ ap (λ (m : ℕ). bitsOf (cardOf d) ++ drop m (bitsOf s)) (zero-add (length (bitsOf (cardOf d))) ∙ lb) in
+    q6 ∙ sets-front (bitsOf (cardOf d)) (bitsOf s) (omega (arith, length-bitsOf s)) ∙ ap (λ (m : ℕ). bitsOf (cardOf d) ++ drop m (bitsOf s)) lb in
     let q8 : bitsOf s5 ≡ bitsOf (cardOf d ++ drop c s) = q7 ∙ sym (bitsOf-append (cardOf d) (drop c s) ∙ ap (λ (m : List ℕ). bitsOf (cardOf d) ++ m) (bitsOf-drop c s)) in
     same-bits s5 (cardOf d ++ drop c s) b′ (bytes-append (cardOf d) (drop c s) (bytes-packedIn (bytesFor (length (cardBits d))) (cardBits d) (bits-card d)) (bytes-drop c s b)) q8

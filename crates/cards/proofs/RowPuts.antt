@@ -1,10 +1,10 @@
 -- Walking through a card: one phy more, one expander more, and the ends.
 use Prim.Native.Nat.{ℕ, zero, suc, _+_, _-_, _*_, _≤_, _<_}
 use mathlib.Core.Path.{_≡_, refl, sym, _∙_, ap}
-use mathlib.Core.Bool.{Bool, true, false, cond, _&&_}
+use mathlib.Core.Bool.{Bool, true, false, cond, _&&_, and-true}
 use mathlib.Core.List.{List, [], _∷_, _++_, append-assoc}
 use native.Mathlib.Omega.{arith}
-use lib.ListN.{length, take, drop, set, replicate, length-replicate, length-append}
+use lib.ListN.{length, take, drop, set, replicate, length-replicate}
 use lib.Seq.{sets, sets-eq, drop-drop}
 use lib.Dec.{eqb, leb}
 use Rattle.frames.specs.Bits.{field}
@@ -20,7 +20,6 @@ use Rattle.files.specs.File.{unitTested}
 use Rattle.files.specs.Rows.{phyWord, phyWords, headWord, rowOf, rowsOf}
 use Rattle.files.proofs.Filling.{length-phyWords, length-rowOf}
 use Rattle.cards.specs.declared.PhysWalk.{PhysWalk}
-use Rattle.cards.specs.declared.CardWalk.{CardWalk}
 use Rattle.cards.specs.Card.{phySize, physSize, expandersSize, cardSize, phyOn, physOn, unitOn, expanderOn, expandersOn, domainOn}
 use Rattle.cards.specs.CardRead.{resultFine, resultsFine, allFine, phyRanged, unitsTested}
 use Rattle.cards.specs.Walks.{rangedCount, afterCheck, PhysStored, RowStored, CardStored}
@@ -39,10 +38,6 @@ mid-sets s r a k e h =
 and-assoc : (a b c : Bool) → ((a && b) && c) ≡ (a && (b && c))
 and-assoc true b c = refl
 and-assoc false b c = refl
-
-and-true : (a : Bool) → (a && true) ≡ a
-and-true true = refl
-and-true false = refl
 
 -- one phy more, and the end
 module _ (l : List ℕ) (n p at : ℕ) where

@@ -1,9 +1,9 @@
 -- Short responses: their sizes, and that they read as their fields.
 use Prim.Native.Nat.{ℕ, _+_, _*_, _/_, _%_, _^_, _≤_, _<_}
-use mathlib.Core.Path.{_≡_, refl, sym, _∙_, ap}
-use mathlib.Core.List.{List, [], _∷_, _++_}
+use mathlib.Core.Path.{_≡_, refl}
+use mathlib.Core.List.{List, _++_}
 use native.Mathlib.Omega.{arith}
-use lib.ListN.{length, set, replicate, length-append, length-set}
+use lib.ListN.{length, set, length-append, length-set}
 use borrow.Author.Tests.{ne-eqb, le-leb}
 use Rattle.frames.specs.Bytes.{byte, numberAt, bytesOf}
 use Rattle.frames.specs.Refusals.{good}

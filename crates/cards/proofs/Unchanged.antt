@@ -1,11 +1,9 @@
 -- Converting changes no judgement, no table and no trace: a file, and the file that is made of its card, read as the same domain.
 use Prim.Native.Nat.{ℕ}
-use mathlib.Core.Path.{_≡_, sym, _∙_, ap}
+use mathlib.Core.Path.{_≡_}
 use mathlib.Core.List.{List}
 use lib.ListN.{length, take}
-use Rattle.frames.specs.Refusals.{good}
 use Rattle.files.specs.declared.Setting.{Setting}
-use Rattle.files.specs.Domain.{Domain}
 use Rattle.files.specs.Read.{Bytes}
 use Rattle.files.specs.File.{domainRead}
 use Rattle.wiring.specs.Neighbours.{wiringCall}
@@ -14,7 +12,7 @@ use Rattle.tables.specs.Judge.{judged, tableCall}
 use Rattle.tracing.specs.Trace.{Request, traceCall}
 use Rattle.cards.specs.declared.Made.the-variants.{Bytes as MadeBytes}
 use Rattle.cards.specs.Calls.{cardCall, fileCall, MadeDone}
-use Rattle.cards.proofs.Conversions.{Converted, converted}
+use Rattle.cards.proofs.Conversions.{converted}
 
 -- all that the calls say of two files
 pub record Unchanged (setting : Setting) (file other : List ℕ) : Type 0 where

@@ -1,7 +1,7 @@
 -- Reading a card at a place: a phy, an expander's fields, the next phy, the next expander; and 19.
 use Prim.Native.Nat.{ℕ, zero, suc, _+_, _-_, _*_, _/_, _%_, _^_, _≤_, _<_}
 use mathlib.Core.Path.{_≡_, refl, sym, _∙_, ap}
-use mathlib.Core.Bool.{Bool, true, false, _&&_}
+use mathlib.Core.Bool.{Bool, true, false}
 use mathlib.Core.List.{List, [], _∷_}
 use native.Mathlib.Omega.{arith}
 use native.Mathlib.Nat.{zero-mul, mul-le-mul-right}
@@ -18,7 +18,6 @@ use Rattle.files.specs.Domain.{Domain}
 use Rattle.cards.specs.Card.{phySize, physSize, cardSize, presentOn, phyOn, physOn, unitOn, expanderOn, expandersOn, domainOn}
 use Rattle.cards.specs.CardRead.{allFine, formed}
 use Rattle.frames.proofs.NumberBits.{field-lt, field-split}
-use Rattle.frames.proofs.Packing.{bits-bitsOf}
 use Rattle.cards.proofs.CardBack.{phy-by}
 use Rattle.cards.proofs.CardIs.{phys-in}
 use Rattle.cards.proofs.Puts.{phy-at-most}

@@ -1,10 +1,8 @@
 -- The calls: a card of a file, and a file of a card.
 use Prim.Native.Nat.{ℕ}
 use mathlib.Core.Path.{_≡_}
-use mathlib.Core.List.{List, _++_}
-use lib.ListN.{length, drop}
-use lib.Dec.{leb}
-use Rattle.frames.specs.Refusals.{Result, refused, good, unless, then, refusal}
+use mathlib.Core.List.{List}
+use Rattle.frames.specs.Refusals.{Result, refused, good, then, fitting, lengthOf, newAfter}
 use Rattle.files.specs.declared.Setting.{Setting}
 use Rattle.files.specs.Domain.{Domain}
 use Rattle.files.specs.File.{domainRead}
@@ -13,10 +11,6 @@ use Rattle.cards.specs.declared.Made.the-variants.{Refused, Bytes}
 use Rattle.cards.specs.Card.{cardOf}
 use Rattle.cards.specs.CardRead.{cardRead}
 use Rattle.cards.specs.FileOf.{fileOf}
-
--- 16 where the lent bytes are too few
-abbrev pub fitting : ℕ → List ℕ → Result (List ℕ)
-fitting room new = unless (leb (length new) room) (refusal 16 0 0) (good new)
 
 -- file to card: causes 22 and 1 to 6, then 16
 abbrev pub cardFor : ℕ → Domain → Result (List ℕ)
@@ -36,14 +30,6 @@ fileCall setting card room = then (cardRead setting card) (fileFor room)
 abbrev pub madeAnswer : Made → Result ℕ
 madeAnswer (Refused r) = refused r
 madeAnswer (Bytes n) = good n
-
-abbrev pub lengthOf : List ℕ → Result ℕ
-lengthOf new = good (length new)
-
--- the lent bytes after the call: what was made, and the bytes after it as they were; all as they were where refused
-abbrev pub newAfter : Result (List ℕ) → List ℕ → List ℕ
-newAfter (refused r) before = before
-newAfter (good new) before = new ++ drop (length new) before
 
 -- all that a call with this outcome promises: the answer, and the lent bytes after
 pub record MadeDone (outcome : Result (List ℕ)) (answer : Made) (before after : List ℕ) : Type 0 where

@@ -6,7 +6,6 @@ use mathlib.Core.List.{List, [], _∷_, _++_}
 use lib.ListN.{take, drop, replicate}
 use lib.Dec.{eqb}
 use Rattle.frames.specs.Bytes.{byte, bits}
-use Rattle.frames.specs.Refusals.{Result, refused, good}
 use Rattle.files.specs.declared.Setting.{Setting}
 use Rattle.files.specs.File.{phyUnit, expanderUnit, headerUnit}
 use Rattle.files.specs.ShortFile.{orStay}

@@ -1,5 +1,5 @@
 -- What the inner functions of the card's reader and writer promise.
-use Prim.Native.Nat.{ℕ, suc, _+_, _*_, _/_, _%_, _^_, _≤_}
+use Prim.Native.Nat.{ℕ, suc, _+_, _≤_}
 use mathlib.Core.Path.{_≡_}
 use mathlib.Core.Bool.{cond}
 use mathlib.Core.List.{List, [], _∷_}
@@ -15,10 +15,6 @@ use Rattle.cards.specs.declared.PhysWalk.{PhysWalk}
 use Rattle.cards.specs.declared.CardWalk.{CardWalk}
 use Rattle.cards.specs.Card.{physSize, cardSize}
 use Rattle.cards.specs.CardRead.{resultsFine, allFine, phyRanged, unitsTested}
-
--- a number with bit b above its lowest k bits
-abbrev pub withBit : ℕ → ℕ → ℕ → ℕ
-withBit v k b = v / 2 ^ suc k * 2 ^ suc k + (b * 2 ^ k + v % 2 ^ k)
 
 -- how many phys come before the first of which 6 holds
 unfoldable pub rangedCount : List Phy → ℕ

@@ -15,6 +15,7 @@ use Rattle.files.specs.Domain.{Domain}
 use Rattle.files.specs.Read.{Bytes}
 use Rattle.files.proofs.Members.{T?, is-true, is-false}
 use Rattle.files.proofs.Results.{good-one}
+use Rattle.frames.specs.Refusals.{lengthOf, newAfter}
 use Rattle.tables.specs.Tables.{table, tables, needed}
 use Rattle.tables.specs.Entries.{Entries, roomOf, Enough, putBefore}
 use Rattle.tables.specs.Judge.{judged, tableCall, countsIn, tablesAnswer, tablesAfter, TablesDone}
@@ -24,7 +25,7 @@ use Rattle.tables.proofs.Given.{tableCall-iff}
 use Rattle.cards.specs.declared.Made.{Made}
 use Rattle.cards.specs.declared.Made.the-variants.{Bytes as MadeBytes}
 use Rattle.cards.specs.FileOf.{fileOf}
-use Rattle.cards.specs.Calls.{madeAnswer, lengthOf, newAfter, MadeDone}
+use Rattle.cards.specs.Calls.{madeAnswer, MadeDone}
 use Rattle.exercises.specs.Rig.{made, noRig, Kind, Rig}
 use Rattle.exercises.specs.Call.{makeCall}
 use Rattle.exercises.proofs.Limits.{rig-possible}

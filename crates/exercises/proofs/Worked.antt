@@ -7,12 +7,12 @@ use lib.ListN.{replicate}
 use Rattle.cards.specs.ShortFrames.{shortGeneral, shortVacant, shortDiscover}
 use Rattle.wiring.specs.Frames.{Result, refused, good, then, refusal}
 use Rattle.files.specs.Settings.{widest}
+use Rattle.frames.specs.Refusals.{lengthOf}
 use Rattle.tables.proofs.Opened.{numberAt, bytesOf, frameSize, generalFixed, generalRead, discoverFixed, discoverRead, numbers, any, keep, isIn, numberOf, sizeAt, phyUnit, phyUnits, expanderUnit, expanders, headerUnit, domainRead, unanswered, endAt, claimed, clash, clashing, fixed, phyPlaces, placesFrom, firstIn, wiredDomain, strip, reach, cabled, neighbours, inRange, chainsWithin, unlong, unlooped, joined, joinedIn, linkedDomain}
 use Rattle.tables.specs.Levels.{once, belowPhys, below, nextLevel, levelsFrom, levels}
 use Rattle.tables.specs.Tables.{heldBy, gives, give, giveAll, levelList, table, tablePlaces, tables}
 use Rattle.tables.specs.Judge.{overlong, judgedDomain, judged}
 use Rattle.cards.specs.FileOf.{physFrames, unitHead, unitsOf, fileOf}
-use Rattle.cards.specs.Calls.{lengthOf}
 use Rattle.exercises.specs.Rig.{trimmed, made, noRig}
 use Rattle.exercises.specs.Call.{makeCall}
 

@@ -2,25 +2,9 @@
 use crate::rows;
 use crate::words;
 use cards::Made;
-use wiring::ExpanderNumber;
-use wiring::PhyId;
-use wiring::Refusal;
-ghost use mathlib.Core.Path.{_≡_};
 ghost use lib.ListN.{length};
-ghost use Rattle.wiring.specs.Frames.{refused, refusal};
-ghost use Rattle.cards.specs.Calls.{madeAnswer, MadeDone};
+ghost use Rattle.cards.specs.Calls.{MadeDone};
 ghost use Rattle.exercises.specs.Call.{makeCall};
-
-// 24: no such rig.
-fn no_rig() -> Made
-    ensures { λ r. ⌜ madeAnswer r ≡ refused (refusal 24 0 0) ⌝ }
-{
-    Made::Refused(Refusal {
-        number: 24,
-        expander: ExpanderNumber(0),
-        phy: PhyId(0),
-    })
-}
 
 // Makes a file of two expanders with addresses a and b whose one table is the words: 24 where there is no such rig, then
 // 16. It answers how many bytes the file has. The bytes after stay, and all of them where it is refused.
@@ -28,7 +12,7 @@ pub fn make(a: u64, b: u64, list: &[u64], file: &mut [u8]) -> Made
     ensures { λ r. ⌜ MadeDone (makeCall a b (now (list .entry)) (length (now (file .entry)))) r (now (file .entry)) (now (file .exit)) ⌝ }
 {
     if words::is_no_rig(a, b, list) {
-        return no_rig();
+        return Made::Refused(wiring::refused(24));
     }
     let t = words::trimmed_count(list);
     let mut filled = [0u64; 516];

@@ -3,7 +3,7 @@ use Prim.Native.Nat.{ℕ, _+_, _*_, _/_, _%_, _^_}
 use mathlib.Core.Bool.{cond, not}
 use mathlib.Core.List.{List}
 use lib.Dec.{eqb, leb}
-use Rattle.tracing.specs.Tables.{Result, refused, good, GeneralSas2, short, long, Discovered, vacant, fields, Refusal, General, LongGeneral, Discover, Route, Setting, Counted, Entry}
+use Rattle.tracing.specs.Tables.{Result, refused, good, GeneralSas2, short, long, Discovered, vacant, fields, General, LongGeneral, Discover, Route, Setting, Counted, Entry}
 pub use Rattle.tracing.specs.Packing.{packRefusal, packed, packEnd, endPacked}
 use Rattle.forms.specs.Calls.{FormCounts}
 use Rattle.tracing.specs.Steps.{Step, here, endDevice, bad, lost, onward}

@@ -27,15 +27,16 @@ use tracing::WordPlace;
 ghost use mathlib.Core.Path.{_≡_};
 ghost use lib.ListN.{length};
 ghost use Rattle.tracing.specs.Tables.{then, generalRead, generalReadSas2, discoverRead, routeWritten, routeRead, bufferAfter};
-ghost use Rattle.tracing.specs.Tables.{Entries, entries, roomOf};
-ghost use Rattle.tracing.specs.Tables.{wiringCall, bitsSet, wordsAfter, judged, expandersIn, tableCall, countsIn, tablesAfter, wordPlace};
+ghost use Rattle.tracing.specs.Tables.{entries, roomOf};
+ghost use Rattle.tracing.specs.Tables.{wiringCall, bitsSet, newAfter, judged, expandersIn, tableCall, countsIn, tablesAfter, wordPlace};
 ghost use Rattle.tracing.specs.Reasons.{stepCall};
 ghost use Rattle.tracing.specs.Trace.{request, traceCall, report, bytesAfter};
 ghost use Rattle.tracing.specs.Many.{requestCount, listAfter};
 ghost use Rattle.forms.specs.Formed.{formCall, formTables, formTrace, formList};
 ghost use Rattle.forms.specs.Calls.{formCounts, formAfter, requestsIn};
-ghost use Rattle.cards.specs.Calls.{cardCall, fileCall, lengthOf, newAfter};
-ghost use Rattle.benches.specs.JoinCall.{joinCall, lengthOf as bytesJoined, joinedAfter};
+ghost use Rattle.frames.specs.Refusals.{lengthOf};
+ghost use Rattle.cards.specs.Calls.{cardCall, fileCall};
+ghost use Rattle.benches.specs.JoinCall.{joinCall};
 ghost use Rattle.events.specs.Calls.{eventCall};
 ghost use Rattle.exercises.specs.Call.{makeCall};
 ghost use Rattle.shelves.specs.Shelf.{shelfBytes, made, stepped, entryAt, disabledAt};
@@ -55,7 +56,7 @@ pub extern "C" fn metzurgo_version() -> u64
 #[no_mangle]
 pub extern "C" fn metzurgo_wire(setting: u32, file: &[u8], words: &mut [u64]) -> u64
     ensures { λ r. ⌜ (r ≡ packed number (then (wiringCall (settingOf setting) (now (file .entry)) (length (now (words .entry)))) bitsSet))
-        × (now (words .exit) ≡ wordsAfter (wiringCall (settingOf setting) (now (file .entry)) (length (now (words .entry)))) (now (words .entry))) ⌝ }
+        × (now (words .exit) ≡ newAfter (wiringCall (settingOf setting) (now (file .entry)) (length (now (words .entry)))) (now (words .entry))) ⌝ }
 {
     let course = packing::setting(setting);
     let answer = tracing::wire(course, file, words);
@@ -458,8 +459,8 @@ pub extern "C" fn metzurgo_join(
     far: u8,
     out: &mut [u8],
 ) -> u64
-    ensures { λ r. ⌜ (r ≡ packed number (then (joinCall (settingOf setting) (now (first .entry)) expander phy (now (second .entry)) other far (length (now (out .entry)))) bytesJoined))
-        × (now (out .exit) ≡ joinedAfter (joinCall (settingOf setting) (now (first .entry)) expander phy (now (second .entry)) other far (length (now (out .entry)))) (now (out .entry))) ⌝ }
+    ensures { λ r. ⌜ (r ≡ packed number (then (joinCall (settingOf setting) (now (first .entry)) expander phy (now (second .entry)) other far (length (now (out .entry)))) lengthOf))
+        × (now (out .exit) ≡ newAfter (joinCall (settingOf setting) (now (first .entry)) expander phy (now (second .entry)) other far (length (now (out .entry)))) (now (out .entry))) ⌝ }
 {
     let course = packing::setting(setting);
     let answer = benches::join(

@@ -17,7 +17,8 @@ use Rattle.files.specs.Read.{ReadPhy, ReadExpander, Read, FitsPhy, FitsE
 use Rattle.files.specs.Rows.{phyWord, phyWords, headWord, rowOf, rowsOf, phyIn, physIn, rowIn, rowsIn, domainIn}
 use Rattle.files.proofs.Filling.{length-rowOf}
 
-low : (b k y : ℕ) → k < b → (k + b * y) % b ≡ k
+-- the lowest digit of a number
+pub low : (b k y : ℕ) → k < b → (k + b * y) % b ≡ k
 low b k y h = add-mul-mod-self-left k b y ∙ mod-eq-of-lt h
 
 pub phy-back : (φ : Phy) → ReadPhy φ → FitsPhy φ → phyIn (addressOf φ) (phyWord φ) ≡ φ

@@ -11,7 +11,7 @@ use Rattle.files.specs.Domain.{Expander, noExpander, expanderAt, phyAt}
 use Rattle.files.specs.Rows.{phyIn, phyHeld, physIn, rowIn, rowsIn, domainIn, HeadIn}
 use Rattle.files.proofs.Domains.{expander-range}
 
-length-rowsIn : (k : ℕ) (ws : List ℕ) → length (rowsIn k ws) ≡ k
+pub length-rowsIn : (k : ℕ) (ws : List ℕ) → length (rowsIn k ws) ≡ k
 unfolding rowsIn
 length-rowsIn zero ws = refl
 length-rowsIn (suc k) ws = ap suc (length-rowsIn k (drop 258 ws))

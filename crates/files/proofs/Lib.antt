@@ -1,4 +1,5 @@
 pub mod Members
+pub mod OneMore
 pub mod Results
 pub mod Reading
 pub mod Ranges

@@ -51,7 +51,7 @@ next : {A B : Type 0} (P : A → Type 0) (Q : B → Type 0) (x : Result A) (k : 
 next = then-holds readNumber
 
 -- bytes and the numbers in them
-part : (n at : ℕ) (s : List ℕ) → Bytes s → Bytes (take n (drop at s))
+pub part : (n at : ℕ) (s : List ℕ) → Bytes s → Bytes (take n (drop at s))
 part n at s b = taken n (drop at s) (λ k. rw getD-drop (b (at + k)))
   where
     taken : (n : ℕ) (s : List ℕ) → Bytes s → Bytes (take n s)
@@ -60,7 +60,7 @@ part n at s b = taken n (drop at s) (λ k. rw getD-drop (b (at + k)))
     taken (suc n) (x ∷ s) b zero = b zero
     taken (suc n) (x ∷ s) b (suc k) = taken n s (λ j. b (suc j)) k
 
-number-fits : (s : List ℕ) (i width : ℕ) → Bytes s → numberAt s i width < 256 ^ width
+pub number-fits : (s : List ℕ) (i width : ℕ) → Bytes s → numberAt s i width < 256 ^ width
 unfolding numberAt
 number-fits s i zero b = omega arith
 number-fits s i (suc width) b =

@@ -1,20 +1,20 @@
 -- Reading a file unit by unit: one turn of each loop, and its end.
-use Prim.Native.Nat.{ℕ, suc, _+_, _-_, _≤_, _<_}
+use Prim.Native.Nat.{ℕ, suc, _+_, _-_, _≤_, _<_, zero}
 use mathlib.Core.Path.{_≡_, refl, sym, _∙_, ap}
-use mathlib.Core.Bool.{Bool, true, false, _||_}
+use mathlib.Core.Bool.{Bool, true, false, _||_, not, _&&_}
 use mathlib.Core.List.{List, [], _∷_, _++_}
 use native.Mathlib.Omega.{arith}
 use native.Mathlib.Numerals.{add-one}
 use native.Mathlib.Nat.{zero-add}
-use lib.ListN.{length, getD, take, drop, set, length-drop, drop-of-length-le}
-use lib.Seq.{drop-cons, take-suc-set, take-all}
+use lib.ListN.{length, getD, take, drop, length-drop, drop-of-length-le}
+use lib.Seq.{drop-cons, take-all}
 use lib.Dec.{eqb, leb, leb→le}
 use borrow.Author.Tests.{eq-eqb, ne-eqb, le-leb, lt-leb, leb-true, leb-false}
 use Rattle.frames.specs.Refusals.{Result, refused, good, unless, then, refusal}
 use Rattle.frames.specs.Bytes.{byte, numberAt}
 use Rattle.frames.specs.Sizes.{shortSize, frameSize}
 use Rattle.frames.specs.Discovery.{Discovered, discoverRead}
-use Rattle.frames.specs.ReportGeneral.{generalRead}
+use Rattle.frames.specs.ReportGeneral.{generalRead, generalFields, generalFixed}
 use Rattle.frames.specs.declared.General.{General}
 use Rattle.frames.specs.declared.Refusal.{Refusal}
 use Rattle.frames.specs.declared.Response.{Response}
@@ -155,9 +155,6 @@ module _ (most : Setting) (file : List ℕ) (n i at : ℕ) (seen : List ℕ) whe
         let z : n - i ≡ 0 = omega arith in
         sym (simp (z, ne-eqb _ _ a) (ap (λ (k : ℕ). refused (refusal 1 k 0)) (sym e))) ∙ inv
 
-pub take-next : (s : List ℕ) (i a : ℕ) → i < length s → take (i + 1) (set s i a) ≡ take i s ++ (a ∷ [])
-take-next s i a h = rw (add-one, take-suc-set s i a h)
-
 -- a file, by what the tests of the setting and of its first two bytes answer
 pub file-by : (most : Setting) (file : List ℕ) {o a b c : Bool} → inRange most ≡ o → leb 2 (length file) ≡ a → eqb (byte file 0) 0x10 ≡ b
     → within (most .expanders) (byte file 1) ≡ c
@@ -253,3 +250,32 @@ module _ (most : Setting) (file seen : List ℕ) (i at own : ℕ) (o : numberAt 
       → expanderUnit most file seen i at ≡ then (placed i 0 x) (λ g. then (unitTested most seen i (unitOf own g)) (endsAt (at + 8 + n)))
   unfolding expanderUnit
   expander-unit-by n x e q = rw o (unit-by ReportGeneral generalRead (λ g. unitTested most seen i (unitOf own g)) i 0 file (at + 8) n x e q)
+
+-- what is read of REPORT GENERAL
+pub general-is : (s : List ℕ) (g : General) → generalRead s ≡ good g → generalFields s ≡ g
+unfolding generalRead
+general-is s g e =
+    let a = then-good (frameSize ReportGeneral s) _ g e in
+    let b = unless-good (eqb (length s) (a .0)) (refusal 1 0 0) _ g (a .2) in
+    let c = unless-good (generalFixed s) (refusal 2 0 0) (good (generalFields s)) g (b .1) in
+    good-one (generalFields s) g (c .1)
+
+-- the tests of an expander's fields yield the fields
+pub tested-same : (most : Setting) (seen : List ℕ) (i : ℕ) (v u : ExpanderUnit) → unitTested most seen i v ≡ good u → v ≡ u
+tested-same most seen i v u t =
+    let a = unless-good (within (most .phys) (v .phys)) (refusal 3 i 0) _ u t in
+    let b = unless-good (not (eqb (v .address) 0) && not (isIn (v .address) seen)) (refusal 4 i 0) (good v) u (a .1) in
+    good-one v u (b .1)
+
+-- as many phys as were counted
+module _ (file : List ℕ) (own i : ℕ) where
+  pub phys-count : (count p at : ℕ) (us : Parsed (List Phy)) → phyUnits file own i count p at ≡ good us → length (us .value) ≡ count
+  unfolding phyUnits
+  phys-count zero p at us e = sym (ap (λ (v : Parsed (List Phy)). length (v .value)) (good-one (parsed [] at) us e))
+  phys-count (suc count) p at us e =
+      let one = then-good (phyUnit file own i p at) _ us e in
+      let u = one .0 in
+      let more = then-good (phyUnits file own i count (p + 1) (u .next)) _ us (one .2) in
+      let tail = more .0 in
+      let q = good-one (parsed (u .value ∷ tail .value) (tail .next)) us (more .2) in
+      sym (ap (λ (v : Parsed (List Phy)). length (v .value)) q) ∙ ap suc (phys-count count (p + 1) (u .next) tail (more .1))

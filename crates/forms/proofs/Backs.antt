@@ -1,32 +1,29 @@
 -- Reading the form of an accepted domain gives that domain with what the form leaves out set to 1; and that has the same form.
-use Prim.Native.Nat.{ℕ, zero, suc, _+_, _*_, _/_, _%_, _≤_, _<_, min}
+use Prim.Native.Nat.{ℕ, zero, suc, _+_, _*_, _/_, _%_, _≤_, _<_}
 use mathlib.Core.Path.{_≡_, refl, sym, ap, subst, _∙_}
 use mathlib.Core.Logic.{inl, inr, _≢_, by-cases}
 use mathlib.Core.Bool.{Bool, true, false, cond}
 use mathlib.Core.List.{List, [], _∷_, _++_, map}
 use native.Mathlib.Omega.{arith}
-use native.Mathlib.Nat.{add-mul-mod-self-left, mod-eq-of-lt}
+use native.Mathlib.Nat.{mod-eq-of-lt}
 use native.Mathlib.Decide.{ℕ-discrete}
-use lib.ListN.{length, getD, drop, length-map, length-append}
+use lib.ListN.{length, getD, drop, length-map}
 use lib.Seq.{drop-at}
-use lib.Dec.{T, eqb, leb}
+use lib.Dec.{T, leb}
 use Rattle.files.specs.declared.Setting.{Setting}
 use Rattle.files.specs.declared.Phy.{Phy}
 use Rattle.files.specs.declared.Phy.the-variants.{Vacant, Present}
-use Rattle.files.specs.declared.PhyFields.{PhyFields}
 use Rattle.files.specs.Lists.{In}
-use Rattle.files.specs.Domain.{Expander, Domain, noExpander, expanderAt, phyAt, addressOf, toExpander, numberOf}
+use Rattle.files.specs.Domain.{Expander, Domain, noExpander, phyAt, addressOf, toExpander, numberOf}
 use Rattle.files.specs.Read.{ReadPhy, Read, FitsPhy, FitsDomain}
 use Rattle.files.proofs.Members.{getD-in}
+use Rattle.files.proofs.Back.{low}
 use Rattle.wiring.proofs.Wires.{Wired, far-below}
-use Rattle.forms.specs.Form.{headField, phyField, attachedNumber, formPhy, formPhys, formExpanders, formOf, fieldsBack, phyBack, physBack, countIn, expanderBack, expandersBack, formIn}
+use Rattle.forms.specs.Form.{headField, phyField, attachedNumber, formPhy, formPhys, formExpanders, formOf, phyBack, physBack, countIn, expanderBack, expandersBack, formIn}
 use Rattle.forms.specs.Normal.{normalPhy, normalExpander, normalWith, normal}
 use Rattle.forms.proofs.Held.{back-empty, back-present}
 use Rattle.forms.proofs.Written.{length-formPhys}
 use Rattle.forms.proofs.Normals.{address-same, number-same}
-
-low : (b k y : ℕ) → k < b → (k + b * y) % b ≡ k
-low b k y h = add-mul-mod-self-left k b y ∙ mod-eq-of-lt h
 
 -- a phy whose fields its words have room for; nothing is named where nothing is attached
 abbrev FieldsFit : Domain → Phy → Type 0

@@ -1,13 +1,13 @@
 -- Which words the calls over a form take, exactly; and over the form of an accepted file they answer and leave what the calls over the file do.
-use Prim.Native.Nat.{ℕ, _+_, _*_, _/_, _%_, _≤_, _<_}
+use Prim.Native.Nat.{ℕ, _+_, _*_, _/_, _%_, _<_}
 use mathlib.Core.Path.{_≡_, refl, sym, ap, subst, _∙_}
-use mathlib.Core.Logic.{_≢_, _↔_, inl, inr}
+use mathlib.Core.Logic.{_≢_, _↔_}
 use mathlib.Core.Bool.{Bool, true, false, not, _&&_}
-use mathlib.Core.List.{List, [], _∷_, _++_, map}
+use mathlib.Core.List.{List, [], _∷_, _++_}
 use native.Mathlib.Omega.{arith}
 use lib.ListN.{length, getD, take, drop, length-map, List·getD-append}
 use lib.Seq.{take-at}
-use lib.Dec.{T, leb}
+use lib.Dec.{leb}
 use borrow.Author.Tests.{not-true, lt-ltb}
 use Rattle.frames.specs.Refusals.{Result, refused, good, unless, then, refusal}
 use Rattle.frames.specs.declared.Refusal.{Refusal}
@@ -15,10 +15,9 @@ use Rattle.frames.specs.Bits.{bytesFor}
 use Rattle.files.specs.declared.Setting.{Setting}
 use Rattle.files.specs.declared.Phy.{Phy}
 use Rattle.files.specs.declared.Phy.the-variants.{Vacant, Present}
-use Rattle.files.specs.Lists.{In, Distinct}
+use Rattle.files.specs.Lists.{Distinct}
 use Rattle.files.specs.Settings.{InRange, inRange}
 use Rattle.files.specs.Domain.{Expander, Domain}
-use Rattle.wiring.specs.Causes.{wiredDomain}
 use Rattle.files.specs.Read.{ReadPhy, ReadExpander, addresses, Read, Bytes, FitsDomain}
 use Rattle.files.proofs.Ranges.{range-iff}
 use Rattle.files.proofs.Read.{read-good, read-fits}
@@ -26,9 +25,9 @@ use Rattle.files.proofs.Results.{never, good-one, both, unless-good, then-good}
 use Rattle.files.proofs.Members.{by-test, is-true, in-map}
 use Rattle.wiring.proofs.Wires.{Wired}
 use Rattle.tables.specs.declared.TablesGiven.{TablesGiven}
-use Rattle.tables.specs.Tables.{tablePlaces, tables, needed}
-use Rattle.tables.specs.Entries.{Entries, Room, roomOf, putBefore}
-use Rattle.tables.specs.Judge.{judgedDomain, judged, tablesFor, judgedTables, tableCall, countsIn, tablesAnswer, tablesAfter, TablesDone}
+use Rattle.tables.specs.Tables.{tablePlaces, needed}
+use Rattle.tables.specs.Entries.{Entries, roomOf, putBefore}
+use Rattle.tables.specs.Judge.{judgedDomain, judged, tablesFor, tableCall, countsIn, tablesAnswer, tablesAfter, TablesDone}
 use Rattle.tables.proofs.Given.{judged-routable, accepted-iff, judged-file}
 use Rattle.tables.proofs.Exactly.{Numbered}
 use Rattle.tracing.specs.declared.TraceAnswer.{TraceAnswer}
@@ -42,7 +41,7 @@ use Rattle.tracing.proofs.TracedList.{length-answers, each-answer}
 use Rattle.tracing.proofs.Demand.{demand3}
 use Rattle.forms.specs.declared.FormMade.the-variants.{Counts}
 use Rattle.forms.specs.Form.{formOf, formIn}
-use Rattle.forms.specs.Normal.{normalPhy, normalExpander, normalWith, normal}
+use Rattle.forms.specs.Normal.{normalPhy, normalExpander, normal}
 use Rattle.forms.specs.Formed.{unread, isGood, sameWords, formed, formRead, FormOf, Words, formFor, formCall, formTables, formTrace, formList}
 use Rattle.forms.specs.Calls.{FormCounts, formCounts, formAfter, FormDone}
 use Rattle.forms.proofs.Tested.{Late}

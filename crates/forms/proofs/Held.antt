@@ -6,7 +6,7 @@ use mathlib.Core.Bool.{Bool, true, false}
 use mathlib.Core.List.{List, [], _∷_, _++_, append-nil, append-assoc}
 use native.Mathlib.Omega.{arith}
 use native.Mathlib.Numerals.{add-one}
-use native.Mathlib.Nat.{add-mul-mod-self-left, mod-eq-of-lt}
+use native.Mathlib.Nat.{mod-eq-of-lt}
 use lib.ListN.{length, getD, take, drop, set, length-append, length-drop, drop-of-length-le}
 use lib.Seq.{sets, sets-eq, drop-drop, take-at, drop-at, getD-drop, length-take-le}
 use lib.Dec.{eqb}
@@ -16,6 +16,8 @@ use Rattle.files.specs.declared.Phy.the-variants.{Vacant, Present}
 use Rattle.files.specs.Domain.{Expander, Domain, addressOf}
 use Rattle.files.specs.Rows.{phyWord, phyWords, headWord, phyIn, physIn, rowIn, rowsIn, domainIn}
 use Rattle.files.proofs.Filling.{length-phyWords}
+use Rattle.files.proofs.Back.{low}
+use Rattle.files.proofs.InRows.{length-rowsIn}
 use Rattle.forms.specs.Form.{fieldsBack, phyBy, phyBack, physBack, countIn, expanderBack, expandersBack, formIn}
 use Rattle.forms.specs.Opened.{SmallPhy, RowHolds}
 
@@ -43,9 +45,6 @@ module _ (a v : ℕ) (n : v / 262144 % 2 ≢ 1) where
 
   pub back-present : v / 65536 % 4 ≢ 0 → Present (fieldsBack false a v) ≡ phyBack a v
   back-present e = sym (present ∙ ap (λ (b : Bool). Present (fieldsBack b a v)) (ne-eqb (v / 65536 % 4) 0 e))
-
-low : (b k y : ℕ) → k < b → (k + b * y) % b ≡ k
-low b k y h = add-mul-mod-self-left k b y ∙ mod-eq-of-lt h
 
 -- so a phy's two words give it back
 small-back : (φ : Phy) → SmallPhy φ → phyIn (addressOf φ) (phyWord φ) ≡ φ
@@ -167,11 +166,6 @@ rows-last zero ws = let e : 258 * 0 ≡ 0 = omega arith in rw e refl
 rows-last (suc i) ws =
     let e : 258 + 258 * i ≡ 258 * suc i = omega arith in
     ap (λ (l : Domain). rowIn ws ∷ l) (rows-last i (drop 258 ws) ∙ ap (λ (l : List ℕ). rowsIn i (drop 258 ws) ++ (rowIn l ∷ [])) (drop-drop (258 * i) 258 ws ∙ ap (λ (k : ℕ). drop k ws) e))
-
-length-rowsIn : (i : ℕ) (ws : List ℕ) → length (rowsIn i ws) ≡ i
-unfolding rowsIn
-length-rowsIn zero ws = refl
-length-rowsIn (suc i) ws = ap suc (length-rowsIn i (drop 258 ws))
 
 -- the expanders that are left
 back-cons : (m : ℕ) (l : List ℕ) → 0 < length (expandersBack m l) → (0 < m) × ((0 < length l) × (expandersBack m l ≡ expanderBack l ∷ expandersBack (m - 1) (drop (2 + 2 * countIn l) l)))

@@ -1,25 +1,23 @@
 -- What words read as: its numbers fit, and past the tests of 3, 4 and 6 it is a domain that causes 22 and 1 to 6 leave.
-use Prim.Native.Nat.{ℕ, zero, suc, _+_, _*_, _/_, _%_, _^_, _≤_, _<_, min}
+use Prim.Native.Nat.{ℕ, zero, suc, _+_, _*_, _/_, _%_, _^_, _≤_, _<_}
 use mathlib.Core.Path.{_≡_, refl, sym, ap, subst, _∙_}
-use mathlib.Core.Logic.{_≢_, inl, inr, ⊎-elim}
-use mathlib.Core.Bool.{Bool, true, false, cond, not, _||_, _&&_}
-use mathlib.Core.List.{List, [], _∷_, map}
+use mathlib.Core.Logic.{_≢_, inl, inr}
+use mathlib.Core.Bool.{Bool, true, false, cond, not, _||_}
+use mathlib.Core.List.{List, [], _∷_}
 use native.Mathlib.Omega.{arith}
 use lib.ListN.{length, getD, drop}
 use lib.Seq.{getD-drop}
-use lib.Dec.{T, eqb, leb}
-use borrow.Author.Tests.{eq-eqb, ne-eqb, le-leb, eqb-true, eqb-false, leb-true}
+use lib.Dec.{eqb, leb}
+use borrow.Author.Tests.{eq-eqb, ne-eqb, le-leb, eqb-true, eqb-false, leb-true, not-false}
 use Rattle.files.specs.declared.Setting.{Setting}
 use Rattle.files.specs.declared.Phy.{Phy}
 use Rattle.files.specs.declared.Phy.the-variants.{Vacant, Present}
-use Rattle.files.specs.declared.PhyFields.{PhyFields}
 use Rattle.files.specs.Lists.{In, Distinct, any, upTo}
 use Rattle.files.specs.Settings.{within, InRange}
 use Rattle.files.specs.Domain.{Expander, Domain, noExpander, expanderAt, numberOf}
-use Rattle.files.specs.File.{ranged}
-use Rattle.files.specs.Read.{ReadFields, ReadPhy, ReadExpander, addresses, Read, FitsPhy, FitsExpander, FitsDomain}
+use Rattle.files.specs.Read.{ReadPhy, addresses, Read, FitsPhy, FitsExpander, FitsDomain}
 use Rattle.files.proofs.Results.{both}
-use Rattle.files.proofs.Members.{is-false, was-true, was-false, getD-in, in-upTo, in-map, any-of, of-any, numbers-below, in-getD}
+use Rattle.files.proofs.Members.{is-false, was-false, getD-in, in-upTo, in-map, any-of, of-any, numbers-below, in-getD}
 use Rattle.forms.specs.Form.{fieldsBack, phyBy, phyBack, physBack, countIn, expanderBack, expandersBack, formIn}
 use Rattle.forms.specs.Formed.{badPhy, badUnit, unread, Words}
 use Rattle.forms.specs.Opened.{SmallPhy}
@@ -133,10 +131,6 @@ form-fits ws h = record { count = omega (arith, form-few ws); each = expanders-f
 or-false : (a b : Bool) → (a || b) ≡ false → (a ≡ false) × (b ≡ false)
 or-false true b e = let z : _≡_ {A = ℕ} 0 1 = cc in absurd (omega arith)
 or-false false b e = (refl, e)
-
-not-false : (a : Bool) → not a ≡ false → a ≡ true
-not-false true e = refl
-not-false false e = let z : _≡_ {A = ℕ} 0 1 = cc in absurd (omega arith)
 
 any-false : {A : Type 0} (f : A → Bool) (l : List A) → any f l ≡ false → (w : A) → In w l → f w ≡ false
 any-false f l e w h = is-false (f w) (λ t. was-false (any f l) e (any-of f l w h t))

@@ -1,6 +1,6 @@
 -- Words that are right for the domain that they read as are its form; and the other way, where the domain is wired.
-use Prim.Native.Nat.{ℕ, zero, suc, _+_, _*_, _/_, _%_, _≤_, _<_}
-use mathlib.Core.Path.{_≡_, refl, sym, ap, subst, _∙_}
+use Prim.Native.Nat.{ℕ, suc, _+_, _*_, _/_, _%_, _≤_, _<_}
+use mathlib.Core.Path.{_≡_, refl, sym, ap, _∙_}
 use mathlib.Core.Logic.{_≢_, inl, inr, by-cases}
 use mathlib.Core.Bool.{Bool, true, false, cond, _&&_}
 use mathlib.Core.List.{List, [], _∷_, _++_}
@@ -8,17 +8,16 @@ use native.Mathlib.Omega.{arith}
 use native.Mathlib.Decide.{decLt}
 use native.Mathlib.Nat.{add-mul-mod-self-left, mod-eq-of-lt}
 use lib.ListN.{length, getD, drop, length-append, length-drop, drop-of-length-le, List·getD-eq-default}
-use lib.Seq.{drop-cons, drop-at, drop-drop, getD-drop}
-use lib.Dec.{T, eqb, leb, leb→le, eqb→eq}
-use borrow.Author.Tests.{eq-eqb, le-leb, lt-leb, eqb-true, leb-true, leb-false}
+use lib.Seq.{drop-cons, drop-at, drop-drop}
+use lib.Dec.{eqb, leb}
+use borrow.Author.Tests.{eq-eqb, eqb-true, leb-true}
 use Rattle.files.specs.declared.Phy.{Phy}
 use Rattle.files.specs.declared.Phy.the-variants.{Vacant, Present}
-use Rattle.files.specs.declared.PhyFields.{PhyFields}
 use Rattle.files.specs.Lists.{In}
 use Rattle.files.specs.Domain.{Expander, Domain, noExpander, addressOf, expanderAt, numberOf}
 use Rattle.files.proofs.Results.{both}
 use Rattle.files.proofs.Domains.{numberOf-is}
-use Rattle.forms.specs.Form.{headField, phyField, attachedNumber, formPhy, formPhys, formExpanders, formOf}
+use Rattle.forms.specs.Form.{headField, phyField, formPhy, formPhys, formExpanders, formOf}
 use Rattle.forms.specs.Formed.{sameWords}
 use Rattle.forms.specs.Opened.{namedBy, rightNamed, rightField, rightPhys, rightExpanders}
 use Rattle.forms.proofs.Legal.{Numbers}

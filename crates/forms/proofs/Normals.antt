@@ -1,25 +1,21 @@
 -- What a domain's form leaves out changes no cause of judging but 10, no level list, no table and no trace: nothing looks at it.
-use Prim.Native.Nat.{ℕ, zero, suc, _+_, _≤_, _<_}
+use Prim.Native.Nat.{ℕ, zero, suc, _+_, _<_}
 use mathlib.Core.Path.{_≡_, refl, sym, ap, subst, fun-ext, _∙_}
-use mathlib.Core.Logic.{_≢_}
 use mathlib.Core.Bool.{Bool, true, false, cond, not, _||_, _&&_}
-use mathlib.Core.List.{List, [], _∷_, _++_, map, flatMap}
+use mathlib.Core.List.{List, [], _∷_, _++_, map, flatMap, map-append}
 use native.Mathlib.Omega.{arith}
-use lib.ListN.{length, getD, take, drop, replicate, length-map, List·getD-map}
+use lib.ListN.{length, getD, take, length-map, List·getD-map}
 use lib.Dec.{T, eqb, leb, ltb, eqb→eq}
-use Rattle.frames.specs.Refusals.{Result, good, then}
-use Rattle.files.specs.declared.Setting.{Setting}
+use Rattle.frames.specs.Refusals.{good}
 use Rattle.files.specs.declared.Phy.{Phy}
 use Rattle.files.specs.declared.Phy.the-variants.{Vacant, Present}
-use Rattle.files.specs.Lists.{upTo, any, keep, isIn}
-use Rattle.files.specs.Domain.{Expander, Domain, expanderAt, phyAt, typeOf, addressOf, farOf, attributeOf, routes, attached, toEnd, toExpander, bears, numberOf}
-use Rattle.wiring.specs.Causes.{Place, places, placesFrom, phyPlaces, farPhy, names, unanswered, endAt, claimed, clash, clashing, fixed, wiredDomain}
+use Rattle.files.specs.Lists.{any, keep, isIn}
+use Rattle.files.specs.Domain.{Expander, Domain, expanderAt, phyAt, typeOf, addressOf, farOf, attributeOf, routes, toEnd, toExpander, bears, numberOf}
+use Rattle.wiring.specs.Causes.{Place, places, placesFrom, farPhy, names, unanswered, endAt, claimed, clash, clashing, fixed}
 use Rattle.wiring.specs.Neighbours.{cabled, neighbours}
 use Rattle.wiring.specs.Graph.{Chain, Loop}
 use Rattle.wiring.specs.Devices.{LoopIn, ChainIn}
-use Rattle.files.specs.Read.{Read}
-use Rattle.wiring.specs.Tested.{Passed, Linked}
-use Rattle.wiring.specs.Chains.{ShortChains}
+use Rattle.wiring.specs.Tested.{Passed}
 use Rattle.files.proofs.Members.{keep-same, and-left, and-right}
 use Rattle.files.proofs.Domains.{routes-range, expander-range}
 use Rattle.wiring.proofs.Accepted.{passed-iff}
@@ -28,7 +24,7 @@ use Rattle.tables.specs.Tables.{word, heldBy, gives, give, giveAll, levelList, 
 use Rattle.tables.specs.Judge.{judgedDomain}
 use Rattle.tables.specs.Tested.{Routable}
 use Rattle.tables.proofs.Given.{judged-routable, routable-iff}
-use Rattle.forms.specs.Normal.{normalPhy, normalExpander, normalWith, normal}
+use Rattle.forms.specs.Normal.{normalPhy, normalExpander, normalWith}
 
 -- one phy
 type-same : (v : ℕ) (φ : Phy) → typeOf (normalPhy v φ) ≡ typeOf φ
@@ -62,10 +58,6 @@ flatMap-same : {A B : Type 0} (f g : A → List B) (l : List A) → ((x : A) →
 unfolding flatMap
 flatMap-same f g [] e = refl
 flatMap-same f g (x ∷ l) e = rw (e x, flatMap-same f g l e) refl
-
-map-append : {A B : Type 0} (f : A → B) (l m : List A) → map f (l ++ m) ≡ map f l ++ map f m
-map-append f [] m = refl
-map-append f (x ∷ l) m = ap (λ k. f x ∷ k) (map-append f l m)
 
 flatMap-map : {A B : Type 0} (f : A → List B) (h : B → B) (l : List A) → flatMap (λ x. map h (f x)) l ≡ map h (flatMap f l)
 unfolding flatMap

@@ -1,16 +1,17 @@
 -- What the calls over a form promise, from what those over rows promise: the refusals of judging are 1, and the others stay.
 use Prim.Native.Nat.{ℕ, _+_, _*_, _≤_, _<_}
 use mathlib.Core.Path.{_≡_, refl, sym, ap, subst, _∙_}
-use mathlib.Core.Logic.{_≢_, _⊎_, inl, inr}
-use mathlib.Core.Bool.{Bool, true, false, cond, not, _&&_}
+use mathlib.Core.Logic.{_≢_, inl, inr}
+use mathlib.Core.Bool.{Bool, true, false, not, _&&_}
 use mathlib.Core.List.{List, _++_}
 use native.Mathlib.Omega.{arith}
 use lib.ListN.{length, getD, drop}
 use lib.Dec.{T, eqb, leb, le→leb}
-use borrow.Author.Tests.{le-leb, lt-leb, eq-eqb, ne-eqb}
+use borrow.Author.Tests.{le-leb, lt-leb, eq-eqb, ne-eqb, not-false, not-true}
 use Rattle.frames.specs.Refusals.{Result, refused, good, unless, then, refusal}
 use Rattle.frames.specs.declared.Refusal.{Refusal}
 use Rattle.frames.specs.Bits.{bytesFor}
+use Rattle.frames.proofs.Exactly.{refused-one}
 use Rattle.files.specs.declared.Setting.{Setting}
 use Rattle.files.specs.declared.Phy.{Phy}
 use Rattle.files.specs.declared.Phy.the-variants.{Vacant, Present}
@@ -29,37 +30,29 @@ use Rattle.tables.specs.declared.TablesGiven.{TablesGiven}
 use Rattle.tables.specs.declared.TablesGiven.the-variants.{Refused as NotGiven, Counts}
 use Rattle.tables.specs.Tables.{needed}
 use Rattle.tables.specs.Entries.{Entries, Room, roomOf}
-use Rattle.tables.specs.Judge.{judgedDomain, judged, tablesFor, judgedTables, Counted, countsIn, TablesDone}
+use Rattle.tables.specs.Judge.{judgedDomain, tablesFor, TablesDone}
 use Rattle.tables.specs.Prepared.{judgedIn, OwnDone}
 use Rattle.tables.proofs.Given.{judged-routable, accepted-iff}
-use Rattle.tables.proofs.Lawful.{judged-read, judged-own, read-done}
+use Rattle.tables.proofs.Lawful.{judged-read, read-done}
 use Rattle.tables.proofs.Exactly.{Numbered, numbered-unless, numbered-then, domain-numbered}
 use Rattle.tracing.specs.declared.TraceAnswer.{TraceAnswer}
 use Rattle.tracing.specs.declared.TraceAnswer.the-variants.{Refused, Ended}
 use Rattle.tracing.specs.declared.ListAnswer.{ListAnswer}
 use Rattle.tracing.specs.declared.ListAnswer.the-variants.{Refused as ListRefused, Requests}
-use Rattle.tracing.specs.Trace.{Request, Traced, traced, allowed, requested, tracedRequest, judgedRequest, Reported, report, TraceDone}
+use Rattle.tracing.specs.Trace.{Request, Traced, allowed, requested, tracedRequest, TraceDone}
 use Rattle.tracing.specs.Answers.{requestIn}
 use Rattle.tracing.specs.Many.{requestCount, listFor, listIn, ListTraced}
 use Rattle.forms.specs.declared.FormMade.{FormMade}
 use Rattle.forms.specs.declared.FormMade.the-variants.{Refused as NotMade, Counts as Made}
 use Rattle.forms.specs.Form.{formOf, formIn}
 use Rattle.forms.specs.Formed.{badPhy, unread, isGood, sameWords, formed, formRead, formFor, formCall, formTables, formTrace, formList}
-use Rattle.forms.specs.Calls.{FormCounts, formCounts, FormDone}
+use Rattle.forms.specs.Calls.{FormDone}
 use Rattle.forms.specs.Opened.{rightExpanders, opens, asForm, asTrace, asTables, asList, SmallPhy, FormRoom}
 use Rattle.wiring.specs.Addresses.{slotsBefore}
 use Rattle.forms.proofs.Held.{form-few}
 use Rattle.forms.proofs.Tested.{Late, Early, late-stays, early-one}
 use Rattle.forms.proofs.Legal.{form-back, numbers-of, phys-of, unread-read, small-of}
 use Rattle.forms.proofs.Matched.{Borne, Answered, words-same, same-words, right-form, form-right}
-
-not-false : (a : Bool) → not a ≡ false → a ≡ true
-not-false true e = refl
-not-false false e = let z : _≡_ {A = ℕ} 0 1 = cc in absurd (omega arith)
-
-not-true : (a : Bool) → not a ≡ true → a ≡ false
-not-true true e = let z : _≡_ {A = ℕ} 0 1 = cc in absurd (omega arith)
-not-true false e = refl
 
 -- what a test leaves of a phy
 fields-borne : (f : PhyFields) → ranged f ≡ true → f .device ≢ 0 → f .address ≢ 0
@@ -204,24 +197,21 @@ request-late t bytes q e =
     (numbered-unless Late (not (eqb (q .address) 0)) (refusal 17 0 0) (good e) (omega arith, omega arith) tt))))
     (λ _. tt)
 
-one-refusal : {A : Type 0} (r s : Refusal) → _≡_ {A = Result A} (refused r) (refused s) → r ≡ s
-one-refusal r s e = cc
-
 trace-mapped : (x : Result Traced) (answer : TraceAnswer) (before after : List ℕ) → TraceDone x answer before after → TraceDone (asFormed x) (asTrace answer) before after
-trace-mapped (refused r) (Refused s) before after o = record { answers = ap (λ (y : Refusal). refused (asForm y)) (one-refusal s r (o .answers)); bytes = o .bytes }
+trace-mapped (refused r) (Refused s) before after o = record { answers = ap (λ (y : Refusal). refused (asForm y)) (refused-one s r (o .answers)); bytes = o .bytes }
 trace-mapped (refused r) (Ended e) before after o = never r _ (sym (o .answers))
 trace-mapped (good t) (Refused s) before after o = never s _ (o .answers)
 trace-mapped (good t) (Ended e) before after o = record { answers = o .answers; bytes = o .bytes }
 
 tables-mapped : (x : Result Domain) (answer : TablesGiven) (before after : Entries) → TablesDone x answer before after → TablesDone (asFormed x) (asTables answer) before after
-tables-mapped (refused r) (NotGiven s) before after o = record { answers = ap (λ (y : Refusal). refused (asForm y)) (one-refusal s r (o .answers)); left = o .left }
+tables-mapped (refused r) (NotGiven s) before after o = record { answers = ap (λ (y : Refusal). refused (asForm y)) (refused-one s r (o .answers)); left = o .left }
 tables-mapped (refused r) (Counts t w) before after o = never r _ (sym (o .answers))
 tables-mapped (good d) (NotGiven s) before after o = never s _ (o .answers)
 tables-mapped (good d) (Counts t w) before after o = record { answers = o .answers; left = o .left }
 
 list-mapped : (x : Result Domain) (t : Entries) (requests : List ℕ) (answer : ListAnswer) (before after : List ℕ) → ListTraced x t requests answer before after
     → ListTraced (asFormed x) t requests (asList answer) before after
-list-mapped (refused r) t requests (ListRefused s) before after o = record { answers = ap (λ (y : Refusal). refused (asForm y)) (one-refusal s r (o .answers)); words = o .words }
+list-mapped (refused r) t requests (ListRefused s) before after o = record { answers = ap (λ (y : Refusal). refused (asForm y)) (refused-one s r (o .answers)); words = o .words }
 list-mapped (refused r) t requests (Requests n) before after o = never r _ (sym (o .answers))
 list-mapped (good d) t requests (ListRefused s) before after o = never s _ (o .answers)
 list-mapped (good d) t requests (Requests n) before after o = record { answers = o .answers; words = o .words }

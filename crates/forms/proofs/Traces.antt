@@ -1,20 +1,19 @@
 -- What a domain's form leaves out changes no trace: the steps do not look at it.
-use Prim.Native.Nat.{ℕ, zero, suc, _+_, _/_, _%_}
+use Prim.Native.Nat.{ℕ, zero, suc, _/_, _%_}
 use mathlib.Core.Path.{_≡_, refl, sym, ap, _∙_}
-use mathlib.Core.Bool.{Bool, true, false, cond, not, _||_, _&&_}
+use mathlib.Core.Bool.{Bool, true, false, cond, not, _&&_}
 use mathlib.Core.List.{List, [], _∷_}
 use lib.ListN.{length}
-use lib.Dec.{eqb, leb, ltb}
-use Rattle.frames.specs.Refusals.{Result, refused, good, unless, then, refusal}
+use lib.Dec.{eqb, leb}
+use Rattle.frames.specs.Refusals.{Result, good, unless, then, refusal}
 use Rattle.frames.specs.Bits.{bytesFor}
-use Rattle.files.specs.Lists.{upTo, isIn}
-use Rattle.files.specs.Domain.{Domain, expanderAt, phyAt, typeOf, addressOf, farOf, toEnd, numberOf}
-use Rattle.tables.specs.Tables.{needed, stretch}
+use Rattle.files.specs.Lists.{upTo}
+use Rattle.files.specs.Domain.{Domain, expanderAt, phyAt, addressOf, farOf, toEnd, numberOf}
+use Rattle.tables.specs.Tables.{needed}
 use Rattle.tables.specs.Entries.{Entries, roomOf, counted}
 use Rattle.tracing.specs.Steps.{Step, here, endDevice, bad, lost, onward, Pick, at, nowhere, pick, phyNumbers, cameFrom, moveBy, subtractively, byTable, directly, bearing, listing, subtracting, step}
-use Rattle.tracing.specs.Trace.{Request, request, Traced, after, afterStep, traceFrom, traced, allowed, requested, tracedRequest, report}
-use Rattle.tracing.specs.Packing.{packed, endPacked}
-use Rattle.tracing.specs.Many.{oneAnswer, answersOf}
+use Rattle.tracing.specs.Trace.{Request, request, Traced, after, afterStep, traceFrom, traced, allowed, requested, tracedRequest}
+use Rattle.tracing.specs.Many.{answersOf}
 use Rattle.forms.specs.Normal.{normalWith}
 use Rattle.forms.proofs.Normals.{address-at, length-at, length-same, number-same, routes-at, type-at, attached-at, far-at, bears-at, stretch-same, needed-same, Alike, alike}
 

@@ -1,24 +1,26 @@
 -- Writing the form of a domain: one phy's words after the other, and one expander after the other.
-use Prim.Native.Nat.{ℕ, zero, suc, _+_, _-_, _*_, _≤_, _<_}
+use Prim.Native.Nat.{ℕ, suc, _+_, _-_, _*_, _≤_, _<_}
 use mathlib.Core.Path.{_≡_, refl, sym, ap, subst, _∙_}
-use mathlib.Core.Bool.{Bool, true, false, cond}
+use mathlib.Core.Bool.{Bool, cond}
 use mathlib.Core.List.{List, [], _∷_, _++_}
 use native.Mathlib.Omega.{arith}
 use native.Mathlib.Numerals.{add-one}
 use lib.ListN.{length, getD, drop, set, length-append, drop-of-length-le}
-use lib.Seq.{sets, sets-eq, drop-cons}
-use lib.Dec.{T, eqb, leb, le→leb}
+use lib.Seq.{sets, drop-cons}
+use lib.Dec.{T, le→leb}
 use borrow.Author.Tests.{le-leb, lt-leb}
 use Rattle.frames.proofs.Packing.{sets-append}
 use Rattle.files.specs.declared.Phy.{Phy}
 use Rattle.files.specs.declared.Phy.the-variants.{Vacant, Present}
 use Rattle.files.specs.declared.PhyFields.{PhyFields}
-use Rattle.files.specs.Domain.{Expander, Domain, noExpander, expanderAt, phyAt, addressOf, toExpander, numberOf}
+use Rattle.files.specs.Domain.{Domain, noExpander, expanderAt, phyAt, addressOf, toExpander, numberOf}
 use Rattle.files.specs.Rows.{domainIn}
 use Rattle.wiring.specs.Addresses.{farNumber, IndexedFirst}
 use Rattle.files.proofs.InRows.{domain-few}
 use Rattle.wiring.proofs.Entries.{far-in}
-use Rattle.forms.specs.Form.{headField, phyField, attachedNumber, formPhy, formPhys, formExpanders, formOf}
+use Rattle.wiring.proofs.Finding.{number-most}
+use Rattle.forms.specs.Form.{headField, phyField, formPhy, formPhys, formExpanders, formOf}
+use Rattle.tables.proofs.BitSets.{sets-front}
 
 -- a phy's second word
 module _ (d : Domain) (φ : Phy) where
@@ -34,15 +36,6 @@ module _ (d : Domain) (φ : Phy) where
         let m : n ≡ numberOf d (x .address) = k ∙ ap (λ (ψ : Phy). numberOf d (addressOf ψ)) e in
         q ∙ ap (λ (j : ℕ). phyField 0 (x .device) (x .attribute) j (x .far .0)) m
         ∙ sym (ap (formPhy d) e ∙ ap (λ (b : Bool). phyField 0 (x .device) (x .attribute) (cond b (numberOf d (x .address)) 0) (x .far .0)) (le-leb 2 (x .device) h))
-
-number-most : (d : Domain) (s : ℕ) → numberOf d s ≤ length d
-unfolding numberOf
-number-most [] s = omega arith
-number-most (e ∷ d) s = go (eqb (e .address) s) (number-most d s)
-  where
-    go : (b : Bool) → numberOf d s ≤ length d → cond b 0 (suc (numberOf d s)) ≤ suc (length d)
-    go true h = omega arith
-    go false h = omega arith
 
 -- who is attached, as the entries tell
 pub far-number : (ws first : List ℕ) (i p n : ℕ) (x : PhyFields) → IndexedFirst (domainIn ws) first → phyAt (domainIn ws) i p ≡ Present x → 2 ≤ x .device → n ≡ farNumber (domainIn ws) first i p
@@ -107,6 +100,4 @@ unfolding formOf
 form-start d = refl
 
 pub form-put : (d : Domain) (before after : List ℕ) → length (formOf d) ≤ length before → after ≡ sets before 0 (formOf d) → after ≡ formOf d ++ drop (length (formOf d)) before
-form-put d before after h e =
-    let l : 0 + length (formOf d) ≡ length (formOf d) = omega arith in
-    e ∙ sets-eq (formOf d) before 0 (omega arith) ∙ ap (λ (k : ℕ). formOf d ++ drop k before) l
+form-put d before after h e = e ∙ sets-front (formOf d) before h

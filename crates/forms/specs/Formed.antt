@@ -11,7 +11,7 @@ use Rattle.files.specs.declared.Phy.{Phy}
 use Rattle.files.specs.declared.Phy.the-variants.{Vacant, Present}
 use Rattle.files.specs.Lists.{upTo, any}
 use Rattle.files.specs.Settings.{within, inRange}
-use Rattle.files.specs.Domain.{Expander, Domain, expanderAt, numberOf}
+use Rattle.files.specs.Domain.{Domain, expanderAt, numberOf}
 use Rattle.files.specs.File.{ranged}
 use Rattle.files.specs.Read.{Read, FitsDomain}
 use Rattle.tables.specs.Entries.{Entries, Room}

@@ -5,7 +5,7 @@ use mathlib.Core.Bool.{Bool, true, false, cond, not, _&&_}
 use mathlib.Core.List.{List, [], _∷_, _++_}
 use lib.ListN.{length, getD, take}
 use lib.Dec.{eqb, leb}
-use Rattle.frames.specs.Refusals.{Result, refused, good, refusal}
+use Rattle.frames.specs.Refusals.{refusal}
 use Rattle.frames.specs.declared.Refusal.{Refusal}
 use Rattle.files.specs.declared.Setting.{Setting}
 use Rattle.files.specs.declared.Phy.{Phy}

@@ -1,12 +1,10 @@
 // Makes the form of a file's domain.
 use crate::FormMade;
-use crate::opening;
 use crate::writing;
 use wiring::Check;
 use wiring::DomainRead;
 use wiring::Setting;
 ghost use Prim.Native.Nat.{_≤_};
-ghost use mathlib.Core.Path.{_≡_};
 ghost use lib.ListN.{length};
 ghost use Rattle.frames.specs.Bytes.{byte};
 ghost use Rattle.frames.specs.Refusals.{then};
@@ -33,7 +31,7 @@ fn make_rows(
         Check::Passed => {
             let size = writing::form_size(rows);
             if words.len() < size {
-                return FormMade::Refused(opening::refused(16));
+                return FormMade::Refused(wiring::refused(16));
             }
             writing::put_form(rows, first, words);
             let n = wiring::expander_count(rows);

@@ -31,10 +31,10 @@ fn list_in(
         (entries (now (words .entry)) (now (bits .entry))) (now (requests .entry)) r (now (answers .entry)) (now (answers .exit)) ⌝ }
 {
     if !wiring::is_in_range(setting) {
-        return ListAnswer::Refused(opening::refused(22));
+        return ListAnswer::Refused(wiring::refused(22));
     }
     if !opening::open_form(setting, form, rows, n) {
-        return ListAnswer::Refused(opening::refused(1));
+        return ListAnswer::Refused(wiring::refused(1));
     }
     let e = 258 * (n as usize);
     let chain = setting.chain;

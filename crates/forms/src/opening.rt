@@ -5,27 +5,14 @@ use crate::testing;
 use tables::TablesGiven;
 use tracing::ListAnswer;
 use tracing::TraceAnswer;
-use wiring::ExpanderNumber;
-use wiring::PhyId;
 use wiring::Refusal;
 use wiring::Setting;
+use wiring::refused;
 ghost use mathlib.Core.Path.{_≡_};
 ghost use Prim.Native.Nat.{_*_, _≤_};
 ghost use lib.ListN.{length};
-ghost use Rattle.frames.specs.Refusals.{refusal};
 ghost use Rattle.forms.specs.Form.{formIn};
 ghost use Rattle.forms.specs.Opened.{FormOpened, asForm, asTrace, asTables, asList};
-
-// A refusal at place 0, 0.
-pub(crate) fn refused(number: u8) -> Refusal
-    ensures { λ r. ⌜ r ≡ refusal number 0 0 ⌝ }
-{
-    Refusal {
-        number: number,
-        expander: ExpanderNumber(0),
-        phy: PhyId(0),
-    }
-}
 
 // A refusal of a call over rows, as one over a form: 15 to 18 stay, and those of judging are 1 at place 0, 0.
 pub(crate) fn of_form(r: Refusal) -> Refusal

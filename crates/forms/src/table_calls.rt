@@ -28,10 +28,10 @@ fn tables_in(
         r (entries (now (words .entry)) (now (bits .entry))) (entries (now (words .exit)) (now (bits .exit))) ⌝ }
 {
     if !wiring::is_in_range(setting) {
-        return TablesGiven::Refused(opening::refused(22));
+        return TablesGiven::Refused(wiring::refused(22));
     }
     if !opening::open_form(setting, form, rows, n) {
-        return TablesGiven::Refused(opening::refused(1));
+        return TablesGiven::Refused(wiring::refused(1));
     }
     let e = 258 * (n as usize);
     let chain = setting.chain;

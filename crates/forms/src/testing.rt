@@ -4,9 +4,8 @@ use wiring::Phy;
 use wiring::PhyId;
 use wiring::Setting;
 ghost use mathlib.Core.Path.{_≡_};
-ghost use lib.ListN.{length};
 ghost use Rattle.files.specs.Lists.{any};
-ghost use Rattle.files.specs.Domain.{expanderAt, numberOf};
+ghost use Rattle.files.specs.Domain.{expanderAt};
 ghost use Rattle.files.specs.Rows.{domainIn};
 ghost use Rattle.forms.specs.Formed.{badPhy, badUnit, unread};
 
@@ -35,21 +34,6 @@ fn has_bad_phy(rows: &[u64], i: ExpanderNumber) -> bool
     false
 }
 
-// The first expander with this address; the count of expanders where there is none.
-fn number_of(rows: &[u64], s: u64) -> u8
-    ensures { λ r. ⌜ r ≡ numberOf (domainIn (now (rows .entry))) s ⌝ }
-{
-    let n = wiring::expander_count(rows);
-    let mut i: u8 = 0;
-    while i < n {
-        if wiring::expander_address(rows, ExpanderNumber(i)) == s {
-            return i;
-        }
-        i += 1;
-    }
-    n
-}
-
 // Whether 3, 4 or 6 holds at expander i.
 fn is_bad_unit(most: Setting, rows: &[u64], i: ExpanderNumber) -> bool
     ensures { λ r. ⌜ r ≡ badUnit most (domainIn (now (rows .entry))) (i .0) ⌝ }
@@ -61,7 +45,7 @@ fn is_bad_unit(most: Setting, rows: &[u64], i: ExpanderNumber) -> bool
     if s == 0 {
         return true;
     }
-    if number_of(rows, s) != i.0 {
+    if wiring::number_of(rows, s) != i.0 {
         return true;
     }
     has_bad_phy(rows, i)

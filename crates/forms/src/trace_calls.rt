@@ -35,10 +35,10 @@ fn trace_in(
         r (now (passed .entry)) (now (passed .exit)) ⌝ }
 {
     if !wiring::is_in_range(setting) {
-        return TraceAnswer::Refused(opening::refused(22));
+        return TraceAnswer::Refused(wiring::refused(22));
     }
     if !opening::open_form(setting, form, rows, n) {
-        return TraceAnswer::Refused(opening::refused(1));
+        return TraceAnswer::Refused(wiring::refused(1));
     }
     let e = 258 * (n as usize);
     let chain = setting.chain;

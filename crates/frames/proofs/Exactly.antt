@@ -54,7 +54,7 @@ module _ {A B : Type 0} (N : ℕ → Type 0) where
 pub never : {A B : Type 0} (r : Refusal) (a : A) → _≡_ {A = Result A} (refused r) (good a) → B
 never r a q = let z : _≡_ {A = ℕ} 0 1 = cc in absurd (omega arith)
 
-refused-one : {A : Type 0} (r t : Refusal) → _≡_ {A = Result A} (refused r) (refused t) → r ≡ t
+pub refused-one : {A : Type 0} (r t : Refusal) → _≡_ {A = Result A} (refused r) (refused t) → r ≡ t
 refused-one r t q = cc
 
 module _ {A : Type 0} (P : ℕ → Type 0) where

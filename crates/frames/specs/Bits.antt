@@ -22,6 +22,10 @@ unfoldable pub bitsOf : List ℕ → List ℕ
 bitsOf [] = []
 bitsOf (b ∷ s) = numberBits 8 b ++ bitsOf s
 
+-- a number with bit b above its lowest k bits
+abbrev pub withBit : ℕ → ℕ → ℕ → ℕ
+withBit v k b = v / 2 ^ suc k * 2 ^ suc k + (b * 2 ^ k + v % 2 ^ k)
+
 -- as many bytes as `count` of a row of bits; zero bits fill them
 unfoldable pub packedIn : ℕ → List ℕ → List ℕ
 packedIn zero l = []

@@ -20,6 +20,8 @@ pub use configure_route::read_route;
 pub use configure_route::route_refusal;
 pub use configure_route::write_route;
 pub use discovery::read_discover;
+pub use refusals::refusal_at;
+pub use refusals::refused;
 pub use report_general::read_general;
 pub use report_general::read_general_sas2;
 pub use sizes::frame_size;

@@ -6,9 +6,8 @@ use mathlib.Core.List.{List, [], _∷_, _++_, append-assoc}
 use mathlib.Core.Logic.{by-cases}
 use native.Mathlib.Decide.{decLt}
 use native.Mathlib.Omega.{arith}
-use native.Mathlib.Numerals.{add-one}
 use lib.ListN.{length, getD, drop, length-drop, drop-of-length-le}
-use lib.Seq.{drop-drop, drop-cons}
+use lib.Seq.{drop-drop}
 use lib.Dec.{leb}
 use borrow.Author.Tests.{le-leb, lt-leb}
 use Rattle.tables.specs.Wiring.{Domain}
@@ -19,6 +18,7 @@ use Rattle.listing.specs.Lines.{Entry, wordLines, textOf, fitting, entri
 use Rattle.listing.proofs.Cursors.{entries-after}
 use Rattle.listing.proofs.Puts.{Going, go-start, go-turn, go-end, put-within}
 use Rattle.listing.proofs.Numbers.{line-short}
+use Rattle.files.proofs.OneMore.{drop-next}
 
 module _ (end : ℕ) where
   fit-go : (l : List ℕ) (ls : List (List ℕ)) → end + 80 ≤ 65536 → fitting end (l ∷ ls) ≡ l ∷ fitting (end + length l) ls
@@ -119,7 +119,7 @@ module _ (ws : List ℕ) where
         → Putting es₀ w₀ out₀ es' (w + 1) out' end'
     putting-line {out'} {end'} e es' q h f room u =
         let l : List ℕ = lineOf (e .expander) (e .phy) (e .index) (getD ws w 0) in
-        let c : drop w ws ≡ getD ws w 0 ∷ drop (w + 1) ws = rw add-one (drop-cons ws w 0 h) in
+        let c = drop-next 0 ws w h in
         let t : toPut es w end ≡ l ∷ toPut es' (w + 1) end' =
         ap₂ (λ (x : List Entry) (y : List ℕ). fitting end (wordLines x y)) q c ∙ fit-line end e es' (getD ws w 0) (drop (w + 1) ws) f
         ∙ ap (λ (n : ℕ). l ∷ fitting n (wordLines es' (drop (w + 1) ws))) (sym (u .next)) in

@@ -4,8 +4,8 @@ use mathlib.Core.Path.{_≡_, refl, sym, _∙_, ap}
 use mathlib.Core.List.{List, [], _∷_, _++_}
 use native.Mathlib.Omega.{arith}
 use native.Mathlib.Numerals.{add-one}
-use lib.ListN.{length, getD, drop, set, length-append, length-set}
-use lib.Seq.{drop-cons, length-take-le, set-split}
+use lib.ListN.{length, set, length-append, length-set}
+use lib.Seq.{length-take-le, set-split}
 use Rattle.io.specs.Counts.{Counts}
 use Rattle.tables.specs.Filling.{overlay, Put}
 use Rattle.tables.proofs.Puts.{overlay-none, overlay-next}
@@ -18,10 +18,6 @@ put-one ws at v h =
 
 pub put-as : {before after x y : List ℕ} {at r : ℕ} → Put before after at r x → x ≡ y → Put before after at r y
 put-as {before} {after} {x} {y} {at} {r} u e = rw e at u
-
--- the bytes left of a text
-pub bytes-next : (text : List ℕ) (i : ℕ) → i < length text → drop i text ≡ (getD text i 0 ∷ []) ++ drop (i + 1) text
-bytes-next text i h = rw add-one (drop-cons text i 0 h)
 
 -- one after the other
 pub put-then : {before mid after x y : List ℕ} {at r s : ℕ} → Put before mid at r x → Put mid after r s y → at + length x ≤ length before

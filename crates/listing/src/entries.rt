@@ -14,12 +14,7 @@ ghost use Rattle.listing.specs.Lines.{cursor, nextPlace};
 pub(crate) fn entry_count(rows: &[u64], at: Cursor) -> u16
     ensures { λ r. ⌜ r ≡ size (domainIn (now (rows .entry))) (place (at .expander .0) (at .phy .0)) ⌝ }
 {
-    let i = ExpanderNumber(at.expander.0);
-    let p = PhyId(at.phy.0);
-    if tables::phy_attribute(tables::phy_at(rows, i, p)) == 2 {
-        return tables::index_count(rows, i);
-    }
-    0
+    tables::size_at(rows, ExpanderNumber(at.expander.0), PhyId(at.phy.0)) as u16
 }
 
 // The next index of the same phy, with the next word.

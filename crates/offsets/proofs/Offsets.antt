@@ -1,7 +1,7 @@
 -- Where the frames of a file that was read stand: the places found by byte 3 of each frame are the reader's own.
 use Prim.Native.Nat.{ℕ, zero, suc, _+_, _-_, _*_, _≤_, _<_}
 use mathlib.Core.Path.{_≡_, refl, sym, _∙_, ap, subst}
-use mathlib.Core.Bool.{Bool, true, false, cond, not, _&&_}
+use mathlib.Core.Bool.{Bool, true, false, cond}
 use mathlib.Core.List.{List, [], _∷_, _++_}
 use native.Mathlib.Omega.{arith}
 use lib.ListN.{length, getD, take, drop}
@@ -10,7 +10,7 @@ use lib.Dec.{eqb, leb, eqb→eq, leb→le}
 use Rattle.frames.specs.Bytes.{byte, numberAt}
 use Rattle.frames.specs.Refusals.{Result, refused, good, refusal}
 use Rattle.frames.specs.Sizes.{shortSize, longSize, longLength, sizeStated, frameSize}
-use Rattle.frames.specs.ReportGeneral.{generalFixed, generalFields, generalRead}
+use Rattle.frames.specs.ReportGeneral.{generalRead}
 use Rattle.frames.specs.Discovery.{discoverRead}
 use Rattle.frames.specs.declared.General.{General}
 use Rattle.frames.specs.declared.Response.{Response}
@@ -19,7 +19,6 @@ use Rattle.files.specs.declared.Setting.{Setting}
 use Rattle.files.specs.declared.ExpanderUnit.{ExpanderUnit}
 use Rattle.files.specs.declared.Phy.{Phy}
 use Rattle.files.specs.declared.Phy.the-variants.{Vacant}
-use Rattle.files.specs.Lists.{isIn}
 use Rattle.files.specs.Settings.{within, inRange}
 use Rattle.files.specs.Domain.{Expander, Domain, expanderAt}
 use Rattle.files.specs.File.{Parsed, parsed, sizeAt, phyOf, phyUnit, phyUnits, unitOf, unitTested, expanderUnit, expanderOf, expanders, headerUnit, domainRead}
@@ -28,7 +27,7 @@ use Rattle.frames.proofs.LongFrames.{size-least}
 use Rattle.files.proofs.Read.{read-good, few-phys}
 use Rattle.files.proofs.Domains.{expander-range}
 use Rattle.files.proofs.Results.{never, good-one, unless-good, then-good}
-use Rattle.files.proofs.Reading.{size-whole, size-within, unitAt, unit-cut, unit-by}
+use Rattle.files.proofs.Reading.{size-whole, size-within, unitAt, unit-cut, unit-by, general-is, tested-same, phys-count}
 use borrow.Author.Tests.{ne-eqb}
 use Rattle.offsets.specs.Offsets.{Placed}
 use Rattle.offsets.specs.Offsets.{sizeFrom, physAfter, physFrom, expandersAfter, expanderOffset, phyOffset}
@@ -104,17 +103,6 @@ module _ (file : List ℕ) (own i : ℕ) where
       let q = good-one (parsed (u .value ∷ tail .value) (tail .next)) us (more .2) in
       sym (ap (λ (v : Parsed (List Phy)). v .next) q) ∙ phys-after count (p + 1) (u .next) tail (more .1) ∙ ap (physAfter file count) (phy-next p at u (one .1))
 
-  pub phys-count : (count p at : ℕ) (us : Parsed (List Phy)) → phyUnits file own i count p at ≡ good us → length (us .value) ≡ count
-  unfolding phyUnits
-  phys-count zero p at us e = sym (ap (λ (v : Parsed (List Phy)). length (v .value)) (good-one (parsed [] at) us e))
-  phys-count (suc count) p at us e =
-      let one = then-good (phyUnit file own i p at) _ us e in
-      let u = one .0 in
-      let more = then-good (phyUnits file own i count (p + 1) (u .next)) _ us (one .2) in
-      let tail = more .0 in
-      let q = good-one (parsed (u .value ∷ tail .value) (tail .next)) us (more .2) in
-      sym (ap (λ (v : Parsed (List Phy)). length (v .value)) q) ∙ ap suc (phys-count count (p + 1) (u .next) tail (more .1))
-
   -- phy k of them stands where it is looked for
   pub phy-there : (count p at : ℕ) (us : Parsed (List Phy)) → phyUnits file own i count p at ≡ good us → (k : ℕ) → k < count
       → (u : Parsed Phy) × (phyUnit file own i (p + k) (physAfter file k at) ≡ good u) × (u .value ≡ getD (us .value) k (Vacant 0))
@@ -141,22 +129,6 @@ module _ (file : List ℕ) (own i : ℕ) where
             ∙ ap (λ (m : ℕ). phyUnit file own i (p + 1 + k) (physAfter file k m)) (sym (phy-next p at u (one .1))) ∙ r .1,
         r .2 ∙ ap (λ (v : Parsed (List Phy)). getD (v .value) (suc k) (Vacant 0)) q,
       )
-
--- what is read of REPORT GENERAL
-pub general-is : (s : List ℕ) (g : General) → generalRead s ≡ good g → generalFields s ≡ g
-unfolding generalRead
-general-is s g e =
-    let a = then-good (frameSize ReportGeneral s) _ g e in
-    let b = unless-good (eqb (length s) (a .0)) (refusal 1 0 0) _ g (a .2) in
-    let c = unless-good (generalFixed s) (refusal 2 0 0) (good (generalFields s)) g (b .1) in
-    good-one (generalFields s) g (c .1)
-
--- the tests of an expander's fields yield the fields
-pub tested-same : (most : Setting) (seen : List ℕ) (i : ℕ) (v u : ExpanderUnit) → unitTested most seen i v ≡ good u → v ≡ u
-tested-same most seen i v u t =
-    let a = unless-good (within (most .phys) (v .phys)) (refusal 3 i 0) _ u t in
-    let b = unless-good (not (eqb (v .address) 0) && not (isIn (v .address) seen)) (refusal 4 i 0) (good v) u (a .1) in
-    good-one v u (b .1)
 
 -- an expander that was read
 pub record HeadFound (most : Setting) (file : List ℕ) (at : ℕ) (u : Parsed ExpanderUnit) : Type 0 where

@@ -1,8 +1,8 @@
 // Where the frames of a file that was read stand: each is short or long by its byte 3.
 ghost use mathlib.Core.Path.{_≡_};
 ghost use Prim.Native.Nat.{_+_, _*_, _≤_, _<_};
-ghost use Rattle.frames.specs.declared.Response.the-variants.{ReportGeneral, Discover};
-ghost use Rattle.offsets.specs.Offsets.{sizeFrom, physAfter, physFrom, expandersAfter, expanderOffset, phyOffset};
+ghost use Rattle.frames.specs.declared.Response.the-variants.{Discover};
+ghost use Rattle.offsets.specs.Offsets.{sizeFrom, physAfter, physFrom, expanderOffset, phyOffset};
 
 // The size of the DISCOVER response at `at`.
 fn discover_size(file: &[u8], at: usize) -> usize

@@ -16,7 +16,7 @@ use Rattle.frames.specs.declared.Refusal.{Refusal}
 use Rattle.frames.specs.declared.Route.{Route}
 use Rattle.frames.specs.declared.RouteRead.{RouteRead}
 use Rattle.frames.specs.declared.RouteRead.the-variants.{Refused as NotRead, Read}
-use Rattle.frames.proofs.Exactly.{never, route-exactly}
+use Rattle.frames.proofs.Exactly.{never, route-exactly, refused-one}
 use Rattle.shelves.specs.Shelf.{Told, told, shelfAnswer, made, afterRead, stepped, Done}
 use Rattle.shelves.specs.declared.Shelf.{Shelf}
 use Rattle.shelves.specs.declared.Answer.{Answer}
@@ -32,15 +32,12 @@ unfolding reader
 reader-says (refused r) = refl
 reader-says (good q) = refl
 
-same-refusal : {A : Type 0} (r t : Refusal) → _≡_ {A = Result A} (refused r) (refused t) → r ≡ t
-same-refusal r t e = cc
-
 -- a shelf refuses where the reader does
 as-read : (s : Shelf) (x : Result Route) (N : Type 0) (P : ℕ → Type 0) → Exactly x N P → Exactly (shelfAnswer (afterRead s x .answer)) N P
 unfolding afterRead
 as-read s (refused r) N P e = record {
   answers = (λ a. never r (a .0) (a .1), λ n. let a = e .answers .1 n in never r (a .0) (a .1));
-  numbers = λ t q. e .numbers t (ap refused (same-refusal r t q));
+  numbers = λ t q. e .numbers t (ap refused (refused-one r t q));
 }
 as-read s (good q) N P e = record { answers = (λ _. e .answers .0 (q, refl), λ _. (_, refl)); numbers = λ r z. never r _ (sym z) }
 
@@ -70,5 +67,5 @@ fresh-exactly s t phys indexes kinds answer d = subst (λ (a : Answer). Exactly 
         rw (made-refused s phys indexes kinds e)
         (record {
           answers = (λ a. never (refusal 3 0 0) (a .0) (a .1), λ n. let z : true ≡ false = sym (says-told phys indexes kinds n) ∙ e in let y : _≡_ {A = ℕ} 0 1 = cc in absurd (omega arith));
-          numbers = λ r z. sym (ap (λ (x : Refusal). x .number) (same-refusal (refusal 3 0 0) r z));
+          numbers = λ r z. sym (ap (λ (x : Refusal). x .number) (refused-one (refusal 3 0 0) r z));
         })

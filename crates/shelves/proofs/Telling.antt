@@ -1,15 +1,17 @@
 -- What a fresh shelf is told: its kinds tested, and followed by zeros up to sixteen.
 use Prim.Native.Nat.{ℕ, zero, suc, _+_, _-_, _≤_, _<_}
 use mathlib.Core.Path.{_≡_, refl, sym, _∙_, ap}
-use mathlib.Core.Bool.{Bool, true, false, _&&_}
+use mathlib.Core.Bool.{Bool, true, false}
 use mathlib.Core.List.{List, [], _∷_, _++_}
 use native.Mathlib.Omega.{arith}
 use native.Mathlib.Numerals.{add-one}
 use lib.ListN.{length, getD, take, drop, set, replicate, drop-of-length-le}
-use lib.Seq.{drop-cons, take-suc, append-snoc, length-take-le, set-at, take-all}
+use lib.Seq.{drop-cons, append-snoc, length-take-le, set-at, take-all}
 use lib.Dec.{leb}
 use borrow.Author.Tests.{le-leb, lt-leb, leb-true, eqb-true, eq-eqb}
 use Rattle.frames.specs.Refusals.{refusal}
+use Rattle.files.proofs.Results.{both}
+use Rattle.files.proofs.OneMore.{take-next}
 use Rattle.shelves.specs.Shelf.{steppedTo, areKinds, told, Told, sixteen, freshShelf, made, Done}
 use Rattle.shelves.specs.declared.Shelf.{Shelf}
 use Rattle.shelves.specs.declared.Answer.the-variants.{Refused, Result as Answered}
@@ -32,7 +34,7 @@ padded-next s i h k =
     let z : List ℕ = replicate (16 - (i + 1)) 0 in
     let e : 16 - i ≡ suc (16 - (i + 1)) = omega arith in
     let f : take i s ++ replicate (16 - i) 0 ≡ take i s ++ (0 ∷ z) = ap (λ (n : ℕ). take i s ++ replicate n 0) e in
-    let u : take (i + 1) s ≡ take i s ++ (getD s i 0 ∷ []) = rw add-one (take-suc s i 0 h) in
+    let u = take-next 0 s i h in
     let g : take (i + 1) s ++ z ≡ take i s ++ (getD s i 0 ∷ z) = ap (λ (l : List ℕ). l ++ z) u ∙ append-snoc (take i s) (getD s i 0) z in
     ap (λ (l : List ℕ). set l i (getD s i 0)) f ∙ (set-at (take i s) 0 z (getD s i 0) i (length-take-le i s (omega arith)) ∙ sym g)
 
@@ -41,15 +43,11 @@ padded-end s l i e f =
     let g : take i s ≡ s = take-all i s (omega arith) in
     f ∙ (ap (λ (m : List ℕ). m ++ replicate (16 - i) 0) g ∙ ap (λ (n : ℕ). s ++ replicate (16 - n) 0) e)
 
-and-both : (a b : Bool) → (a && b) ≡ true → (a ≡ true) × (b ≡ true)
-and-both true b e = (refl, e)
-and-both false b e = let z : _≡_ {A = ℕ} 0 1 = cc in absurd (omega arith)
-
 kinds-known : (ks : List ℕ) → areKinds ks ≡ true → (i : ℕ) → getD ks i 0 ≤ 2
 unfolding areKinds
 kinds-known [] e i = omega arith
-kinds-known (k ∷ ks) e zero = leb-true k 2 (and-both (leb k 2) (areKinds ks) e .0)
-kinds-known (k ∷ ks) e (suc i) = kinds-known ks (and-both (leb k 2) (areKinds ks) e .1) i
+kinds-known (k ∷ ks) e zero = leb-true k 2 (both (leb k 2) (areKinds ks) e .0)
+kinds-known (k ∷ ks) e (suc i) = kinds-known ks (both (leb k 2) (areKinds ks) e .1) i
 
 known-kinds : (ks : List ℕ) → ((i : ℕ) → getD ks i 0 ≤ 2) → areKinds ks ≡ true
 unfolding areKinds
@@ -60,10 +58,10 @@ known-kinds (k ∷ ks) h = rw (le-leb k 2 (h 0)) (known-kinds ks (λ i. h (suc i
 pub told-says : (phys indexes : ℕ) (kinds : List ℕ) → told phys indexes kinds ≡ true → Told phys indexes kinds
 unfolding told
 told-says phys indexes kinds e =
-    let a = and-both _ _ e in
-    let b = and-both _ _ (a .1) in
-    let c = and-both _ _ (b .1) in
-    let d = and-both _ _ (c .1) in
+    let a = both _ _ e in
+    let b = both _ _ (a .1) in
+    let c = both _ _ (b .1) in
+    let d = both _ _ (c .1) in
     record { some = leb-true 1 phys (a .0); few = leb-true phys 16 (b .0); short = leb-true indexes 64 (c .0); each = eqb-true (length kinds) phys (d .0); known = kinds-known kinds (d .1) }
 
 pub says-told : (phys indexes : ℕ) (kinds : List ℕ) → Told phys indexes kinds → told phys indexes kinds ≡ true

@@ -2,25 +2,10 @@
 use crate::Answer;
 use crate::Shelf;
 use crate::Stepped;
-use frames::ExpanderNumber;
-use frames::PhyId;
-use frames::Refusal;
 ghost use mathlib.Core.Path.{_≡_};
 ghost use Prim.Native.Nat.{_≤_};
 ghost use lib.ListN.{length};
-ghost use Rattle.frames.specs.Refusals.{refusal};
 ghost use Rattle.shelves.specs.Shelf.{steppedTo, areKinds, told, sixteen, freshShelf, made};
-
-// Refusal 3, at place 0, 0.
-fn refused() -> Refusal
-    ensures { λ r. ⌜ r ≡ refusal 3 0 0 ⌝ }
-{
-    Refusal {
-        number: 3,
-        expander: ExpanderNumber(0),
-        phy: PhyId(0),
-    }
-}
 
 // A shelf, and what it answered.
 pub(crate) fn stepped_to(shelf: Shelf, answer: Answer) -> Stepped
@@ -101,7 +86,7 @@ pub(crate) fn make(shelf: Shelf, phys: u8, indexes: u16, kinds: &[u8]) -> Steppe
     ensures { λ r. ⌜ r ≡ made shelf phys indexes (now (kinds .entry)) ⌝ }
 {
     if !is_told(phys, indexes, kinds) {
-        return stepped_to(shelf, Answer::Refused(refused()));
+        return stepped_to(shelf, Answer::Refused(frames::refused(3)));
     }
     stepped_to(fresh_shelf(phys, indexes, kinds), Answer::Result(0x00))
 }

@@ -1,5 +1,5 @@
 -- The expanders below an expander, each once: a list made with room for 65 numbers is whole, as its numbers differ, and each is at most 64.
-use Prim.Native.Nat.{ℕ, suc, _+_, _≤_, _<_}
+use Prim.Native.Nat.{ℕ, _+_, _≤_, _<_}
 use mathlib.Core.Path.{_≡_, refl, sym, _∙_, ap, subst}
 use mathlib.Core.Bool.{Bool, true, false, cond, _||_}
 use mathlib.Core.List.{List, [], _∷_, _++_, map, append-nil, append-assoc, map-append}
@@ -14,21 +14,12 @@ use Rattle.files.specs.declared.Phy.the-variants.{Vacant}
 use Rattle.files.specs.Lists.{any, keep, isIn, In, Distinct, Below}
 use Rattle.files.specs.Domain.{Domain, Expander, noExpander, expanderAt, addressOf, numberOf}
 use Rattle.files.proofs.Members.{and-left, and-right, is-true, was-false, isIn-of, in-cast, in-map, map-in, all-cons, keeps, kept, keep-append, at-most}
+use Rattle.files.proofs.OneMore.{take-next}
 use Rattle.tables.specs.Levels.{once, down, belowPhys, below}
 use Rattle.tables.specs.Filling.{add, addAll}
 use Rattle.tables.specs.Prepared.{belowOnce, oneLink}
 use Rattle.tables.proofs.Once.{once-skip, once-take, in-once, once-distinct}
-use Rattle.tables.proofs.Growing.{take-next}
-
--- in any domain, the number of an address is at most the count of expanders
-number-most : (d : Domain) (s : ℕ) → numberOf d s ≤ length d
-unfolding numberOf
-number-most [] s = omega arith
-number-most (e ∷ d) s = go (eqb (e .address) s) (number-most d s)
-  where
-    go : (b : Bool) → numberOf d s ≤ length d → cond b 0 (suc (numberOf d s)) ≤ suc (length d)
-    go true h = omega arith
-    go false h = omega arith
+use Rattle.wiring.proofs.Finding.{number-most}
 
 -- the expanders below some phys
 module _ (d : Domain) where

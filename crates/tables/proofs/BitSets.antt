@@ -1,82 +1,17 @@
--- A bit replaced among bytes, and the disable bits of words put among bits one by one.
-use Prim.Native.Nat.{ℕ, zero, suc, _+_, _*_, _/_, _%_, _-_, _^_, _≤_, _<_}
-use mathlib.Core.Path.{_≡_, sym, _∙_, ap, subst}
-use mathlib.Core.List.{List, [], _∷_, append-assoc}
+-- A bit replaced by its number among bytes, and the disable bits of words put among bits one by one.
+use Prim.Native.Nat.{ℕ, suc, _+_, _*_, _/_, _%_, _-_, _≤_, _<_}
+use mathlib.Core.Path.{_≡_, sym, _∙_, ap}
+use mathlib.Core.List.{List, _∷_, append-assoc, _++_}
 use native.Mathlib.Omega.{arith}
-use native.Mathlib.Numerals.{add-one}
-use native.Mathlib.Nat.{mod-lt, mul-le-mul-right, one-mul, div-mul-le-self}
-use lib.Pow.{pow-pos, pow-add, pow-mono, split, mod-pow-add, shr-lt, shl-exact}
+use native.Mathlib.Nat.{zero-add}
 use lib.ListN.{length, getD, take, drop, set, drop-of-length-le}
-use lib.Seq.{set-append-left, sets, sets-eq, drop-cons}
-use Rattle.frames.specs.Bits.{numberBits, bitsOf, zeroBit, zeroBits}
-use Rattle.frames.proofs.PackedBits.{pow-suc, length-numberBits}
-use Rattle.frames.proofs.NumberBits.{bit-set, low-lt}
-use Rattle.frames.proofs.Packing.{set-past}
+use lib.Seq.{sets, sets-eq}
+use Rattle.frames.specs.Bits.{bitsOf, zeroBit, zeroBits}
+use Rattle.frames.proofs.SetBits.{bits-set}
+pub use Rattle.frames.proofs.SetBits.{weighed, mixed, mixed-is, withBit-lt}
+use Rattle.files.proofs.OneMore.{drop-next}
 use Rattle.tables.specs.Filling.{overlay}
 use Rattle.tables.specs.Rewriting.{withBit}
-
--- the weight of a bit in its byte
-pub weighed : (r : ℕ) → ((1 * 2 ^ (7 - r)) % 2 ^ 64 ≡ 2 ^ (7 - r)) × ((0 < (1 * 2 ^ (7 - r)) % 2 ^ 64) × ((1 * 2 ^ (7 - r)) % 2 ^ 64 ≤ 128))
-weighed r =
-    let e : (1 * 2 ^ (7 - r)) % 2 ^ 64 ≡ 2 ^ (7 - r) = shl-exact {a = 1} 1 (7 - r) 64 (omega arith) (omega arith) ∙ one-mul (2 ^ (7 - r)) in
-    let p = pow-pos (7 - r) in
-    let q : 2 ^ (7 - r) ≤ 2 ^ 7 = pow-mono {i = 7 - r} {j = 7} (omega arith) in
-    (e, (omega arith, omega arith))
-
--- a byte with another bit, in the code's terms
-pub record Mixed (v m b : ℕ) : Type 0 where
-  pub high : v / (2 * m) * (2 * m) ≤ v
-  pub middle : b * m ≤ m
-  pub low : v % m < m
-
-pub mixed : (v m b : ℕ) → 0 < m → b < 2 → Mixed v m b
-mixed v m b h k =
-    let b1 : b ≤ 1 = omega arith in
-    let e : b * m ≤ 1 * m = mul-le-mul-right m b1 in
-    record { high = div-mul-le-self v (2 * m); middle = omega arith; low = mod-lt v h }
-
-pub mixed-is : (v m b n : ℕ) → m ≡ 2 ^ n → v / (2 * m) * (2 * m) + (b * m + v % m) ≡ withBit v n b
-mixed-is v m b n e = rw (e, pow-suc n)
-
--- a number by a bit and what stands around it
-parts : (v k : ℕ) → v ≡ withBit v k (v / 2 ^ k % 2)
-parts v k =
-    let p = split v (suc k) in
-    let e : suc k ≡ 1 + k = omega arith in
-    let q : v % 2 ^ suc k ≡ (v / 2 ^ k % 2) * 2 ^ k + v % 2 ^ k = ap (λ (n : ℕ). v % 2 ^ n) e ∙ mod-pow-add v 1 k in
-    omega arith
-
-withBit-set : (v r b : ℕ) → r < 8 → b < 2 → numberBits 8 (withBit v (7 - r) b) ≡ set (numberBits 8 v) r b
-withBit-set v r b h k =
-    let n : ℕ = 7 - r in
-    let e : r + suc (7 - r) ≡ 8 = omega arith in
-    let m = mod-lt v {m = 2 ^ n} (pow-pos n) in
-    let s = bit-set r n (v / 2 ^ suc n) b (v / 2 ^ n % 2) (v % 2 ^ n) k (omega arith) m in
-    let t : set (numberBits 8 (withBit v n (v / 2 ^ n % 2))) r b ≡ set (numberBits 8 v) r b =
-    ap (λ (x : ℕ). set (numberBits 8 x) r b) (sym (parts v n)) in
-    (rw e at s) ∙ t
-
--- and it is a byte
-pub withBit-lt : (v r b : ℕ) → v < 256 → r < 8 → b < 2 → withBit v (7 - r) b < 256
-withBit-lt v r b l h k =
-    let n : ℕ = 7 - r in
-    let e : r + suc n ≡ 8 = omega arith in
-    let p : 2 ^ r * 2 ^ suc n ≡ 256 = sym (pow-add 2 r (suc n)) ∙ ap (λ (x : ℕ). 2 ^ x) e in
-    let hi : v / 2 ^ suc n < 2 ^ r = shr-lt r (suc n) (subst (λ (x : ℕ). v < x) (sym (ap (λ (x : ℕ). 2 ^ x) e)) l) in
-    let lo = low-lt n b (v % 2 ^ n) k (mod-lt v {m = 2 ^ n} (pow-pos n)) in
-    let q : suc (v / 2 ^ suc n) * 2 ^ suc n ≤ 2 ^ r * 2 ^ suc n = mul-le-mul-right (2 ^ suc n) hi in
-    omega arith
-
-bits-set : (s : List ℕ) (j r b : ℕ) → j < length s → r < 8 → b < 2 → bitsOf (set s j (withBit (getD s j 0) (7 - r) b)) ≡ set (bitsOf s) (8 * j + r) b
-unfolding bitsOf
-bits-set [] j r b i h k = absurd (omega arith)
-bits-set (v ∷ s) zero r b i h k =
-    let l = length-numberBits 8 v in
-    let f : 0 + r ≡ r = omega arith in
-    rw (f, withBit-set v r b h k) (sym (set-append-left (numberBits 8 v) (bitsOf s) r b (omega arith)))
-bits-set (v ∷ s) (suc j) r b i h k =
-    let l = length-numberBits 8 v in
-    rw (bits-set s j r b (omega arith) h k) (sym (set-past (numberBits 8 v) (bitsOf s) (8 * j + r) (8 * suc j + r) b (omega arith)))
 
 -- bit k of bytes replaced, by its byte
 pub bit-replaced : (s : List ℕ) (k b x : ℕ) → x ≡ withBit (getD s (k / 8) 0) (7 - k % 8) b → k < 8 * length s → b < 2
@@ -87,7 +22,7 @@ bit-replaced s k b x q h i =
 
 -- disable bits one by one: the start, a turn and the end
 zeroBits-next : (words : List ℕ) (k : ℕ) → k < length words → zeroBits (drop k words) ≡ zeroBit (getD words k 0) ∷ zeroBits (drop (k + 1) words)
-zeroBits-next words k h = let e : drop k words ≡ getD words k 0 ∷ drop (k + 1) words = rw add-one (drop-cons words k 0 h) in ap zeroBits e
+zeroBits-next words k h = ap zeroBits (drop-next 0 words k h)
 
 pub mark-first : (s words : List ℕ) (at : ℕ) → sets (bitsOf s) (at + 0) (zeroBits (drop 0 words)) ≡ sets (bitsOf s) at (zeroBits words)
 mark-first s words at = let e : at + 0 ≡ at = omega arith in rw e
@@ -107,3 +42,7 @@ mark-last s words at k inv h = sym (ap (λ (l : List ℕ). sets (bitsOf s) (at +
 pub sets-overlay : (l : List ℕ) (at : ℕ) (new : List ℕ) → at + length new ≤ length l → sets l at new ≡ overlay l at new
 unfolding overlay
 sets-overlay l at new h = sets-eq new l at h ∙ append-assoc (take at l) new (drop (at + length new) l)
+
+-- stores from the front on
+pub sets-front : (new l : List ℕ) → length new ≤ length l → sets l 0 new ≡ new ++ drop (length new) l
+sets-front new l h = sets-eq new l 0 (omega arith) ∙ ap (λ (m : ℕ). new ++ drop m l) (zero-add (length new))

@@ -4,14 +4,15 @@ use mathlib.Core.Path.{_≡_, refl, sym, _∙_, ap}
 use mathlib.Core.Bool.{cond}
 use mathlib.Core.List.{List, [], _∷_, _++_, flatMap}
 use native.Mathlib.Omega.{arith}
-use native.Mathlib.Numerals.{add-one}
 use lib.ListN.{length, getD, take, drop, replicate, length-append, length-drop, drop-of-length-le}
-use lib.Seq.{take-at, drop-at, take-all, drop-cons, drop-drop}
+use lib.Seq.{take-at, drop-at, drop-drop}
 use lib.Dec.{eqb}
 use borrow.Author.Tests.{eq-eqb}
 use Rattle.tables.specs.Prepared.{filledTo}
 use Rattle.tables.specs.Refilling.{changed}
 use Rattle.tables.proofs.Growing.{flat-next, flat-last}
+pub use Rattle.files.proofs.Reading.{rest-whole as rest-is}
+use Rattle.files.proofs.OneMore.{drop-next}
 
 changed-nil : (a : List ℕ) → changed a [] ≡ 0
 unfolding changed
@@ -96,8 +97,8 @@ pub words-turn : (part new : List ℕ) (k sum x : ℕ) {all : ℕ} → sum + cha
     → k < length new → length new ≤ length part → sum + x + changed (drop (k + 1) part) (drop (k + 1) new) ≡ all
 unfolding changed
 words-turn part new k sum x {all} inv q h i =
-    let a : drop k part ≡ getD part k 0 ∷ drop (k + 1) part = rw add-one (drop-cons part k 0 (omega arith)) in
-    let b : drop k new ≡ getD new k 0 ∷ drop (k + 1) new = rw add-one (drop-cons new k 0 h) in
+    let a = drop-next 0 part k (omega arith) in
+    let b = drop-next 0 new k h in
     let e : changed (drop k part) (drop k new) ≡ cond (eqb (getD part k 0) (getD new k 0)) 0 1 + changed (drop (k + 1) part) (drop (k + 1) new) = rw (a, b) in
     omega arith
 
@@ -110,7 +111,7 @@ pub zeros-turn : (part : List ℕ) (k sum x : ℕ) {all : ℕ} → sum + changed
     → k < length part → sum + x + changed (drop (k + 1) part) (replicate (length part - (k + 1)) 0) ≡ all
 unfolding changed
 zeros-turn part k sum x {all} inv q h =
-    let a : drop k part ≡ getD part k 0 ∷ drop (k + 1) part = rw add-one (drop-cons part k 0 h) in
+    let a = drop-next 0 part k h in
     let b : length part - k ≡ suc (length part - (k + 1)) = omega arith in
     let e : changed (drop k part) (replicate (length part - k) 0) ≡ cond (eqb (getD part k 0) 0) 0 1 + changed (drop (k + 1) part) (replicate (length part - (k + 1)) 0) = rw (a, b) in
     omega arith
@@ -153,7 +154,3 @@ module _ (f : ℕ → List ℕ) (order : List ℕ) where
       let c : x ≡ changed (drop (length (flatMap f order)) part) (replicate (length (drop (length (flatMap f order)) part)) 0) =
       q ∙ ap (λ (y : ℕ). changed (drop y part) (replicate (length (drop y part)) 0)) n in
       omega (arith, changed-filled part (flatMap f order))
-
--- the words from m on, as a part
-pub rest-is : (part : List ℕ) (m : ℕ) → take (length part - m) (drop m part) ≡ drop m part
-rest-is part m = take-all (length part - m) (drop m part) (omega (arith, length-drop m part))

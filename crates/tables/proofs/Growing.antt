@@ -2,29 +2,22 @@
 -- `inv` is the loop's invariant; a turn takes `piece` from what is left, `rest ≡ piece ++ rest'`.
 use Prim.Native.Nat.{ℕ, _+_, _-_, _≤_, _<_}
 use mathlib.Core.Path.{_≡_, refl, sym, _∙_, ap}
-use mathlib.Core.Bool.{Bool, true, false, cond, _||_, _&&_}
+use mathlib.Core.Bool.{Bool, true, false, cond, _||_}
 use mathlib.Core.List.{List, [], _∷_, _++_, flatMap, append-nil, append-assoc}
 use native.Mathlib.Omega.{arith}
-use native.Mathlib.Numerals.{add-one}
 use lib.ListN.{length, getD, take, drop, set, replicate, length-set, length-append, length-replicate}
 use lib.ListN.{drop-of-length-le, take-append-drop, replicate-append-replicate}
-use lib.Seq.{drop-cons, set-at, take-suc, take-suc-set, length-take-le}
+use lib.Seq.{set-at, length-take-le}
 use lib.Dec.{eqb, leb}
 use borrow.Author.Tests.{ne-eqb}
 use Rattle.files.specs.declared.Phy.{Phy}
 use Rattle.files.specs.Lists.{isIn}
 use Rattle.files.specs.Domain.{Domain}
 use Rattle.files.proofs.Members.{isIn-of, in-getD, in-cast, is-true}
+use Rattle.files.proofs.OneMore.{drop-next, set-next}
 use Rattle.wiring.proofs.Searches.{any-go, any-end}
 use Rattle.tables.specs.Tables.{give, giveAll}
 use Rattle.tables.specs.Filling.{add, addAll, Grown}
-
--- one place more, and one place in what is left
-pub take-next : {A : Type 0} (e : A) (l : List A) (k : ℕ) → k < length l → take (k + 1) l ≡ take k l ++ (getD l k e ∷ [])
-take-next e l k h = rw add-one (take-suc l k e h)
-
-pub drop-next : {A : Type 0} (e : A) (l : List A) (k : ℕ) → k < length l → drop k l ≡ (getD l k e ∷ []) ++ drop (k + 1) l
-drop-next e l k h = rw add-one (drop-cons l k e h)
 
 -- one place in what is left to go through, place by place
 module _ {A B : Type 0} (f : A → List B) where
@@ -54,10 +47,6 @@ module _ (a i : ℕ) (l : List ℕ) {v : Bool} (inv : isIn a (drop i l) ≡ v) w
   unfolding isIn
   isIn-end h = any-end (eqb a) 0 l i inv h
 
--- one number more
-pub stored : (n : ℕ) (l : List ℕ) (v : ℕ) → n < length l → take (n + 1) (set l n v) ≡ take n l ++ (v ∷ [])
-stored n l v h = rw add-one (take-suc-set l n v h)
-
 pub add-by : (room : ℕ) (l : List ℕ) (j : ℕ) {r a b : Bool} → r ≡ isIn j l → r ≡ a → leb room (length l) ≡ b
     → addAll room l (j ∷ []) ≡ cond (a || b) l (l ++ (j ∷ []))
 unfolding addAll add
@@ -76,7 +65,7 @@ pub grown-kept : (n : ℕ) (next : List ℕ) {l : List ℕ} → l ≡ take n nex
 grown-kept n next q h = record { same = refl; fits = h; whole = sym q }
 
 pub grown-more : (n : ℕ) (next : List ℕ) {l : List ℕ} (j : ℕ) → l ≡ take n next ++ (j ∷ []) → n < length next → Grown next (set next n j) (n + 1) l
-grown-more n next j q h = record { same = length-set next n j; fits = omega arith; whole = stored n next j h ∙ sym q }
+grown-more n next j q h = record { same = length-set next n j; fits = omega arith; whole = set-next next n j h ∙ sym q }
 
 pub grown-again : {before after : List ℕ} {r : ℕ} {l : List ℕ} → Grown before after r l → Grown after after r l
 grown-again {before} {after} {r} g = let s = g .same in let h = g .fits in record { same = refl; fits = omega arith; whole = g .whole }
@@ -95,7 +84,7 @@ module _ (to k : ℕ) (part words : List ℕ) {v : List ℕ} (inv : take to part
   pub copy-go : to < length part → k < length words → take (to + 1) (set part to (getD words k 0)) ++ drop (k + 1) words ≡ v
   copy-go h i =
       let w : List ℕ = getD words k 0 ∷ [] in
-      ap (λ (l : List ℕ). l ++ drop (k + 1) words) (stored to part (getD words k 0) h) ∙ append-assoc (take to part) w (drop (k + 1) words)
+      ap (λ (l : List ℕ). l ++ drop (k + 1) words) (set-next part to (getD words k 0) h) ∙ append-assoc (take to part) w (drop (k + 1) words)
       ∙ ap (λ (l : List ℕ). take to part ++ l) (sym (drop-next 0 words k i)) ∙ inv
 
   pub copy-end : length words ≤ k → take to part ≡ v
@@ -134,8 +123,8 @@ fill-start n l =
     rw (e, append-nil) (sym (take-append-drop n l))
 
 -- one word set after p
-set-next : (p l : List ℕ) (i v : ℕ) → length p ≡ i → i < length l → set (p ++ drop i l) i v ≡ (p ++ (v ∷ [])) ++ drop (i + 1) l
-set-next p l i v q h =
+set-after : (p l : List ℕ) (i v : ℕ) → length p ≡ i → i < length l → set (p ++ drop i l) i v ≡ (p ++ (v ∷ [])) ++ drop (i + 1) l
+set-after p l i v q h =
     ap (λ (r : List ℕ). set (p ++ r) i v) (drop-next 0 l i h) ∙ set-at p (getD l i 0) (drop (i + 1) l) v i q
     ∙ sym (append-assoc p (v ∷ []) (drop (i + 1) l))
 
@@ -147,7 +136,7 @@ module _ (n i : ℕ) (l m : List ℕ) (inv : m ≡ (take n l ++ replicate (i - n
       length-append (take n l) (replicate (i - n) o) ∙ omega (arith, length-take-le n l (omega arith), length-replicate {A = ℕ} (i - n) o) in
       let e : i - n + 1 ≡ i + 1 - n = omega arith in
       let z : replicate (i - n) o ++ (o ∷ []) ≡ replicate (i + 1 - n) o = replicate-append-replicate (i - n) 1 o ∙ ap (λ (x : ℕ). replicate x o) e in
-      ap (λ (r : List ℕ). set r i o) inv ∙ set-next (take n l ++ replicate (i - n) o) l i o s k
+      ap (λ (r : List ℕ). set r i o) inv ∙ set-after (take n l ++ replicate (i - n) o) l i o s k
       ∙ ap (λ (r : List ℕ). r ++ drop (i + 1) l) (append-assoc (take n l) (replicate (i - n) o) (o ∷ []) ∙ ap (λ (r : List ℕ). take n l ++ r) z)
 
   pub fill-end : i ≤ length l → length l ≤ i → m ≡ take n l ++ replicate (length l - n) 0

@@ -11,7 +11,7 @@ use Rattle.files.specs.declared.Phy.{Phy}
 use Rattle.files.specs.declared.Phy.the-variants.{Vacant}
 use Rattle.files.specs.Lists.{any, isIn, In, Distinct, last}
 use Rattle.files.specs.Domain.{Domain, expanderAt, phyAt, addressOf, attributeOf, routes, attached, toExpander, bears, numberOf}
-use Rattle.files.proofs.Members.{tests, or-cases, or-left, or-right, T?, is-true, is-false, same-test, in-cast, in-append, in-left, in-right, getD-in, isIn-of, of-isIn, last-in}
+use Rattle.files.proofs.Members.{tests, or-cases, or-left, or-right, T?, is-true, is-false, same-test, in-cast, in-append, in-left, in-right, getD-in, isIn-of, of-isIn}
 use Rattle.wiring.specs.Neighbours.{neighbours}
 use Rattle.wiring.proofs.Walks.{same-rest}
 use Rattle.wiring.proofs.Wires.{Way, To, Wired, one-step, plain-attribute, differ, far-below, far-is, to-adj, adj-symmetric}

@@ -3,7 +3,7 @@
 use Prim.Native.Nat.{ℕ}
 use mathlib.Core.Path.{_≡_, refl, sym, _∙_, ap, subst}
 use mathlib.Core.Bool.{Bool, cond, _&&_}
-use mathlib.Core.List.{List, [], _∷_, _++_, flatMap}
+use mathlib.Core.List.{List, [], _∷_, flatMap}
 use lib.ListN.{length}
 use lib.Dec.{ltb}
 use Rattle.wiring.specs.Frames.{Result, refused, good, then, refusal}
@@ -15,7 +15,7 @@ use Rattle.wiring.specs.Causes.{Place, places, firstIn, firstOf, wiredDomain}
 use Rattle.wiring.specs.Links.{linkedDomain, checkedDomain}
 use Rattle.wiring.specs.Tested.{Linked}
 use Rattle.wiring.specs.Addresses.{IndexRoom}
-use Rattle.files.proofs.Results.{then-good, good-then}
+use Rattle.files.proofs.Results.{then-good}
 use Rattle.wiring.proofs.Wires.{Wired}
 use Rattle.files.proofs.Read.{read-good}
 use Rattle.wiring.proofs.Accepted.{wired-same, wired-iff, linked-iff, linked-same}

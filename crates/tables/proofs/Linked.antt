@@ -1,10 +1,8 @@
 -- Phys of one link.
-use Prim.Native.Nat.{ℕ, _<_}
+use Prim.Native.Nat.{ℕ}
 use mathlib.Core.List.{List}
 use mathlib.Core.Path.{_≡_, sym, _∙_, ap, subst}
 use mathlib.Core.Bool.{Bool, true, _&&_}
-use native.Mathlib.Omega.{arith}
-use lib.ListN.{length}
 use lib.Dec.{T, eqb}
 use Rattle.files.specs.declared.Phy.{Phy}
 use Rattle.files.specs.Domain.{Domain, addressOf, toExpander, numberOf}

@@ -20,7 +20,7 @@ use Rattle.wiring.specs.Tested.{Linked}
 use Rattle.tables.specs.Levels.{levels}
 use Rattle.tables.specs.Tables.{word, heldBy, gives, give, giveAll, levelList}
 use Rattle.tables.specs.Filling.{physOf}
-use Rattle.tables.proofs.Beyond.{FarTable, Link, Table, Sub, Descent, Fall, ClearBut, last-snoc, table-start, table-link, table-back, table-untied, one-sub, fall-chain, fall-snoc, fall-clear, chain-fall, descent-chain, descent-fall, descent-clear, chain-descent, down-leads, levels-down, levels-are-beyond}
+use Rattle.tables.proofs.Beyond.{FarTable, Link, Table, Sub, Descent, Fall, ClearBut, last-snoc, table-start, table-back, table-untied, one-sub, fall-chain, fall-snoc, fall-clear, chain-fall, descent-chain, descent-fall, descent-clear, chain-descent, down-leads, levels-down, levels-are-beyond}
 
 module _ (d : Domain) (x s : ℕ) where
   -- x holds s: it bears s, or has it at an attached phy

@@ -2,10 +2,8 @@
 use Prim.Native.Nat.{ℕ, _+_, _<_}
 use mathlib.Core.Path.{_≡_, refl, sym, _∙_, ap}
 use mathlib.Core.Bool.{Bool, true, false, and-false}
-use mathlib.Core.Logic.{by-cases}
 use mathlib.Core.List.{List, [], flatMap}
 use native.Mathlib.Omega.{arith}
-use native.Mathlib.Decide.{decLt}
 use lib.ListN.{length}
 use lib.Dec.{T, ltb, ltb→lt}
 use Rattle.files.specs.declared.Phy.{Phy}
@@ -15,6 +13,7 @@ use Rattle.tables.specs.Levels.{down}
 use Rattle.tables.specs.Own.{own}
 use Rattle.tables.specs.Prepared.{orderOf, orderList, oneLink, overOwn}
 use Rattle.tables.proofs.Orders.{order-none, order-linked}
+use borrow.Author.Count.{below-more}
 
 -- phys of one link are table phys with the same order
 module _ (d : Domain) (φ ψ : Phy) (one : T (oneLink d φ ψ)) where
@@ -55,5 +54,4 @@ module _ (d : Domain) (i p : ℕ) (φ : Phy) (at : φ ≡ phyAt d i p) where
 
 -- false below p, and at p
 pub below-next : (test : ℕ → Bool) (p : ℕ) → ((k : ℕ) → k < p → test k ≡ false) → test p ≡ false → (k : ℕ) → k < p + 1 → test k ≡ false
-below-next test p all here k h =
-    by-cases (decLt k p) (all k) (λ n. let e : k ≡ p = omega arith in ap test e ∙ here)
+below-next test = below-more (λ k. test k ≡ false)

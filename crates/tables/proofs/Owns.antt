@@ -1,7 +1,7 @@
 -- Own lists: which phys give words to them, by the lowest phy with their address, and lists that grow phy by phy.
 use Prim.Native.Nat.{ℕ, zero, suc, _+_, _*_, _≤_, _<_}
 use mathlib.Core.Path.{_≡_, refl, sym, _∙_, ap, subst}
-use mathlib.Core.Logic.{⊎-elim, by-cases}
+use mathlib.Core.Logic.{by-cases}
 use mathlib.Core.Bool.{Bool, true, false, cond, not, _||_, _&&_}
 use mathlib.Core.List.{List, [], _∷_, _++_, append-nil, append-assoc}
 use native.Mathlib.Decide.{ℕ-discrete, decLt}
@@ -9,19 +9,19 @@ use native.Mathlib.Omega.{arith}
 use native.Mathlib.Numerals.{add-one}
 use lib.ListN.{length, getD, take, drop, set, length-take, length-append, drop-of-length-le, List·getD-eq-default}
 use lib.Seq.{drop-cons, length-take-le, getD-set-same, getD-set-other}
-use lib.Dec.{T, eqb, eqb→eq}
+use lib.Dec.{T, eqb}
 use Rattle.files.specs.declared.Phy.{Phy}
 use Rattle.files.specs.declared.Phy.the-variants.{Vacant}
 use Rattle.files.specs.Lists.{any}
 use Rattle.files.specs.Domain.{Domain, Expander, noExpander, expanderAt, phyAt, addressOf, attached, routes, bears}
 use Rattle.files.specs.Rows.{domainIn}
 use Rattle.files.proofs.Members.{or-right, is-true, was-true}
-use Rattle.files.proofs.InRows.{head-in, no-head}
 use Rattle.tables.specs.Tables.{word}
 use Rattle.tables.specs.Own.{lower, owns, ownFrom, own}
 use Rattle.tables.specs.Filling.{Grown}
 use Rattle.wiring.specs.Addresses.{IndexedLow, lowestPhy}
 use Rattle.wiring.proofs.Entries.{low-told}
+use Rattle.wiring.proofs.EndDevices.{short-in}
 use borrow.Author.Tests.{eq-eqb, ne-eqb}
 use Rattle.tables.specs.Prepared.{OwnHeld, ownsBy}
 use Rattle.tables.proofs.Cells.{cell-count, cell-list, cell-fits}
@@ -137,16 +137,9 @@ from-few l (φ ∷ φs) = go (owns l φ) (from-few (φ ∷ l) φs)
     go true h = omega arith
     go false h = omega arith
 
--- an expander of rows has at most 128 phys
-pub phys-few : (ws : List ℕ) (i : ℕ) → length (expanderAt (domainIn ws) i .phys) ≤ 128
-phys-few ws i =
-    by-cases (decLt i (length (domainIn ws)))
-    (λ h. let e = head-in ws i h .phys in omega arith)
-    (λ h. let e = no-head ws i (omega arith) .phys in omega arith)
-
 pub own-few : (ws : List ℕ) (i : ℕ) → length (own (domainIn ws) i) ≤ 128
 unfolding own
-own-few ws i = omega (arith, from-few [] (expanderAt (domainIn ws) i .phys), phys-few ws i)
+own-few ws i = omega (arith, from-few [] (expanderAt (domainIn ws) i .phys), short-in ws i)
 
 -- past the last expander
 pub own-none : (d : Domain) (i : ℕ) → length d ≤ i → own d i ≡ []

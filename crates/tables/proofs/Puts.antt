@@ -8,12 +8,13 @@ use native.Mathlib.Omega.{arith}
 use native.Mathlib.Nat.{add-zero, zero-add, zero-mul, suc-mul, mul-le-mul, le-of-lt}
 use native.Mathlib.Numerals.{add-one}
 use lib.ListN.{length, getD, take, drop, length-append, length-drop, take-append-drop, drop-of-length-le}
-use lib.Seq.{take-all, take-at, drop-at, drop-cons, drop-drop, length-take-le}
+use lib.Seq.{take-all, take-at, drop-at, drop-drop, length-take-le}
 use mir.Val.{boolByte}
 use Rattle.files.specs.Lists.{keep}
 use Rattle.files.specs.Domain.{Domain, Expander, noExpander, expanderAt, phyAt, routes}
 use Rattle.wiring.specs.Causes.{Place, place, phyPlaces, placesFrom, places}
 use Rattle.files.proofs.Members.{keep-append}
+use Rattle.files.proofs.OneMore.{drop-next}
 use Rattle.tables.specs.Tables.{tablePlaces, size, sizes, needed}
 use Rattle.tables.specs.Filling.{placesAt, withTables, overlay, Put}
 use Rattle.tables.specs.Prepared.{orderList, filledTo, ownTablesOf, ownTables}
@@ -40,7 +41,7 @@ module _ (i n p : ℕ) where
 module _ (d : Domain) (i : ℕ) where
   pub from-next : i < length d → placesFrom i (drop i d) ≡ placesAt d i ++ placesFrom (i + 1) (drop (i + 1) d)
   unfolding placesFrom
-  from-next h = let e : drop i d ≡ expanderAt d i ∷ drop (i + 1) d = rw add-one (drop-cons d i noExpander h) in rw e
+  from-next h = let e = drop-next noExpander d i h in rw e
 
   pub from-last : length d ≤ i → placesFrom i (drop i d) ≡ []
   unfolding placesFrom

@@ -3,7 +3,7 @@ use mathlib.Core.Path.{_≡_, refl, sym, ap, ap₂, subst, _∙_}
 use mathlib.Core.Logic.{inl, inr, ⊎-elim}
 use mathlib.Core.List.{List, [], _∷_, _++_, append-assoc}
 use mathlib.Core.Bool.{Bool, true, false, cond, _&&_}
-use Prim.Native.Nat.{ℕ, _+_, _*_, _-_, _≤_, _<_}
+use Prim.Native.Nat.{ℕ, _+_, _-_, _≤_, _<_}
 use native.Mathlib.Omega.{arith}
 use lib.ListN.{length, getD, take, drop, length-append, length-drop, List·getD-append, List·getD-eq-default}
 use lib.Seq.{take-at, drop-append-add, getD-append-add, getD-take, getD-drop}
@@ -19,7 +19,7 @@ use Rattle.files.proofs.Members.{tests, is-true}
 use Rattle.files.proofs.Domains.{routes-range}
 use Rattle.wiring.proofs.Wires.{in-places}
 use Rattle.tables.specs.Tables.{levelList, table, tables, size, sizes, needed, offsetIn, offset, stretch}
-use Rattle.tables.specs.Entries.{Entries, Room, roomOf, Enough, putBefore}
+use Rattle.tables.specs.Entries.{Entries, roomOf, Enough, putBefore}
 use Rattle.tables.specs.Judge.{judgedTables, tableCall, TablesDone, IndexForIndex}
 use Rattle.tables.specs.declared.TablesGiven.the-variants.{Counts}
 use Rattle.tables.proofs.Tables.{table-length, table-entry, wordsAt, tablesAt, tables-at, words-length, tables-length}

@@ -1,28 +1,22 @@
 -- Words of the tables and the entries that they are: the searches turn by turn, and that word and entry give each other back.
-use Prim.Native.Nat.{ℕ, zero, suc, _+_, _-_, _≤_, _<_}
-use mathlib.Core.Path.{_≡_, refl, sym, _∙_, ap, subst}
-use mathlib.Core.Logic.{_⊎_, inl, inr, by-cases, ⊎-elim}
-use mathlib.Core.Bool.{Bool, true, false, cond, _&&_}
-use mathlib.Core.List.{List, [], _∷_, _++_}
-use native.Mathlib.Omega.{arith}
-use native.Mathlib.Decide.{decLt}
+use Prim.Native.Nat.{ℕ, _+_, _-_, _≤_, _<_}
+use mathlib.Core.Path.{_≡_, refl, sym, _∙_, ap}
+use mathlib.Core.List.{List, _∷_, _++_}
 use lib.ListN.{length, drop}
-use lib.Dec.{T, eqb}
-use borrow.Author.Tests.{lt-ltb, le-ltb, eq-eqb, ne-eqb}
+use borrow.Author.Tests.{lt-ltb, le-ltb}
 use Rattle.wiring.specs.Frames.{Refusal, Result, refused, good, then, refusal}
-use Rattle.files.specs.Lists.{In}
-use Rattle.files.specs.Domain.{Domain, Expander, expanderAt, phyAt, routes}
+use Rattle.files.specs.Domain.{Domain}
 use Rattle.files.specs.declared.Setting.{Setting}
 use Rattle.files.specs.File.{domainRead}
-use Rattle.wiring.specs.Causes.{Place, place, phyPlaces, placesFrom, places}
-use Rattle.tables.specs.Tables.{tablePlaces, size, sizes, needed, offsetIn, offset}
+use Rattle.wiring.specs.Causes.{Place, place, phyPlaces, placesFrom}
+use Rattle.tables.specs.Tables.{tablePlaces, size, needed}
 use Rattle.tables.specs.Judge.{judgedDomain, judged, countsIn}
 use Rattle.tables.specs.Words.{entry, wordIn, wordPlace, wordAnswer, soughtIn, SoughtAt, surveyIn, surveyAnswer}
 use Rattle.tables.specs.declared.Entry.{Entry}
 use Rattle.tables.specs.declared.WordPlace.{WordPlace}
 use Rattle.tables.specs.declared.surveys.Survey.the-variants.{Accepted}
 use Rattle.tables.specs.declared.word_places.Sought.{Sought}
-use Rattle.tables.proofs.Puts.{phys-next, phys-last, from-next, from-last, size-by}
+use Rattle.tables.proofs.Puts.{phys-next, phys-last, from-next, from-last}
 
 module _ (d : Domain) where
   -- a word of the first table, and one after it

@@ -1,6 +1,6 @@
 -- What the judging and table calls prepare before they go through the table phys: each expander's own list, the expanders below each,
 -- and the expanders of a phy's levels in their order.
-use Prim.Native.Nat.{ℕ, zero, suc, _*_, _≤_, _<_}
+use Prim.Native.Nat.{ℕ, zero, suc, _*_, _≤_, _<_, _+_}
 use mathlib.Core.Path.{_≡_}
 use mathlib.Core.Bool.{Bool, _||_, _&&_}
 use mathlib.Core.List.{List, [], _∷_, _++_, flatMap}
@@ -9,15 +9,16 @@ use lib.Dec.{T, eqb, ltb}
 use Rattle.wiring.specs.Frames.{Result, refused, good, then}
 use Rattle.files.specs.declared.Phy.{Phy}
 use Rattle.files.specs.Domain.{Domain, expanderAt, phyAt, addressOf, routes, attached, toExpander, numberOf}
-use Rattle.wiring.specs.Causes.{Place, places, firstOf}
+use Rattle.wiring.specs.Causes.{Place, places, firstOf, place}
 use Rattle.wiring.specs.Checks.{checkedIn}
-use Rattle.wiring.specs.Addresses.{farNumber, lowestPhy}
+use Rattle.wiring.specs.Addresses.{farNumber, lowestPhy, Indexed}
 use Rattle.tables.specs.Levels.{once, down, belowPhys, below}
 use Rattle.tables.specs.Entries.{Entries, putBefore}
-use Rattle.tables.specs.Filling.{withTables}
+use Rattle.tables.specs.Filling.{withTables, placesAt, Grown}
 use Rattle.tables.specs.Judge.{tablesAnswer, countsIn}
 use Rattle.tables.specs.declared.TablesGiven.{TablesGiven}
 use Rattle.tables.specs.Own.{own}
+use Rattle.tables.specs.Tables.{size, sizes, needed}
 
 -- from word stride * i on stand the length of list i and then the list, for each i below n
 abbrev pub Cells : ℕ → (ℕ → List ℕ) → ℕ → List ℕ → Type 0
@@ -99,6 +100,14 @@ pub record FillRoom (d : Domain) (words bytes numbers : List ℕ) : Type 0 where
   pub below : 66 * length d ≤ length bytes
   pub order : 65 * length d < length numbers
 
+-- writing the table of phy p of expander i from `at` on rests on these: own lists, the phy's order, and room
+abbrev pub TableReady : Domain → List ℕ → List ℕ → ℕ → ℕ → List ℕ → ℕ → Type 0
+TableReady d lists order i p words at = OwnHeld d lists × ((order ≡ orderOf d (phyAt d i p)) × (Fillable d × (at + size d (place i p) ≤ length words)))
+
+-- writing all tables: who has which address, and room
+abbrev pub AllReady : Domain → List ℕ → List ℕ → List ℕ → Type 0
+AllReady d first low words = Indexed d first low × (Fillable d × (needed d ≤ length words))
+
 -- the entries tell which expander each phy is attached to that is attached to one
 abbrev pub FarsKnown : Domain → List ℕ → Type 0
 FarsKnown d first = (i p : ℕ) → T (toExpander (phyAt d i p)) → farNumber d first i p ≡ numberOf d (addressOf (phyAt d i p))
@@ -107,6 +116,19 @@ FarsKnown d first = (i p : ℕ) → T (toExpander (phyAt d i p)) → farNumber d
 pub record PhyIndexed (d : Domain) (first : List ℕ) (i p : ℕ) (φ : Phy) : Type 0 where
   pub index : FarsKnown d first
   pub phy : φ ≡ phyAt d i p
+
+-- the order of one phy: what is below each expander, and room for the numbers
+abbrev pub OrderReady : Domain → List ℕ → List ℕ → Type 0
+OrderReady d below order = BelowHeld d below × (65 * length d < length order)
+
+-- the same, where the first n numbers are the order of φ
+abbrev pub OrderKept : Domain → List ℕ → List ℕ → ℕ → Phy → Type 0
+OrderKept d below order n φ = BelowHeld d below × ((65 * length d < length order) × Grown order order n (orderOf d φ))
+
+-- writing the tables of expander i from `at` on: which expanders its phys are attached to, own lists, what is below each, and room
+abbrev pub TablesReady : Domain → List ℕ → List ℕ → List ℕ → List ℕ → ℕ → List ℕ → ℕ → Type 0
+TablesReady d first lists below order i words at =
+    FarsKnown d first × (OwnHeld d lists × (BelowHeld d below × ((65 * length d < length order) × (Fillable d × (at + sizes d (placesAt d i) ≤ length words)))))
 
 -- φ, phy p of expander i, gives its word to the own list, by the lowest phy with its address
 abbrev pub ownsBy : List ℕ → ℕ → ℕ → Phy → Bool

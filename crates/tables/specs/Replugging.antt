@@ -4,16 +4,16 @@ use Prim.Native.Nat.{ℕ, suc, _*_, _≤_, _<_}
 use mathlib.Core.Path.{_≡_}
 use mathlib.Core.Logic.{_≢_}
 use mathlib.Core.Bool.{Bool, false, cond, not, _&&_}
-use mathlib.Core.List.{List, [], _∷_}
+use mathlib.Core.List.{List, _∷_}
 use lib.ListN.{length, take, drop}
 use lib.Dec.{eqb, leb}
 use Rattle.wiring.specs.Frames.{Result, refused, good, unless, then, refusal}
 use Rattle.files.specs.declared.Phy.{Phy}
 use Rattle.files.specs.declared.Phy.the-variants.{Vacant, Present}
 use Rattle.files.specs.Lists.{isIn}
-use Rattle.files.specs.Domain.{Domain, expanderAt, phyAt, addressOf, toEnd, toExpander, numberOf}
+use Rattle.files.specs.Domain.{Domain, expanderAt, phyAt, addressOf, toEnd}
 use Rattle.wiring.specs.Causes.{Place, clashing, firstIn, firstOf}
-use Rattle.wiring.specs.Addresses.{isTaken, farNumber}
+use Rattle.wiring.specs.Addresses.{isTaken}
 use Rattle.files.specs.PhySet.{setPhy, withWords}
 use Rattle.tables.specs.Entries.{Entries, Room}
 use Rattle.tables.specs.Filling.{placesAt}

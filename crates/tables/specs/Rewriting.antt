@@ -1,9 +1,10 @@
 -- What the functions that write touched tables afresh promise: the numbers from a place on renewed, how far they went, and what they counted.
-use Prim.Native.Nat.{ℕ, suc, _+_, _*_, _/_, _%_, _^_, _≤_}
+use Prim.Native.Nat.{ℕ, _+_, _*_, _≤_}
 use mathlib.Core.Path.{_≡_}
 use mathlib.Core.Bool.{Bool}
 use mathlib.Core.List.{List, _++_}
 use lib.ListN.{length, take, drop}
+pub use Rattle.frames.specs.Bits.{withBit}
 use Rattle.wiring.specs.Frames.{bitsOf, zeroBits}
 use Rattle.files.specs.Lists.{keep}
 use Rattle.files.specs.Domain.{Domain}
@@ -13,10 +14,6 @@ use Rattle.tables.specs.Entries.{Entries, roomOf}
 use Rattle.tables.specs.Refilling.{renewed, changed}
 use Rattle.tables.specs.Replugging.{ownTouched, ownTableAt}
 use Rattle.tables.specs.declared.refilling.Tally.{Tally}
-
--- a number with bit b above its lowest k bits
-abbrev pub withBit : ℕ → ℕ → ℕ → ℕ
-withBit v k b = v / 2 ^ suc k * 2 ^ suc k + (b * 2 ^ k + v % 2 ^ k)
 
 -- numbers renewed from a place on, where the tables at these places stand one after the other
 unfoldable pub renewedAt : Domain → (Place → Bool) → (Place → List ℕ) → List Place → ℕ → List ℕ → List ℕ

@@ -1,5 +1,5 @@
 -- What the layers above use of wiring, files and frames.
-pub use Rattle.wiring.specs.Frames.{byte, bytesFor, zeroBit, Refusal, Result, refused, good, unless, then, refusal, Exactly}
+pub use Rattle.wiring.specs.Frames.{byte, bytesFor, zeroBit, Refusal, Result, refused, good, unless, then, refusal, newAfter, Exactly}
 unfoldable pub use Rattle.wiring.specs.Frames.{numberBits, field, bitsOf, packedIn, marked}
 pub use Rattle.wiring.specs.Frames.{General, LongGeneral, Discover, Route, generalRead, generalAnswer, GeneralSas2, short, long, generalReadSas2, sas2Answer}
 pub use Rattle.wiring.specs.Frames.{Discovered, vacant, fields, discoverRead, discoverAnswer}
@@ -25,5 +25,5 @@ unfoldable pub use Rattle.wiring.specs.Causes.{phyPlaces, placesFrom}
 pub use Rattle.wiring.specs.Checks.{checkAnswer, FileRoom}
 pub use Rattle.wiring.specs.Addresses.{IndexedFirst, IndexRoom}
 pub use Rattle.wiring.specs.Graph.{Steps, self}
-pub use Rattle.wiring.specs.Neighbours.{neighbours, wiringCall, wiringAnswer, bitsSet, wordsAfter}
+pub use Rattle.wiring.specs.Neighbours.{neighbours, wiringCall, wiringAnswer, bitsSet}
 pub use Rattle.wiring.specs.Devices.{LoopIn, ChainIn, TableToTable, Clear, ClearChain, NoTableToTable, Home, Borne}

@@ -15,7 +15,7 @@ ghost use Rattle.wiring.specs.Causes.{place, placesFrom};
 ghost use Rattle.files.specs.Rows.{domainIn};
 ghost use Rattle.tables.specs.Tables.{tablePlaces, size, sizes, needed};
 ghost use Rattle.tables.specs.Filling.{placesAt, withTables, Put};
-ghost use Rattle.tables.specs.Prepared.{FarsKnown, OwnHeld, BelowHeld, orderOf, ownTablesOf, ownTables, FillRoom, Fillable};
+ghost use Rattle.tables.specs.Prepared.{ownTablesOf, ownTables, FillRoom, Fillable, TableReady, TablesReady, AllReady};
 ghost use Rattle.wiring.specs.Addresses.{Indexed};
 
 // Whether phy p of expander i is a non-vacant table phy.
@@ -95,8 +95,7 @@ fn put_table(
     words: &mut [u64],
     at: usize,
 ) -> usize
-    requires { ⌜ OwnHeld (domainIn (now rows)) (now lists) × ((now order ≡ orderOf (domainIn (now rows)) (phyAt (domainIn (now rows)) (i .0) (p .0)))
-        × (Fillable (domainIn (now rows)) × (at + size (domainIn (now rows)) (place (i .0) (p .0)) ≤ length (now words)))) ⌝ }
+    requires { ⌜ TableReady (domainIn (now rows)) (now lists) (now order) (i .0) (p .0) (now words) at ⌝ }
     ensures { λ r. ⌜ Put (now (words .entry)) (now (words .exit)) at r
         (ownTablesOf (domainIn (now (rows .entry))) (place (i .0) (p .0) ∷ [])) ⌝ }
 {
@@ -120,8 +119,7 @@ fn put_tables(
     words: &mut [u64],
     at: usize,
 ) -> usize
-    requires { ⌜ FarsKnown (domainIn (now rows)) (now first) × (OwnHeld (domainIn (now rows)) (now lists) × (BelowHeld (domainIn (now rows)) (now below) × ((65 * length (domainIn (now rows)) < length (now order))
-        × (Fillable (domainIn (now rows)) × (at + sizes (domainIn (now rows)) (placesAt (domainIn (now rows)) (i .0)) ≤ length (now words)))))) ⌝ }
+    requires { ⌜ TablesReady (domainIn (now rows)) (now first) (now lists) (now below) (now order) (i .0) (now words) at ⌝ }
     ensures { λ r. ⌜ Put (now (words .entry)) (now (words .exit)) at r
         (ownTablesOf (domainIn (now (rows .entry))) (placesAt (domainIn (now (rows .entry))) (i .0))) ⌝ }
 {
@@ -179,7 +177,7 @@ fn put_all_in(
 
 // Writes all tables, with room for at most 8 expanders.
 fn put_few(rows: &[u64], first: &[u16], low: &[u8], words: &mut [u64])
-    requires { ⌜ (length (domainIn (now rows)) ≤ 8) × (Indexed (domainIn (now rows)) (now first) (now low) × (Fillable (domainIn (now rows)) × (needed (domainIn (now rows)) ≤ length (now words)))) ⌝ }
+    requires { ⌜ (length (domainIn (now rows)) ≤ 8) × AllReady (domainIn (now rows)) (now first) (now low) (now words) ⌝ }
     ensures { λ _. ⌜ now (words .exit) ≡ ownTables (domainIn (now (rows .entry))) ++ drop (needed (domainIn (now (rows .entry)))) (now (words .entry)) ⌝ }
 {
     let mut lists = [0u64; 1032];
@@ -198,7 +196,7 @@ fn put_few(rows: &[u64], first: &[u16], low: &[u8], words: &mut [u64])
 
 // Writes all tables, with room for the most expanders.
 fn put_many(rows: &[u64], first: &[u16], low: &[u8], words: &mut [u64])
-    requires { ⌜ Indexed (domainIn (now rows)) (now first) (now low) × (Fillable (domainIn (now rows)) × (needed (domainIn (now rows)) ≤ length (now words))) ⌝ }
+    requires { ⌜ AllReady (domainIn (now rows)) (now first) (now low) (now words) ⌝ }
     ensures { λ _. ⌜ now (words .exit) ≡ ownTables (domainIn (now (rows .entry))) ++ drop (needed (domainIn (now (rows .entry)))) (now (words .entry)) ⌝ }
 {
     let mut lists = [0u64; 8256];
@@ -218,7 +216,7 @@ fn put_many(rows: &[u64], first: &[u16], low: &[u8], words: &mut [u64])
 // Writes all tables. Few expanders need little room. Words after 64 rows say nothing; that it calls itself there gives each
 // room a stack frame of its own (docs/DECISIONS.md, 17).
 pub(crate) fn put_all(rows: &[u64], first: &[u16], low: &[u8], words: &mut [u64])
-    requires { ⌜ Indexed (domainIn (now rows)) (now first) (now low) × (Fillable (domainIn (now rows)) × (needed (domainIn (now rows)) ≤ length (now words))) ⌝ }
+    requires { ⌜ AllReady (domainIn (now rows)) (now first) (now low) (now words) ⌝ }
     ensures { λ _. ⌜ now (words .exit) ≡ ownTables (domainIn (now (rows .entry))) ++ drop (needed (domainIn (now (rows .entry)))) (now (words .entry)) ⌝ }
 {
     if rows.len() > 16512 {

@@ -5,9 +5,6 @@ use crate::all_tables;
 use crate::overlong;
 use wiring::Check;
 use wiring::DomainRead;
-use wiring::ExpanderNumber;
-use wiring::PhyId;
-use wiring::Refusal;
 use wiring::Setting;
 ghost use Rattle.tables.specs.Entries.{entries, roomOf};
 ghost use mathlib.Core.Path.{_≡_};
@@ -109,11 +106,7 @@ pub fn judge(setting: Setting, file: &[u8]) -> Judgement
 fn refuse(number: u8) -> TablesGiven
     ensures { λ r. ⌜ r ≡ NotGiven (refusal number 0 0) ⌝ }
 {
-    TablesGiven::Refused(Refusal {
-        number: number,
-        expander: ExpanderNumber(0),
-        phy: PhyId(0),
-    })
+    TablesGiven::Refused(wiring::refused(number))
 }
 
 // Causes 7 to 12, 23 and 14 as `judge_rows` has them, then 16 and 18, then all tables by own lists and their disable bits:

@@ -20,9 +20,11 @@ pub use calls::give_rows;
 pub use calls::give_tables;
 pub use calls::judge;
 pub use calls::judge_rows;
+pub use own::phy_bears;
 pub use replugging::replug_rows;
 pub use surveys::needed;
 pub use surveys::word_place;
+pub use word_places::size_at;
 
 // What the layers above use of the layers below.
 pub use wiring::Check;
@@ -62,6 +64,7 @@ pub use wiring::read_domain;
 pub use wiring::read_general;
 pub use wiring::read_general_sas2;
 pub use wiring::read_route;
+pub use wiring::refused;
 pub use wiring::stated_count;
 pub use wiring::widest;
 pub use wiring::wire;

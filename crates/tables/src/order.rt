@@ -12,7 +12,7 @@ ghost use Rattle.files.specs.Domain.{phyAt};
 ghost use Rattle.files.specs.Rows.{domainIn};
 ghost use Rattle.tables.specs.Levels.{belowPhys};
 ghost use Rattle.tables.specs.Filling.{Grown};
-ghost use Rattle.tables.specs.Prepared.{BelowHeld, belowOnce, orderOf, PhyIndexed};
+ghost use Rattle.tables.specs.Prepared.{BelowHeld, belowOnce, orderOf, PhyIndexed, OrderReady, OrderKept};
 
 // Copies the numbers after the first m of `order`, and yields how many there are then.
 fn append_numbers(order: &mut [u8], m: usize, more: &[u8]) -> usize
@@ -74,7 +74,7 @@ pub(crate) fn put_order(
     f: Phy,
     order: &mut [u8],
 ) -> usize
-    requires { ⌜ PhyIndexed (domainIn (now rows)) (now first) (i .0) (p .0) f × (BelowHeld (domainIn (now rows)) (now below) × (65 * length (domainIn (now rows)) < length (now order))) ⌝ }
+    requires { ⌜ PhyIndexed (domainIn (now rows)) (now first) (i .0) (p .0) f × OrderReady (domainIn (now rows)) (now below) (now order) ⌝ }
     ensures { λ r. ⌜ Grown (now (order .entry)) (now (order .exit)) r (orderOf (domainIn (now (rows .entry))) f) ⌝ }
 {
     let turns = wiring::expander_count(rows) as usize;
@@ -104,8 +104,7 @@ pub(crate) fn order_for(
     f: Phy,
     order: &mut [u8],
 ) -> usize
-    requires { ⌜ (PhyIndexed (domainIn (now rows)) (now first) (i .0) (p .0) f × (g ≡ phyAt (domainIn (now rows)) (i .0) (q .0)))
-        × (BelowHeld (domainIn (now rows)) (now below) × ((65 * length (domainIn (now rows)) < length (now order)) × Grown (now order) (now order) n (orderOf (domainIn (now rows)) g))) ⌝ }
+    requires { ⌜ (PhyIndexed (domainIn (now rows)) (now first) (i .0) (p .0) f × (g ≡ phyAt (domainIn (now rows)) (i .0) (q .0))) × OrderKept (domainIn (now rows)) (now below) (now order) n g ⌝ }
     ensures { λ r. ⌜ Grown (now (order .entry)) (now (order .exit)) r (orderOf (domainIn (now (rows .entry))) f) ⌝ }
 {
     if wiring::phy_type(f) < 2 {

@@ -8,18 +8,16 @@ ghost use mathlib.Core.Bool.{cond};
 ghost use mathlib.Core.List.{[], _∷_, _++_};
 ghost use Prim.Native.Nat.{_+_, _*_, _≤_, _<_};
 ghost use lib.ListN.{length, take};
-ghost use lib.Dec.{T};
-ghost use Rattle.files.specs.Lists.{any};
-ghost use Rattle.files.specs.Domain.{expanderAt, addressOf, bears};
+ghost use Rattle.files.specs.Domain.{bears};
 ghost use Rattle.files.specs.Rows.{domainIn};
 ghost use Rattle.tables.specs.Tables.{word};
-ghost use Rattle.tables.specs.Own.{lower, owns, own};
+ghost use Rattle.tables.specs.Own.{own};
 ghost use Rattle.tables.specs.Filling.{Grown};
 ghost use Rattle.tables.specs.Prepared.{OwnHeld, Counted, ownsBy};
 ghost use Rattle.wiring.specs.Addresses.{IndexedLow};
 
 // Whether it is an attached phy that bears the address.
-pub(crate) fn phy_bears(s: u64, f: Phy) -> bool
+pub fn phy_bears(s: u64, f: Phy) -> bool
     ensures { λ r. ⌜ r ≡ bears s f ⌝ }
 {
     if wiring::phy_type(f) == 0 {

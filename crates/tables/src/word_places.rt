@@ -4,7 +4,6 @@ use crate::WordPlace;
 use crate::all_tables::is_table;
 use wiring::ExpanderNumber;
 use wiring::PhyId;
-use wiring::Refusal;
 use wiring::RouteIndex;
 ghost use mathlib.Core.Path.{_≡_};
 ghost use Prim.Native.Nat.{_<_};
@@ -20,7 +19,7 @@ enum Sought {
 }
 
 // How many words the table of phy p of expander i has; 0 where that is no table phy.
-pub(crate) fn size_at(rows: &[u64], i: ExpanderNumber, p: PhyId) -> u64
+pub fn size_at(rows: &[u64], i: ExpanderNumber, p: PhyId) -> u64
     ensures { λ r. ⌜ (r ≡ size (domainIn (now (rows .entry))) (place (i .0) (p .0))) × (r < 65536) ⌝ }
 {
     if !is_table(rows, i, p) {
@@ -70,9 +69,5 @@ pub(crate) fn place_of_word(rows: &[u64], k: u64) -> WordPlace
             }
         }
     }
-    WordPlace::Refused(Refusal {
-        number: 15,
-        expander: ExpanderNumber(0),
-        phy: PhyId(0),
-    })
+    WordPlace::Refused(wiring::refused(15))
 }

@@ -1,8 +1,8 @@
 -- Demand 3, whole: over a domain that is read, under any setting, and past causes 7 to 10; and over a domain file.
 use mathlib.Core.Path.{_≡_, refl, sym, ap, subst, _∙_}
-use mathlib.Core.Logic.{inl, inr, _↔_, ⊎-elim}
+use mathlib.Core.Logic.{inl, inr, _↔_}
 use mathlib.Core.List.{List, [], _∷_, _++_}
-use Prim.Native.Nat.{ℕ, _≤_, _<_}
+use Prim.Native.Nat.{ℕ, _<_}
 use lib.ListN.{length, take, drop}
 use lib.Seq.{take-at}
 use Rattle.tables.specs.Wiring.{bitsOf, marked, Result, good, then, Distinct, Below, Setting, Domain, Read, wiredDomain, wired}
@@ -27,6 +27,11 @@ use Rattle.tracing.specs.Demand.{Starts, ForItself, Uncrossed, EndsAt, S
 use Rattle.tracing.proofs.Asked.{requested-iff}
 use Rattle.tracing.proofs.Passing.{passes-once, passes-below, steps-taken, bad-itself}
 use Rattle.tracing.proofs.Arrives.{tables-given, traced-borne, joined-all, one-chain, traced-arrives, ends-nowhere}
+
+-- where a request ends, its address is borne
+pub ends-home : (d : Domain) (s m p : ℕ) → EndsAt d s m p → Home d s m
+ends-home d s m p (inl e) = inl (e .0)
+ends-home d s m p (inr e) = inr (p, e .0, e .1)
 
 -- every phy identifier is below 255: arrival phy 255 is the expander itself
 module _ (most : Setting) (d : Domain) (read : Read most d) (past : wiredDomain d ≡ good d) (chain : ℕ) where
@@ -114,9 +119,6 @@ module _ (most : Setting) (d : Domain) (read : Read most d) (past : wiredDomain 
         λ r. c .1 (d, tables-iff (judgedDomain chain d) (roomOf before) d .1 (routable-iff chain d past .1 r, h)),
       )
 
-  ends-home : (s m p : ℕ) → EndsAt d s m p → Home d s m
-  ends-home s m p = ⊎-elim (λ e. inl (e .0)) (λ e. inr (p, e .0, e .1))
-
   -- a request over the tables given
   module _ (q : Request) (e : End) (lent after : List ℕ) (o : OverTables d (judgedTables chain d) (judgedRequest chain d) q e lent after) where
     -- what counts of the words after the tables
@@ -153,7 +155,7 @@ module _ (most : Setting) (d : Domain) (read : Read most d) (past : wiredDomain 
 
     arrives-iff : Uncrossed d q → Starts d q → (e .outcome ≡ Arrived) ↔ Borne d (q .address)
     arrives-iff un st = (
-      λ f. let b = arrived-borne (tables d ++ rest) (roomOf (o .filled)) q e lent after a f in (e .last .0, b .0, ends-home (q .address) (e .last .0) (e .phy .0) (b .1)),
+      λ f. let b = arrived-borne (tables d ++ rest) (roomOf (o .filled)) q e lent after a f in (e .last .0, b .0, ends-home d (q .address) (e .last .0) (e .phy .0) (b .1)),
       λ b. delivered un st (b .0) (b .1) (b .2) .outcome,
     )
 

@@ -2,7 +2,7 @@
 -- frames mixed.
 use Prim.Native.Nat.{ℕ}
 use mathlib.Core.Path.{_≡_, refl}
-use mathlib.Core.List.{List, [], _∷_, _++_}
+use mathlib.Core.List.{List, _∷_, _++_}
 use lib.ListN.{take, drop, replicate}
 use Rattle.tables.specs.Wiring.{refused, refusal, Setting, widest}
 use Rattle.tables.specs.Entries.{Entries}

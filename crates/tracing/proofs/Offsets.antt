@@ -9,26 +9,17 @@ use native.Mathlib.Omega.{arith}
 use native.Mathlib.Nat.{add-zero, zero-add}
 use native.Mathlib.Numerals.{add-one}
 use lib.ListN.{length, getD, take, drop, drop-of-length-le}
-use lib.Seq.{drop-cons}
 use lib.Dec.{eqb}
 use borrow.Author.Tests.{eq-eqb, ne-eqb}
-use Rattle.tables.specs.Wiring.{Domain, Expander, noExpander, expanderAt, phyAt, attributeOf}
+use Rattle.tables.specs.Wiring.{Domain, Expander, noExpander, expanderAt}
 use Rattle.tables.specs.Wiring.{bitsOf, any, isIn}
 use Rattle.tables.specs.Wiring.{Place, place, phyPlaces, placesFrom}
 use Rattle.tables.specs.Tables.{size, sizes, offsetIn, offset}
 use Rattle.tables.specs.Entries.{entries, counted}
 use Rattle.tables.proofs.CountedWords.{counted-at}
+use Rattle.tables.proofs.Puts.{sizes-append}
 use Rattle.tracing.specs.Answers.{wordsBefore}
-
-pub size-by : (d : Domain) (i p : ℕ) {b : Bool} → eqb (attributeOf (phyAt d i p)) 2 ≡ b
-    → size d (place i p) ≡ cond b (expanderAt d i .indexes) 0
-unfolding size
-size-by d i p q = rw q
-
-sizes-append : (d : Domain) (l m : List Place) → sizes d (l ++ m) ≡ sizes d l + sizes d m
-unfolding sizes
-sizes-append d [] m = omega arith
-sizes-append d (q ∷ l) m = omega (arith, sizes-append d l m)
+use Rattle.files.proofs.OneMore.{drop-next}
 
 -- the words of the phys of expander i below a phy, one more at a time
 phys-last : (d : Domain) (i q p : ℕ) → sizes d (phyPlaces i q (suc p)) ≡ sizes d (phyPlaces i q p) + size d (place i (q + p))
@@ -115,7 +106,7 @@ module _ (s left k : ℕ) (l : List ℕ) {v : Bool} (inv : isIn s (take left (dr
   unfolding isIn any
   lists-next h g =
       let e : left ≡ suc (left - 1) = omega arith in
-      let f : drop k l ≡ getD l k 0 ∷ drop (k + 1) l = rw add-one (drop-cons l k 0 g) in
+      let f = drop-next 0 l k g in
       ap (λ (n : ℕ). isIn s (take n (drop k l))) e ∙ ap (λ (m : List ℕ). isIn s (take (suc (left - 1)) m)) f
 
   pub lists-stop : getD l k 0 ≡ s → 0 < left → k < length l → true ≡ v

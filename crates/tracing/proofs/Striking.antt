@@ -25,14 +25,14 @@ use Rattle.tables.proofs.Given.{judged-routable, judged-file, judged-wires, tab
 use Rattle.tables.proofs.Exactly.{TablesOf, tables-of}
 use Rattle.tracing.specs.Steps.{Step, onward, cameFrom, step}
 use Rattle.tracing.specs.Trace.{Traced, Request, request, traceCall}
-use Rattle.tracing.specs.Demand.{Starts, EndsAt, Taken, Over, Demand3}
+use Rattle.tracing.specs.Demand.{Starts, Taken, Over, Demand3}
 use Rattle.tracing.specs.Striking.{beside, struck, zeroed, withSet, disabled, Listed, NeverArrives, EarnsIndex}
 use Rattle.tracing.specs.declared.Outcome.{Outcome}
 use Rattle.tracing.specs.declared.Outcome.the-variants.{Arrived}
 use Rattle.tracing.specs.declared.End.{End}
 use Rattle.tracing.proofs.Stepping.{Chosen, atOnce, listed, upward, Stepped, isHere, isEnd, isBad, isLost, isMove, stepped}
 use Rattle.tracing.proofs.Arrives.{home-once}
-use Rattle.tracing.proofs.Demand.{demand3-file, demand3-clear}
+use Rattle.tracing.proofs.Demand.{demand3-file, demand3-clear, ends-home}
 
 -- a word that counts where it could be 0
 was-kept : (m v s : ℕ) → s ≢ 0 → cond (eqb m 0) v 0 ≡ s → (m ≡ 0) × (v ≡ s)
@@ -187,10 +187,6 @@ module _ (d : Domain) (w : Wired d) (words : List ℕ) (s : ℕ) where
   taken-steps : (i arrival : ℕ) (l : List ℕ) (o : Outcome) (p : ℕ) → Taken d words s i arrival l o p → Steps (neighbours d) i l
   taken-steps i arrival [] o p t = tt
   taken-steps i arrival (j ∷ l) o p t = (move-adj i arrival j (t .0) (t .1), taken-steps j (t .0) l o p (t .2))
-
-ends-home : (d : Domain) (s m p : ℕ) → EndsAt d s m p → Home d s m
-ends-home d s m p (inl e) = inl (e .0)
-ends-home d s m p (inr e) = inr (p, e .0, e .1)
 
 module _ (d : Domain) (w : Wired d) {chain : ℕ} (r : Routable chain d) (x p s : ℕ) (z : s ≢ 0) (u : T (routes 2 (phyAt d x p))) (h : In s (levelList d x p)) where
   -- a phy whose list has an address leads to an expander

@@ -8,7 +8,7 @@ use Rattle.tables.specs.Levels.{once, belowPhys, below, nextLevel, levelsFrom, 
 use Rattle.tables.specs.Tables.{heldBy, gives, give, giveAll, levelList, table, tablePlaces, tables, size, offsetIn, stretch}
 use Rattle.tables.specs.Judge.{overlong, judgedDomain}
 use Rattle.tracing.specs.Steps.{pick, subtractively, byTable, directly, step}
-use Rattle.tracing.specs.Trace.{Traced, Request, request, afterStep, traceFrom, traced}
+use Rattle.tracing.specs.Trace.{Request, request, afterStep, traceFrom, traced}
 use Rattle.tracing.specs.declared.Outcome.{Outcome}
 use Rattle.tracing.specs.declared.Outcome.the-variants.{Arrived, NoDestination}
 

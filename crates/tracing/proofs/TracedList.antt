@@ -1,24 +1,25 @@
 -- A list of requests: one answer after the other, and each is that of its request by itself.
 use Prim.Native.Nat.{ℕ, zero, suc, _+_, _*_, _/_, _%_, _≤_, _<_}
 use mathlib.Core.Path.{_≡_, refl, sym, _∙_, ap}
-use mathlib.Core.Bool.{Bool, true, false, _&&_}
+use mathlib.Core.Bool.{Bool, _&&_}
 use mathlib.Core.List.{List, [], _∷_, _++_}
 use native.Mathlib.Omega.{arith}
 use native.Mathlib.Numerals.{add-one}
 use lib.ListN.{length, getD, drop, set, length-drop}
-use lib.Seq.{sets, sets-eq, drop-cons}
+use lib.Seq.{sets, drop-cons}
 use lib.Dec.{leb}
 use borrow.Author.Tests.{lt-ltb, le-ltb}
 use Rattle.tables.specs.Wiring.{bytesFor, Refusal, Result, refused, good, unless, then, refusal, Domain}
 use Rattle.tables.specs.Tables.{needed}
 use Rattle.tables.specs.Entries.{Entries, Room}
 use Rattle.tables.specs.Prepared.{judgedIn}
+use Rattle.tables.proofs.BitSets.{sets-front}
 use Rattle.tracing.specs.declared.TraceAnswer.{TraceAnswer}
 use Rattle.tracing.specs.declared.ListAnswer.{ListAnswer}
 use Rattle.tracing.specs.declared.ListAnswer.the-variants.{Refused, Requests}
 use Rattle.tracing.specs.Trace.{request, tracedRequest, traceAnswer, report, TraceDone}
 use Rattle.tracing.specs.Packing.{packRefusal, packed, endPacked}
-use Rattle.tracing.specs.Many.{oneTraced, oneAnswer, answersOf, requestCount, listFor, listIn, ListTraced}
+use Rattle.tracing.specs.Many.{oneAnswer, answersOf, requestCount, listFor, listIn, ListTraced}
 
 -- one request
 module _ (d : Domain) (t : Entries) (w s : ℕ) where
@@ -67,8 +68,7 @@ module _ (d : Domain) (t : Entries) where
     answers-end answers before e h room =
         let z = few-answers (drop (2 * k) requests) (omega (arith, length-drop (2 * k) requests)) in
         let n = length-answers requests in
-        let l : 0 + length (answersOf d t requests) ≡ requestCount requests = omega arith in
-        sym (ap (sets answers k) z) ∙ e ∙ sets-eq (answersOf d t requests) before 0 (omega arith) ∙ ap (λ (m : ℕ). answersOf d t requests ++ drop m before) l
+        sym (ap (sets answers k) z) ∙ e ∙ sets-front (answersOf d t requests) before (omega arith) ∙ ap (λ (m : ℕ). answersOf d t requests ++ drop m before) n
 
   pub answers-start : (requests answers : List ℕ) → sets answers 0 (answersOf d t (drop (2 * 0) requests)) ≡ sets answers 0 (answersOf d t requests)
   answers-start requests answers = let e : 2 * 0 ≡ 0 = omega arith in rw e refl

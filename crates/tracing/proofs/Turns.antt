@@ -3,31 +3,28 @@ use Prim.Native.Nat.{ℕ, suc, _+_, _-_, _≤_, _<_}
 use mathlib.Core.Path.{_≡_, sym, _∙_, ap, subst}
 use mathlib.Core.List.{List, [], _∷_, _++_, append-nil, append-assoc}
 use native.Mathlib.Omega.{arith}
-use native.Mathlib.Numerals.{add-one}
 use lib.ListN.{length, take, drop, set, length-append, take-append-drop}
-use lib.Seq.{take-suc-set, drop-set-lt, length-take-le, drop-drop}
+use lib.Seq.{drop-set-lt, length-take-le, drop-drop}
 use Rattle.tables.specs.Wiring.{Result, good, Domain}
 use Rattle.tracing.specs.declared.Outcome.{Outcome}
 use Rattle.tracing.specs.declared.Outcome.the-variants.{NoDestination}
 use Rattle.tracing.specs.Steps.{Step, onward, step}
 use Rattle.tracing.specs.Trace.{Traced, endingAt, after, afterStep, traceFrom, Reported}
 use Rattle.tracing.specs.Answers.{endOf, Walked}
+use Rattle.files.proofs.OneMore.{set-next}
 
 abbrev reported : Outcome → ℕ → ℕ → ℕ → Result Reported
 reported o i p count = good (record { outcome = o; last = i; phy = p; count = count })
 
 -- expander i is written as byte k; before it are the expanders passed, after it the bytes as they were
 module _ (k i : ℕ) (bytes bytes₀ : List ℕ) (same : drop k bytes ≡ drop k bytes₀) where
-  wrote : k < length bytes → take (k + 1) (set bytes k i) ≡ take k bytes ++ (i ∷ [])
-  wrote h = rw add-one (take-suc-set bytes k i h)
-
   pub kept : k < length bytes → drop (k + 1) (set bytes k i) ≡ drop (k + 1) bytes₀
   kept h = drop-set-lt (k + 1) bytes k i (omega arith) ∙ sym (drop-drop 1 k bytes) ∙ ap (drop 1) same ∙ drop-drop 1 k bytes₀
 
   written : k < length bytes → set bytes k i ≡ (take k bytes ++ (i ∷ [])) ++ drop (k + 1) bytes₀
   written h =
       sym (take-append-drop (k + 1) (set bytes k i))
-      ∙ ap (λ (x : List ℕ). x ++ drop (k + 1) (set bytes k i)) (wrote h)
+      ∙ ap (λ (x : List ℕ). x ++ drop (k + 1) (set bytes k i)) (set-next bytes k i h)
       ∙ ap (λ (x : List ℕ). (take k bytes ++ (i ∷ [])) ++ x) (kept h)
 
 -- the walk after k steps, at expander i with arrival phy q; `inv` and `same` are the loop's invariant
@@ -47,7 +44,7 @@ module _ (d : Domain) (words : List ℕ) (s n k i q : ℕ) (bytes bytes₀ : Lis
   unfolding afterStep
   walk-go {j} {p} e h g =
       let t : Traced = traceFrom (n - (k + 1)) d words j p s in
-      ap (λ (x : List ℕ). after x t) (wrote k i bytes bytes₀ same g)
+      ap (λ (x : List ℕ). after x t) (set-next bytes k i g)
       ∙ ap (λ (x : List ℕ). record { outcome = t .outcome; last = t .last; phy = t .phy; passed = x })
       (append-assoc (take k bytes) (i ∷ []) (t .passed))
       ∙ turn e h

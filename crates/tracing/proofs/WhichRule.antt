@@ -4,21 +4,20 @@ use mathlib.Core.Path.{_≡_, refl, sym, _∙_, ap}
 use mathlib.Core.Bool.{Bool, true, false, cond, not, _||_, _&&_}
 use mathlib.Core.List.{List, [], _∷_}
 use native.Mathlib.Omega.{arith}
-use native.Mathlib.Numerals.{add-one}
 use lib.ListN.{length, getD, take, drop, drop-of-length-le}
-use lib.Seq.{drop-cons}
 use lib.Dec.{T, eqb, ltb, leb}
 use borrow.Author.Tests.{eq-eqb, ne-eqb, eqb-true, eqb-false}
-use Rattle.tables.specs.Wiring.{bytesFor, Refusal, Result, refused, good, unless, then, refusal, Setting, Domain, expanderAt, phyAt, addressOf, attached, toEnd, domainRead, isIn, any}
+use Rattle.tables.specs.Wiring.{bytesFor, Refusal, Result, refused, good, unless, refusal, Setting, Domain, expanderAt, phyAt, addressOf, attached, domainRead, isIn, any}
 use Rattle.tables.specs.Tables.{needed, offset, stretch}
 use Rattle.tables.specs.Entries.{Entries, Room, roomOf, counted}
 use Rattle.tables.specs.Judge.{judgedDomain}
 use Rattle.tables.specs.Prepared.{judgedIn}
-use Rattle.tracing.specs.Steps.{Step, here, endDevice, bad, lost, Pick, at, nowhere, pick, phyNumbers, cameFrom, moveBy, bearing, listing, subtracting, subtractively, byTable, directly, step}
+use Rattle.tracing.specs.Steps.{here, lost, Pick, at, nowhere, pick, phyNumbers, cameFrom, moveBy, bearing, listing, subtracting, subtractively, byTable, directly, step}
 use Rattle.tracing.specs.Trace.{Request}
 use Rattle.tracing.specs.Answers.{bearingPick, listingPick, subtractingPick}
 use Rattle.tracing.specs.declared.Reason.{Reason}
 use Rattle.tracing.specs.Reasons.{because, indexOf, bySubtraction, byEntry, byPhy, reason, doneBy, stepAllowed, stepRequested, StepTold, stepTold, stepAsked, stepIn, stepCall}
+use Rattle.files.proofs.OneMore.{drop-next}
 
 -- the index of s among the words that are left, from word k on: `inv` is the loop's invariant
 module _ (s left k from : ℕ) (l : List ℕ) {v : ℕ} (inv : k + indexOf s (take left (drop from l)) ≡ v) where
@@ -34,7 +33,7 @@ module _ (s left k from : ℕ) (l : List ℕ) {v : ℕ} (inv : k + indexOf s (ta
   unfolding indexOf
   index-next h g =
       let e : left ≡ suc (left - 1) = omega arith in
-      let f : drop from l ≡ getD l from 0 ∷ drop (from + 1) l = rw add-one (drop-cons l from 0 g) in
+      let f = drop-next 0 l from g in
       ap (λ (n : ℕ). indexOf s (take n (drop from l))) e ∙ ap (λ (m : List ℕ). indexOf s (take (suc (left - 1)) m)) f
 
   pub index-stop : getD l from 0 ≡ s → 0 < left → from < length l → k ≡ v

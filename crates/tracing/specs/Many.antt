@@ -8,7 +8,6 @@ use lib.Dec.{ltb, leb}
 use Rattle.tables.specs.Wiring.{bytesFor, Result, refused, good, unless, then, refusal, Domain}
 use Rattle.tables.specs.Tables.{needed}
 use Rattle.tables.specs.Entries.{Entries, Room}
-use Rattle.tables.specs.Judge.{judgedDomain}
 use Rattle.tables.specs.Prepared.{judgedIn}
 use Rattle.tracing.specs.Trace.{Traced, request, tracedRequest, report}
 use Rattle.tracing.specs.Packing.{packed, endPacked}
@@ -39,10 +38,6 @@ listFor room answers count d =
     unless (leb (needed d) (room .words) && leb count answers) (refusal 16 0 0)
     (unless (leb (bytesFor (needed d)) (room .bits)) (refusal 18 0 0)
     (good d))
-
--- the judging call's causes from 7 on, then 16 and 18: a list on a domain that was read
-abbrev pub judgedList : ℕ → Domain → Room → ℕ → ℕ → Result Domain
-judgedList chain d room answers count = then (judgedDomain chain d) (listFor room answers count)
 
 -- the call on a list of requests with 14 by own lists, and 16 where there is no room for entries of so many slots and phys
 unfoldable pub listIn : ℕ → ℕ → ℕ → Domain → Room → ℕ → ℕ → Result Domain

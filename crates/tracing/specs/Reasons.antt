@@ -1,16 +1,15 @@
 -- Why an expander does what it does with a request: which of steps (i) to (v) applies, and the call that says it of one expander.
 use Prim.Native.Nat.{ℕ, suc}
-use mathlib.Core.Path.{_≡_}
 use mathlib.Core.Bool.{Bool, cond, not, _||_, _&&_}
 use mathlib.Core.List.{List, [], _∷_}
 use lib.ListN.{length}
 use lib.Dec.{eqb, ltb, leb}
-use Rattle.tables.specs.Wiring.{bytesFor, Result, refused, good, unless, then, refusal, Setting, Domain, expanderAt, phyAt, addressOf, attached, toEnd}
+use Rattle.tables.specs.Wiring.{bytesFor, Result, refused, good, unless, then, refusal, Setting, Domain, expanderAt, phyAt, addressOf, attached}
 use Rattle.tables.specs.Tables.{needed, stretch}
 use Rattle.tables.specs.Entries.{Entries, Room, roomOf, counted}
 use Rattle.tables.specs.Judge.{judged}
 use Rattle.tables.specs.Prepared.{judgedIn}
-use Rattle.tracing.specs.Steps.{Step, here, endDevice, bad, lost, Pick, at, nowhere, pick, phyNumbers, cameFrom, moveBy, bearing, listing, subtracting, step}
+use Rattle.tracing.specs.Steps.{Step, here, bad, lost, Pick, at, nowhere, pick, phyNumbers, cameFrom, moveBy, arriving, bearing, listing, subtracting, step}
 use Rattle.tracing.specs.Trace.{Request}
 use Rattle.tracing.specs.Answers.{stepAnswer}
 use Rattle.tracing.specs.declared.Reason.{Reason}
@@ -41,19 +40,24 @@ unfoldable pub byPhy : Pick → Reason → Reason
 byPhy nowhere after = after
 byPhy (at p) after = because 2 p 65535
 
+-- (iv) and (iii), each with what comes after it
+abbrev pub subtractiveReason : Domain → ℕ → ℕ → Reason
+subtractiveReason d i came = bySubtraction d i came (pick (subtracting d i) (phyNumbers d i))
+
+abbrev pub tableReason : Domain → List ℕ → ℕ → ℕ → ℕ → Reason
+tableReason d words i came s = byEntry d words i s (pick (listing d words i s) (phyNumbers d i)) (subtractiveReason d i came)
+
 -- the reason of the step of expander i for address s, arrived at this phy
 unfoldable pub reason : Domain → List ℕ → ℕ → ℕ → ℕ → Reason
 reason d words i arrival s =
     cond (eqb (expanderAt d i .address) s) (because 1 255 65535)
-    (byPhy (pick (bearing d i s) (phyNumbers d i))
-    (byEntry d words i s (pick (listing d words i s) (phyNumbers d i))
-    (bySubtraction d i (cameFrom d i arrival) (pick (subtracting d i) (phyNumbers d i)))))
+    (byPhy (pick (bearing d i s) (phyNumbers d i)) (tableReason d words i (cameFrom d i arrival) s))
 
 -- what a rule does with the phy that it picks, where the request came from this address
 abbrev pub doneBy : Domain → ℕ → ℕ → Reason → Step
 doneBy d i came r =
     cond (eqb (r .rule) 1) here
-    (cond (eqb (r .rule) 2) (cond (eqb (addressOf (phyAt d i (r .phy .0))) came) bad (cond (toEnd (phyAt d i (r .phy .0))) (endDevice (r .phy .0)) (moveBy d i (r .phy .0))))
+    (cond (eqb (r .rule) 2) (arriving d i came (r .phy .0))
     (cond (eqb (r .rule) 3) (cond (eqb (addressOf (phyAt d i (r .phy .0))) came) bad (moveBy d i (r .phy .0)))
     (cond (eqb (r .rule) 4) (moveBy d i (r .phy .0)) lost)))
 

@@ -48,10 +48,12 @@ byTable d i came nowhere after = after
 byTable d i came (at p) after = cond (eqb (addressOf (phyAt d i p)) came) bad (moveBy d i p)
 
 -- (ii): the lowest attached phy bearing the address: arrived there if type 1; else what comes after
+abbrev pub arriving : Domain → ℕ → ℕ → ℕ → Step
+arriving d i came p = cond (eqb (addressOf (phyAt d i p)) came) bad (cond (toEnd (phyAt d i p)) (endDevice p) (moveBy d i p))
+
 unfoldable pub directly : Domain → ℕ → ℕ → Pick → Step → Step
 directly d i came nowhere after = after
-directly d i came (at p) after =
-    cond (eqb (addressOf (phyAt d i p)) came) bad (cond (toEnd (phyAt d i p)) (endDevice p) (moveBy d i p))
+directly d i came (at p) after = arriving d i came p
 
 -- the test of (ii), (iii) and (iv)
 abbrev pub bearing : Domain → ℕ → ℕ → ℕ → Bool

@@ -1,5 +1,5 @@
 -- What the layer above uses of the layers below.
-pub use Rattle.tables.specs.Wiring.{Setting, Refusal, Result, refused, good, then, wiringCall, wiringAnswer, bitsSet, wordsAfter}
+pub use Rattle.tables.specs.Wiring.{Setting, Refusal, Result, refused, good, then, wiringCall, wiringAnswer, bitsSet, newAfter}
 pub use Rattle.tables.specs.Wiring.{General, LongGeneral, Discover, Route, generalRead, generalAnswer, GeneralSas2, short, long, generalReadSas2, sas2Answer}
 pub use Rattle.tables.specs.Wiring.{Discovered, vacant, fields, discoverRead, discoverAnswer}
 pub use Rattle.tables.specs.Wiring.{routeWritten, writeAnswer, bufferAfter, routeRead, routeAnswer}

@@ -7,28 +7,17 @@ use crate::walks::walk;
 use tables::Check;
 use tables::ExpanderNumber;
 use tables::PhyId;
-use tables::Refusal;
+use tables::refused;
 ghost use mathlib.Core.Path.{_≡_};
 ghost use mathlib.Core.List.{_++_};
 ghost use Prim.Native.Nat.{_≤_};
 ghost use lib.ListN.{length, drop};
-ghost use Rattle.tables.specs.Wiring.{domainIn, refusal, IndexedFirst};
+ghost use Rattle.tables.specs.Wiring.{domainIn, IndexedFirst};
 ghost use Rattle.tables.specs.Tables.{needed};
 ghost use Rattle.tables.specs.Entries.{entries, roomOf, Enough};
 ghost use Rattle.tracing.specs.Trace.{request, tracedRequest, TraceDone};
-ghost use Rattle.tracing.specs.Many.{oneAnswer, answersOf, requestCount, listFor, listIn, listAnswer, ListTraced};
+ghost use Rattle.tracing.specs.Many.{oneAnswer, answersOf, requestCount, listFor, listIn, ListTraced};
 ghost use Rattle.tracing.specs.declared.ListAnswer.the-variants.{Refused};
-
-// A refusal at place 0, 0.
-fn refused(number: u8) -> Refusal
-    ensures { λ r. ⌜ r ≡ refusal number 0 0 ⌝ }
-{
-    Refusal {
-        number: number,
-        expander: ExpanderNumber(0),
-        phy: PhyId(0),
-    }
-}
 
 // A request where the tables, their bits and the expanders passed have room: 15 and 17 are left to test.
 fn trace_lent(

@@ -13,8 +13,7 @@ use tables::RouteIndex;
 ghost use mathlib.Core.Path.{_≡_};
 ghost use Rattle.tables.specs.Wiring.{domainIn};
 ghost use Rattle.tables.specs.Entries.{entries, counted};
-ghost use Rattle.tracing.specs.Answers.{bearingPick, listingPick, subtractingPick};
-ghost use Rattle.tracing.specs.Reasons.{because, bySubtraction, byEntry, reason};
+ghost use Rattle.tracing.specs.Reasons.{because, reason, subtractiveReason, tableReason};
 
 // A rule, the phy picked and the route index of the entry that matched.
 fn told(rule: u8, phy: PhyId, index: u16) -> Reason
@@ -29,7 +28,7 @@ fn told(rule: u8, phy: PhyId, index: u16) -> Reason
 
 // (iv), or (v).
 fn subtractive_reason(rows: &[u64], i: ExpanderNumber, came: u64) -> Reason
-    ensures { λ r. ⌜ r ≡ bySubtraction (domainIn (now (rows .entry))) (i .0) came (subtractingPick (domainIn (now (rows .entry))) (i .0)) ⌝ }
+    ensures { λ r. ⌜ r ≡ subtractiveReason (domainIn (now (rows .entry))) (i .0) came ⌝ }
 {
     match pick_subtracting(rows, i) {
         Pick::At(p) => {
@@ -51,9 +50,7 @@ fn table_reason(
     came: u64,
     s: u64,
 ) -> Reason
-    ensures { λ r. ⌜ r ≡ byEntry (domainIn (now (rows .entry))) (counted (entries (now (words .entry)) (now (bits .entry)))) (i .0) s
-        (listingPick (domainIn (now (rows .entry))) (counted (entries (now (words .entry)) (now (bits .entry)))) (i .0) s)
-        (bySubtraction (domainIn (now (rows .entry))) (i .0) came (subtractingPick (domainIn (now (rows .entry))) (i .0))) ⌝ }
+    ensures { λ r. ⌜ r ≡ tableReason (domainIn (now (rows .entry))) (counted (entries (now (words .entry)) (now (bits .entry)))) (i .0) came s ⌝ }
 {
     match pick_listing(rows, words, bits, i, s) {
         Pick::At(p) => {

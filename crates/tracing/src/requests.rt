@@ -4,7 +4,6 @@ use crate::walks::walk;
 use tables::Check;
 use tables::ExpanderNumber;
 use tables::PhyId;
-use tables::Refusal;
 ghost use mathlib.Core.Path.{_≡_};
 ghost use lib.ListN.{length};
 ghost use Rattle.tables.specs.Wiring.{domainIn, IndexedFirst};
@@ -32,11 +31,7 @@ pub(crate) fn is_allowed(rows: &[u64], start: ExpanderNumber, arrival: PhyId) ->
 pub(crate) fn refuse(number: u8) -> Check
     ensures { λ r. ⌜ r ≡ Refused (refusal number 0 0) ⌝ }
 {
-    Check::Refused(Refusal {
-        number: number,
-        expander: ExpanderNumber(0),
-        phy: PhyId(0),
-    })
+    Check::Refused(tables::refused(number))
 }
 
 // Causes 15, 16, 18 and 17, with so many table words, bytes for their bits, and bytes for expanders passed lent.

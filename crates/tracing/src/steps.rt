@@ -1,7 +1,6 @@
 // What an expander does with a request: steps (i) to (v).
 use crate::Step;
 use crate::stretches::lists;
-use crate::stretches::size_at;
 use tables::ExpanderNumber;
 use tables::Phy;
 use tables::PhyId;
@@ -10,10 +9,10 @@ ghost use mathlib.Core.Path.{_≡_};
 ghost use mathlib.Core.Bool.{cond, _&&_};
 ghost use lib.Dec.{T, eqb};
 ghost use Rattle.tables.specs.Wiring.{domainIn};
-ghost use Rattle.tables.specs.Wiring.{IndexedFirst, phyAt, addressOf, attached, bears, routes, toEnd, toExpander};
+ghost use Rattle.tables.specs.Wiring.{IndexedFirst, phyAt, addressOf, attached, routes, toExpander};
 ghost use Rattle.tables.specs.Tables.{offset};
 ghost use Rattle.tables.specs.Entries.{entries, counted};
-ghost use Rattle.tracing.specs.Steps.{bad, endDevice, listing, cameFrom, moveBy, step};
+ghost use Rattle.tracing.specs.Steps.{listing, cameFrom, moveBy, arriving, step};
 ghost use Rattle.tracing.specs.Answers.{stepAnswer, pickAnswer, bearingPick, listingPick, subtractingPick};
 ghost use Rattle.tracing.specs.Answers.{subtractiveStep, tableStep, directStep};
 
@@ -21,16 +20,6 @@ ghost use Rattle.tracing.specs.Answers.{subtractiveStep, tableStep, dire
 pub(crate) enum Pick {
     At(PhyId),
     Nowhere,
-}
-
-// Whether the phy is attached and bears the address.
-fn is_bearing(f: Phy, s: u64) -> bool
-    ensures { λ r. ⌜ r ≡ bears s f ⌝ }
-{
-    if tables::phy_type(f) == 0 {
-        return false;
-    }
-    tables::phy_address(f) == s
 }
 
 // Whether it is a subtractive phy attached to an expander.
@@ -73,7 +62,7 @@ pub(crate) fn pick_bearing(rows: &[u64], i: ExpanderNumber, s: u64) -> Pick
     let n = tables::phy_count(rows, i);
     let mut p: u8 = 0;
     while p < n {
-        if is_bearing(tables::phy_at(rows, i, PhyId(p)), s) {
+        if tables::phy_bears(s, tables::phy_at(rows, i, PhyId(p))) {
             return Pick::At(PhyId(p));
         }
         p += 1;
@@ -98,7 +87,7 @@ pub(crate) fn pick_listing(
         if is_listing(rows, words, bits, i, PhyId(p), at, s) {
             return Pick::At(PhyId(p));
         }
-        at += size_at(rows, i, PhyId(p));
+        at += tables::size_at(rows, i, PhyId(p)) as usize;
         p += 1;
     }
     Pick::Nowhere
@@ -182,7 +171,7 @@ fn table_step(
 // What (ii) does with the phy it picks: phy p of expander i, which is attached.
 fn arrive_unless(rows: &[u64], first: &[u16], i: ExpanderNumber, p: PhyId, came: u64) -> Step
     requires { ⌜ IndexedFirst (domainIn (now rows)) (now first) × T (attached (phyAt (domainIn (now rows)) (i .0) (p .0))) ⌝ }
-    ensures { λ r. ⌜ stepAnswer r ≡ cond (eqb (addressOf (phyAt (domainIn (now (rows .entry))) (i .0) (p .0))) came) bad (cond (toEnd (phyAt (domainIn (now (rows .entry))) (i .0) (p .0))) (endDevice (p .0)) (moveBy (domainIn (now (rows .entry))) (i .0) (p .0))) ⌝ }
+    ensures { λ r. ⌜ stepAnswer r ≡ arriving (domainIn (now (rows .entry))) (i .0) came (p .0) ⌝ }
 {
     let f = tables::phy_at(rows, i, p);
     if tables::phy_type(f) != 1 {

@@ -6,20 +6,10 @@ ghost use mathlib.Core.Path.{_≡_};
 ghost use Prim.Native.Nat.{_<_, _^_};
 ghost use lib.ListN.{length, getD, take, drop};
 ghost use lib.Dec.{eqb};
-ghost use Rattle.tables.specs.Wiring.{domainIn, expanderAt, place, isIn};
-ghost use Rattle.tables.specs.Tables.{size, offset};
+ghost use Rattle.tables.specs.Wiring.{domainIn, expanderAt, isIn};
+ghost use Rattle.tables.specs.Tables.{offset};
 ghost use Rattle.tables.specs.Entries.{entries, counted};
 ghost use Rattle.tracing.specs.Reasons.{indexOf};
-
-// How many words the table of phy p of expander i has; 0 where that is no table phy.
-pub(crate) fn size_at(rows: &[u64], i: ExpanderNumber, p: PhyId) -> usize
-    ensures { λ r. ⌜ (r ≡ size (domainIn (now (rows .entry))) (place (i .0) (p .0))) × (r < 65536) ⌝ }
-{
-    if tables::phy_attribute(tables::phy_at(rows, i, p)) != 2 {
-        return 0;
-    }
-    tables::index_count(rows, i) as usize
-}
 
 // Whether word k counts as s: it is s with its disable bit clear. One whose bit is set counts as 0.
 fn is_entry(words: &[u64], bits: &[u8], k: usize, s: u64) -> bool
@@ -65,7 +55,7 @@ pub(crate) fn stretch_start(rows: &[u64], i: ExpanderNumber, p: PhyId) -> usize
     let mut at = words_before(rows, i);
     let mut q: u8 = 0;
     while q < p.0 {
-        at += size_at(rows, i, PhyId(q));
+        at += tables::size_at(rows, i, PhyId(q)) as usize;
         q += 1;
     }
     at

@@ -7,9 +7,7 @@ use mathlib.Core.List.{List, [], _∷_}
 use native.Mathlib.Decide.{ℕ-discrete, decLt}
 use native.Mathlib.Omega.{arith}
 use native.Mathlib.Nat.{one-mul, mod-eq-of-lt, div-eq-of-lt, zero-div}
-use native.Mathlib.Numerals.{add-one}
 use lib.ListN.{length, getD, take}
-use lib.Seq.{take-suc}
 use lib.Dec.{eqb, eqb→eq}
 use lib.Bits.{bitOr, or-shr, or-step, shifted-even}
 use lib.Pow.{pow-lt, pow-add, shl-shr}
@@ -23,6 +21,7 @@ use Rattle.wiring.specs.Rounds.{hasBit}
 use Rattle.wiring.specs.Cables.{leadsTo, FarSet, Leading}
 use Rattle.files.proofs.Members.{any-same, any-append, eq→eqb, same-test}
 use Rattle.files.proofs.Domains.{numberOf-is}
+use Rattle.files.proofs.OneMore.{take-next}
 use Rattle.wiring.proofs.Finding.{number-le}
 
 -- a bit of what two words hold together
@@ -90,7 +89,7 @@ module _ (d : Domain) where
   pub far-next : (φs : List Phy) (p w v : ℕ) → FarSet d (take p φs) w → FarSet d (getD φs p (Vacant 0) ∷ []) v → p < length φs → FarSet d (take (p + 1) φs) (bitOr w v)
   far-next φs p w v a b h = record {
     bit = λ m l. has-either w v m ∙ ap₂ _||_ (a .bit m l) (b .bit m l) ∙ sym (any-append (leadsTo d m) (take p φs) (getD φs p (Vacant 0) ∷ []))
-        ∙ ap (any (leadsTo d m)) (sym (rw add-one (take-suc φs p (Vacant 0) h)));
+        ∙ ap (any (leadsTo d m)) (sym (take-next (Vacant 0) φs p h));
   }
 
   -- numbers of addresses are the same where the addresses are

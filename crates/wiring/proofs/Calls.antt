@@ -83,8 +83,8 @@ module _ (chain : ℕ) (d : Domain) where
 -- the wiring call past causes 1 to 6
 module _ (d : Domain) where
   module _ (room : ℕ) (before : List ℕ) where
-    pub wiring-short : (x : Result Domain) → x ≡ good d → room < length d → WiringDone (then x (wordsFor room)) (Refused (refusal 16 0 0)) before before
-    wiring-short x e h = rw (e, lt-leb (length d) room h) (record { answers = refl; words = refl })
+    pub wiring-short : (x : Result Domain) (r : Refusal) → x ≡ good d → room < length d → r ≡ refusal 16 0 0 → WiringDone (then x (wordsFor room)) (Refused r) before before
+    wiring-short x r e h q = rw (e, lt-leb (length d) room h) (record { answers = ap refused q; words = refl })
 
     pub wiring-done : (x : Result Domain) (n : ℕ) (after : List ℕ) → x ≡ good d → length d ≤ room → n ≡ bitsIn (neighbourWords d)
         → after ≡ neighbourWords d ++ drop (length d) before → WiringDone (then x (wordsFor room)) (Bits n) before after

@@ -1,16 +1,18 @@
 -- The number of the first expander with an address.
-use Prim.Native.Nat.{ℕ, zero, suc, _≤_, _<_}
-use mathlib.Core.Path.{_≡_}
-use mathlib.Core.Logic.{by-cases}
+use Prim.Native.Nat.{ℕ, zero, suc, _≤_, _<_, _+_}
+use mathlib.Core.Path.{_≡_, refl, _∙_, ap}
+use mathlib.Core.Logic.{by-cases, _≢_}
 use mathlib.Core.List.{[], _∷_}
+use mathlib.Core.Bool.{cond}
 use native.Mathlib.Decide.{decLt}
 use native.Mathlib.Omega.{arith}
-use lib.ListN.{length}
+use lib.ListN.{length, drop, drop-of-length-le}
 use lib.Dec.{eqb}
-use borrow.Author.Tests.{eq-eqb}
-use Rattle.files.specs.Domain.{Domain, expanderAt, numberOf}
+use borrow.Author.Tests.{eq-eqb, ne-eqb}
+use Rattle.files.specs.Domain.{Domain, expanderAt, numberOf, noExpander}
 use Rattle.files.proofs.Members.{by-test}
 use Rattle.files.proofs.Domains.{numberOf-is}
+use Rattle.files.proofs.OneMore.{drop-next}
 
 -- an expander with the address has a number that is no lower
 pub number-le : (d : Domain) (s t : ℕ) → t < length d → expanderAt d t .address ≡ s → numberOf d s ≤ t
@@ -35,3 +37,19 @@ module _ (d : Domain) (s i : ℕ) (least : (x : ℕ) → x < length d → expand
   pub number-none : length d ≤ i → length d ≡ numberOf d s
   number-none h =
       by-cases (decLt (numberOf d s) (length d)) (λ k. absurd (omega (arith, least (numberOf d s) k (numberOf-is d s k)))) (λ k. omega (arith, number-most d s))
+
+-- a search from expander i on for an address: a turn that finds it, one that goes on, and the end
+module _ (d : Domain) (s i : ℕ) {v : ℕ} (inv : i + numberOf (drop i d) s ≡ v) where
+  number-next : i < length d → numberOf (drop i d) s ≡ cond (eqb (expanderAt d i .address) s) 0 (suc (numberOf (drop (i + 1) d) s))
+  unfolding numberOf
+  number-next h = ap (λ (l : Domain). numberOf l s) (drop-next noExpander d i h)
+
+  pub number-stop : i < length d → expanderAt d i .address ≡ s → i ≡ v
+  number-stop h q = let e : numberOf (drop i d) s ≡ 0 = number-next h ∙ rw (eq-eqb (expanderAt d i .address) s q) refl in omega arith
+
+  pub number-go : i < length d → expanderAt d i .address ≢ s → i + 1 + numberOf (drop (i + 1) d) s ≡ v
+  number-go h q = let e : numberOf (drop i d) s ≡ suc (numberOf (drop (i + 1) d) s) = number-next h ∙ rw (ne-eqb (expanderAt d i .address) s q) refl in omega arith
+
+  pub number-end : length d ≤ i → i ≡ v
+  unfolding numberOf
+  number-end h = let e : numberOf (drop i d) s ≡ 0 = ap (λ (l : Domain). numberOf l s) (drop-of-length-le d h) in omega arith

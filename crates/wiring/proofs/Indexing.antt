@@ -2,22 +2,22 @@
 use Prim.Native.Nat.{ℕ, suc, _+_, _-_, _*_, _/_, _%_, _≤_, _<_}
 use mathlib.Core.Path.{_≡_, refl, sym, _∙_, ap, subst}
 use mathlib.Core.Logic.{inl, inr, _≢_, by-cases}
-use mathlib.Core.Bool.{cond, not}
+use mathlib.Core.Bool.{cond}
 use mathlib.Core.List.{List}
 use native.Mathlib.Decide.{ℕ-discrete, decLt}
 use native.Mathlib.Omega.{arith}
 use native.Mathlib.Nat.{sub-zero}
 use lib.ListN.{length, getD, set, length-set, replicate, length-replicate}
-use lib.Dec.{T, eqb, lt→ltb, ltb→lt, le→leb, eqb→eq, not-T}
+use lib.Dec.{T, eqb, lt→ltb, ltb→lt, le→leb}
 use borrow.Author.Tests.{lt-ltb, le-ltb, eq-eqb, ne-eqb}
 use Rattle.files.specs.declared.Phy.{Phy}
 use Rattle.files.specs.Domain.{Domain, expanderAt, phyAt, typeOf, addressOf, attached, toEnd, toExpander, numberOf}
 use Rattle.wiring.specs.SearchTree.{WalkTo}
 use Rattle.wiring.specs.Addresses.{slotsBefore, slotOf, slotPhy, slotAddress, listedFrom, addressFrom, TreeFrom, LowestFrom, numberIn, tells, LowestBelow, found, nobody, FirstOf, LowestPhy, Firsts, Searchable, Addable, AddedTo, FirstsTo, LowsBefore, LowsTo, Indexed}
-use Rattle.files.proofs.Members.{eq→eqb, was-false}
+use Rattle.files.proofs.Members.{eq→eqb}
 use Rattle.files.proofs.InRows.{domain-few}
 use Rattle.files.specs.Rows.{domainIn}
-use Rattle.files.proofs.Domains.{phy-range, expander-range, end-attached, expander-attached, end-no-expander}
+use Rattle.files.proofs.Domains.{phy-range, expander-range, end-attached, expander-attached, end-no-expander, type-attached, type-none}
 use Rattle.wiring.proofs.SearchTrees.{none-has, lowest-has, tree-skip, tree-same, tree-put, tree-none}
 use Rattle.wiring.proofs.EndDevices.{short-in, slot-expander, slot-is, slot-address, device-expander, device-phy, attached-at, lowest-number, no-number, taken-by, lowest-phy, each-set}
 
@@ -246,18 +246,12 @@ module _ (ws : List ℕ) where
     slot-here : slotPhy d (slotOf i p) ≡ f
     slot-here = slot-is d i p phy-few ∙ sym e
 
-    is-attached : typeOf f ≢ 0 → T (attached f)
-    is-attached n = not-T (eqb (typeOf f) 0) (λ t. n (eqb→eq (typeOf f) 0 t))
-
-    not-attached : typeOf f ≡ 0 → ¬ (T (attached f))
-    not-attached z t = was-false (attached f) (ap not (eq-eqb (typeOf f) 0 z)) t
-
     module _ (cells low : List ℕ) (held : LowsTo d i p cells low) where
       pub low-none : typeOf f ≡ 0 → LowsTo d i (p + 1) cells low
-      low-none z = lows-skip d i p cells low held phy-few (rw e at (not-attached z))
+      low-none z = lows-skip d i p cells low held phy-few (rw e at (type-none f z))
 
       pub low-can : typeOf f ≢ 0 → Addable d (slotsBefore i) 128 cells (slotOf i p) (addressOf f)
-      low-can n = can-add-low d i p cells low held (addressOf f) (let a = here-few .0 in let b = here-few .1 in omega arith) phy-few (rw e at (is-attached n)) (sym (ap addressOf e))
+      low-can n = can-add-low d i p cells low held (addressOf f) (let a = here-few .0 in let b = here-few .1 in omega arith) phy-few (rw e at (type-attached f n)) (sym (ap addressOf e))
 
       pub low-next : (after : List ℕ) (r : ℕ) → AddedTo d (slotsBefore i) 128 cells after (slotOf i p) (addressOf f) r
           → LowsTo d i (p + 1) after (set low (128 * i + p) (r - slotsBefore i))
@@ -280,7 +274,7 @@ module _ (ws : List ℕ) where
       first-nothing z = firsts-skip d (here-few .1) (short-in ws) size cells first (slotOf i p) held next (omega arith) (let a = slot-in in omega arith)
           (λ t a b. let k : t ≡ slotOf i p = omega arith in (
             let n = here-few in omega (arith, n .1),
-            λ _ l. not-attached z (rw slot-here at (rw k at l)),
+            λ _ l. type-none f z (rw slot-here at (rw k at l)),
           ))
 
       module _ (one : typeOf f ≡ 1) where

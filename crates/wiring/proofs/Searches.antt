@@ -7,7 +7,6 @@ use native.Mathlib.Omega.{arith}
 use native.Mathlib.Nat.{sub-zero}
 use native.Mathlib.Numerals.{add-one}
 use lib.ListN.{length, getD, drop, drop-of-length-le}
-use lib.Seq.{drop-cons}
 use Rattle.frames.specs.Refusals.{Result, refused, good, then, refusal}
 use Rattle.wiring.specs.declared.Check.{Check}
 use Rattle.files.specs.Lists.{any}
@@ -15,6 +14,7 @@ use Rattle.files.specs.Domain.{Domain, noExpander, expanderAt}
 use Rattle.wiring.specs.Causes.{Place, phyPlaces, placesFrom, firstIn, firstOf, wiredDomain}
 use Rattle.wiring.specs.Checks.{checkAnswer, causeOf}
 use Rattle.files.proofs.Members.{by-test}
+use Rattle.files.proofs.OneMore.{drop-next}
 
 -- one turn of `any`, also past the end
 module _ {A : Type 0} (f : A → Bool) (e : A) where
@@ -26,6 +26,10 @@ module _ {A : Type 0} (f : A → Bool) (e : A) where
   any-skip (x ∷ xs) (suc p) q = any-skip xs p q
 
 module _ {A : Type 0} (f : A → Bool) (e : A) (xs : List A) (p : ℕ) {v : Bool} (inv : any f (drop p xs) ≡ v) where
+  pub any-stop : p < length xs → f (getD xs p e) ≡ true → true ≡ v
+  unfolding any
+  any-stop h q = sym (ap (any f) (drop-next e xs p h) ∙ rw q) ∙ inv
+
   pub any-go : f (getD xs p e) ≡ false → any f (drop (p + 1) xs) ≡ v
   any-go q = rw add-one (sym (any-skip f e xs p q) ∙ inv)
 
@@ -71,7 +75,7 @@ module _ (k : ℕ) (test : ℕ → ℕ → Bool) (d : Domain) where
         → then (checkAnswer d a) (λ _. firstIn k test (placesFrom (i + 1) (drop (i + 1) d)) d) ≡ v
     unfolding placesFrom
     from-next h q l =
-        let e : drop i d ≡ expanderAt d i ∷ drop (i + 1) d = rw add-one (drop-cons d i noExpander l) in
+        let e : drop i d ≡ expanderAt d i ∷ drop (i + 1) d = drop-next noExpander d i l in
         let n = first-append (phyPlaces i 0 (length (expanderAt d i .phys))) (placesFrom (i + 1) (drop (i + 1) d)) in
         rw (told d h q) at (sym n ∙ (rw e at inv))
 

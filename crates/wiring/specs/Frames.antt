@@ -3,7 +3,7 @@ pub use Rattle.frames.specs.Bytes.{byte}
 unfoldable pub use Rattle.frames.specs.Bits.{numberBits, field, bitsOf, packedIn, marked}
 pub use Rattle.frames.specs.Bits.{bytesFor, zeroBit, zeroBits}
 pub use Rattle.frames.specs.declared.Refusal.{Refusal}
-pub use Rattle.frames.specs.Refusals.{Result, refused, good, unless, then, refusal}
+pub use Rattle.frames.specs.Refusals.{Result, refused, good, unless, then, refusal, newAfter}
 pub use Rattle.frames.specs.Exactly.{Exactly}
 pub use Rattle.frames.specs.declared.General.{General}
 pub use Rattle.frames.specs.declared.LongGeneral.{LongGeneral}

@@ -2,11 +2,11 @@
 use Prim.Native.Nat.{ℕ, _+_, _^_}
 use mathlib.Core.Path.{_≡_}
 use mathlib.Core.Bool.{Bool, _||_, _&&_}
-use mathlib.Core.List.{List, [], _∷_, _++_, map}
-use lib.ListN.{length, drop}
+use mathlib.Core.List.{List, [], _∷_, map}
+use lib.ListN.{length}
 use lib.Dec.{eqb, leb}
 use lib.Count.{ones}
-use Rattle.frames.specs.Refusals.{Result, refused, good, unless, then, refusal}
+use Rattle.frames.specs.Refusals.{Result, refused, good, unless, then, refusal, newAfter}
 use Rattle.files.specs.declared.Setting.{Setting}
 use Rattle.wiring.specs.declared.Wiring.{Wiring}
 use Rattle.wiring.specs.declared.Wiring.the-variants.{Refused, Bits}
@@ -56,12 +56,7 @@ wiringAnswer (Bits n) = good n
 abbrev pub bitsSet : List ℕ → Result ℕ
 bitsSet ws = good (bitsIn ws)
 
--- the lent words after the call: the neighbour words, and the words after them as they were; all as they were where refused
-abbrev pub wordsAfter : Result (List ℕ) → List ℕ → List ℕ
-wordsAfter (refused r) before = before
-wordsAfter (good ws) before = ws ++ drop (length ws) before
-
--- all that a wiring call with this outcome promises: the answer, and the words after
+-- all that a wiring call with this outcome promises: the answer, and the lent words after
 pub record WiringDone (outcome : Result (List ℕ)) (answer : Wiring) (before after : List ℕ) : Type 0 where
   pub answers : wiringAnswer answer ≡ then outcome bitsSet
-  pub words : after ≡ wordsAfter outcome before
+  pub words : after ≡ newAfter outcome before

@@ -9,7 +9,7 @@ ghost use mathlib.Core.Bool.{cond};
 ghost use Prim.Native.Nat.{_+_, _-_, _*_, _≤_, _<_};
 ghost use lib.Dec.{eqb};
 ghost use lib.ListN.{length, getD};
-ghost use Rattle.files.specs.Domain.{expanderAt, phyAt};
+ghost use Rattle.files.specs.Domain.{expanderAt, phyAt, numberOf};
 ghost use Rattle.files.specs.Rows.{domainIn};
 ghost use Rattle.wiring.specs.SearchTree.{keyIn, WalkTo};
 ghost use Rattle.wiring.specs.Addresses.{slotsBefore, slotOf, slotWord, addressFrom, farNumber, lowestPhy, tells, attachedAt, KeptBut, IndexRoom, IndexPut};
@@ -246,4 +246,19 @@ pub fn lowest_phy(low: &[u8], i: ExpanderNumber, p: PhyId) -> PhyId
     ensures { λ r. ⌜ r .0 ≡ lowestPhy (now (low .entry)) (i .0) (p .0) ⌝ }
 {
     PhyId(files::byte_at(low, 128 * (i.0 as usize) + (p.0 as usize)))
+}
+
+// The first expander with this address; the count of expanders where there is none.
+pub fn number_of(rows: &[u64], s: u64) -> u8
+    ensures { λ r. ⌜ r ≡ numberOf (domainIn (now (rows .entry))) s ⌝ }
+{
+    let n = files::expander_count(rows);
+    let mut i: u8 = 0;
+    while i < n {
+        if files::expander_address(rows, ExpanderNumber(i)) == s {
+            return i;
+        }
+        i += 1;
+    }
+    n
 }

@@ -11,6 +11,7 @@ mod wiring_call;
 
 pub use addresses::far_number;
 pub use addresses::lowest_phy;
+pub use addresses::number_of;
 pub use links::check_domain;
 pub use wiring_call::wire;
 
@@ -69,6 +70,8 @@ pub use frames::read_discover;
 pub use frames::read_general;
 pub use frames::read_general_sas2;
 pub use frames::read_route;
+pub use frames::refusal_at;
+pub use frames::refused;
 
 // What testing a domain for some causes answers.
 pub enum Check {

@@ -2,7 +2,6 @@
 use crate::Check;
 use frames::ExpanderNumber;
 use frames::PhyId;
-use frames::Refusal;
 ghost use mathlib.Core.Path.{_≡_};
 ghost use Rattle.frames.specs.Refusals.{refusal};
 ghost use Rattle.wiring.specs.declared.Check.the-variants.{Refused};
@@ -11,9 +10,5 @@ ghost use Rattle.wiring.specs.declared.Check.the-variants.{Refused};
 pub(crate) fn check_refused(k: u8, i: ExpanderNumber, p: PhyId) -> Check
     ensures { λ r. ⌜ r ≡ Refused (refusal k (i .0) (p .0)) ⌝ }
 {
-    Check::Refused(Refusal {
-        number: k,
-        expander: i,
-        phy: p,
-    })
+    Check::Refused(frames::refusal_at(k, i, p))
 }

@@ -6,9 +6,6 @@ use crate::causes;
 use crate::neighbours;
 use files::DomainRead;
 use files::Setting;
-use frames::ExpanderNumber;
-use frames::PhyId;
-use frames::Refusal;
 ghost use Prim.Native.Nat.{_≤_};
 ghost use lib.ListN.{length};
 ghost use Rattle.frames.specs.Bytes.{byte};
@@ -30,11 +27,7 @@ fn wire_rows(rows: &[u64], first: &mut [u16], low: &mut [u8], words: &mut [u64])
         Check::Refused(r) => Wiring::Refused(r),
         Check::Passed => {
             if words.len() < files::expander_count(rows) as usize {
-                return Wiring::Refused(Refusal {
-                    number: 16,
-                    expander: ExpanderNumber(0),
-                    phy: PhyId(0),
-                });
+                return Wiring::Refused(frames::refused(16));
             }
             Wiring::Bits(neighbours::put_neighbours(rows, first, words))
         }

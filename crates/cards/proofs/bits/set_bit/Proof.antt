@@ -1,11 +1,10 @@
 -- set_bit writes byte j with the bit in it; past the end there is no byte, and no bit.
 use Prim.Native.Nat.{ℕ}
 use mathlib.Core.Path.{ap, _∙_}
-use native.Mathlib.Omega.{arith}
 use borrow.Author.Needs.{needs}
 use lib.ListN.{set}
 use Rattle.frames.specs.Bits.{bitsOf}
-use Rattle.cards.proofs.BitSets.{bits-set}
+use Rattle.frames.proofs.SetBits.{bits-set}
 use Rattle.cards.proofs.BitPlaces.{bit-past}
 use Rattle.cards.proofs.bits.set_bit.Statement.{statement}
 use Rattle.cards.proofs.bits.set_bit.Tie as tie

@@ -1,7 +1,6 @@
 -- weight shifts 1 by 7 less the bit's place.
 use native.Mathlib.Omega.{arith}
-use borrow.Author.Needs.{needs}
-use Rattle.cards.proofs.BitPlaces.{weighed}
+use Rattle.frames.proofs.SetBits.{weighed}
 use Rattle.cards.proofs.bits.weight.Statement.{statement}
 use Rattle.cards.proofs.bits.weight.Tie as tie
 

@@ -3,8 +3,7 @@ use Prim.Native.Nat.{ℕ, _<_}
 use mathlib.Core.Path.{sym, subst}
 use native.Mathlib.Omega.{arith}
 use borrow.Author.Needs.{needs}
-use Rattle.cards.proofs.BitPlaces.{mixed, mixed-is}
-use Rattle.cards.proofs.BitSets.{withBit-lt}
+use Rattle.frames.proofs.SetBits.{mixed, mixed-is, withBit-lt}
 use Rattle.cards.proofs.bits.with_bit.Statement.{statement}
 use Rattle.cards.proofs.bits.with_bit.Tie as tie
 

@@ -1,5 +1,4 @@
 -- word_from shifts the bits before bit `at` out of eight bytes, and brings in as many of the next byte.
-use Prim.Native.Nat.{ℕ}
 use native.Mathlib.Omega.{arith}
 use borrow.Author.Needs.{needs}
 use Rattle.cards.proofs.BitPlaces.{word-from}

@@ -1,11 +1,9 @@
 -- card_of_file reads the file into rows, and the card is that of the domain in the rows.
-use native.Mathlib.Omega.{arith}
 use borrow.Author.Needs.{needs}
-use Prim.Native.Nat.{ℕ, suc, _+_, _-_, _*_, _/_, _%_, _^_, _≤_, _<_, min}
-use mathlib.Core.Path.{_≡_, refl, sym, _∙_, ap, subst}
-use mathlib.Core.List.{List, [], _∷_, _++_}
-use lib.ListN.{length, take, drop, set, replicate, length-set, length-take, length-drop, length-replicate}
-use lib.Seq.{sets, length-take-le}
+use Prim.Native.Nat.{ℕ, _-_}
+use mathlib.Core.Path.{sym}
+use lib.ListN.{replicate, length-replicate}
+use lib.Seq.{length-take-le}
 use Rattle.wiring.proofs.Opening.{opened-as, opened-fits}
 use Rattle.cards.proofs.Promises.{card-refused, card-made, rows-room}
 use Rattle.cards.proofs.card_call.card_of_file.Statement.{statement}

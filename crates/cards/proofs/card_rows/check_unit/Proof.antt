@@ -1,6 +1,5 @@
 -- check_unit tests an expander's fields as the file's reader does, then whether all its phys were counted.
-use mathlib.Core.Path.{_≡_, sym, _∙_, ap}
-use native.Mathlib.Omega.{arith}
+use mathlib.Core.Path.{sym, _∙_, ap}
 use borrow.Author.Needs.{needs}
 use lib.Dec.{leb}
 use Rattle.frames.specs.Refusals.{unless, refusal}

@@ -1,5 +1,5 @@
 -- count_ranged counts phy p where all before it were counted and 6 does not hold of it.
-use mathlib.Core.Path.{_≡_, sym, _∙_, ap}
+use mathlib.Core.Path.{sym, _∙_, ap}
 use mathlib.Core.Bool.{Bool, _&&_}
 use borrow.Author.Needs.{needs}
 use lib.Dec.{eqb}

@@ -1,7 +1,6 @@
 -- is_ranged asks the file's test of a phy that is not vacant.
-use native.Mathlib.Omega.{arith}
 use borrow.Author.Needs.{needs}
-use mathlib.Core.Path.{_≡_, refl, sym, _∙_, ap, subst}
+use mathlib.Core.Path.{sym, _∙_, ap}
 use Rattle.cards.specs.CardRead.{phyRanged}
 use Rattle.cards.proofs.card_rows.is_ranged.Statement.{statement}
 use Rattle.cards.proofs.card_rows.is_ranged.Tie as tie

@@ -1,5 +1,5 @@
 -- put_phys walks phy after phy; its loop's invariant: what was stored, found and counted, with the phys to come behind, is that of all of them.
-use Prim.Native.Nat.{ℕ, _+_, _-_, _*_, _≤_}
+use Prim.Native.Nat.{_+_, _-_, _*_, _≤_}
 use mathlib.Core.Path.{_≡_, refl, sym, _∙_, ap}
 use mathlib.Core.Bool.{cond, _&&_}
 use native.Mathlib.Omega.{arith}

@@ -1,8 +1,8 @@
 -- put_row clears the row, stores its two words and its phys.
-use Prim.Native.Nat.{ℕ, _+_}
-use mathlib.Core.Path.{_≡_, refl, sym, _∙_, ap}
+use Prim.Native.Nat.{ℕ}
+use mathlib.Core.Path.{refl, _∙_, ap}
 use native.Mathlib.Omega.{arith}
-use lib.ListN.{length, replicate, length-set}
+use lib.ListN.{replicate, length-set}
 use borrow.Author.Needs.{needs}
 use Rattle.frames.specs.Bits.{bitsOf}
 use Rattle.cards.proofs.RowPuts.{row-made}

@@ -1,6 +1,6 @@
 -- walk_card walks expander after expander; its loop's invariant (`Walking`): what was stored, found and tested, with the expanders to come behind, is that of the whole domain.
-use Prim.Native.Nat.{ℕ, _+_, _-_, _*_, _≤_}
-use mathlib.Core.Path.{_≡_, refl, sym, _∙_, ap}
+use Prim.Native.Nat.{_+_, _-_, _*_, _≤_}
+use mathlib.Core.Path.{_≡_, refl, sym, _∙_}
 use native.Mathlib.Omega.{arith}
 use lib.ListN.{length, drop, length-set, length-take, length-drop}
 use lib.Seq.{length-take-le}

@@ -1,14 +1,13 @@
 -- card_of_rows compares the size of the card with the room for it, and puts the card.
 use native.Mathlib.Omega.{arith}
 use borrow.Author.Needs.{needs}
-use Prim.Native.Nat.{ℕ, suc, _+_, _-_, _*_, _/_, _%_, _^_, _≤_, _<_, min}
-use mathlib.Core.Path.{_≡_, refl, sym, _∙_, ap, subst}
-use mathlib.Core.List.{List, [], _∷_, _++_}
-use lib.ListN.{length, take, drop, set, replicate, length-set, length-take, length-drop, length-replicate}
-use lib.Seq.{sets, length-take-le}
-use Rattle.files.specs.Domain.{Domain, Expander, expanderAt, phyAt}
+use Prim.Native.Nat.{ℕ, _+_, _-_}
+use mathlib.Core.Path.{sym, _∙_, ap}
+use mathlib.Core.List.{_++_}
+use lib.ListN.{drop}
+use Rattle.files.specs.Domain.{Domain}
 use Rattle.files.specs.Rows.{domainIn}
-use Rattle.frames.specs.Bits.{numberBits, field, bitsOf, bytesFor}
+use Rattle.frames.specs.Bits.{bytesFor}
 use Rattle.cards.specs.Card.{cardOf}
 use Rattle.cards.proofs.Promises.{not-fitted, fitted, length-card}
 use Rattle.cards.proofs.card_writing.card_of_rows.Statement.{statement}

@@ -1,14 +1,13 @@
 -- put_expanders puts expander after expander; its loop's invariant: the bits with those of the expanders to come put behind are all of them put.
 use native.Mathlib.Omega.{arith}
 use borrow.Author.Needs.{needs}
-use Prim.Native.Nat.{ℕ, suc, _+_, _-_, _*_, _/_, _%_, _^_, _≤_, _<_, min}
-use mathlib.Core.Path.{_≡_, refl, sym, _∙_, ap, subst}
-use mathlib.Core.List.{List, [], _∷_, _++_}
-use lib.ListN.{length, take, drop, set, replicate, length-set, length-take, length-drop, length-replicate}
-use lib.Seq.{sets, length-take-le}
-use Rattle.files.specs.Domain.{Domain, Expander, expanderAt, phyAt}
+use Prim.Native.Nat.{_+_, _-_, _*_, _≤_}
+use mathlib.Core.Path.{_≡_, refl}
+use lib.ListN.{length, drop}
+use lib.Seq.{sets}
+use Rattle.files.specs.Domain.{Domain}
 use Rattle.files.specs.Rows.{domainIn}
-use Rattle.frames.specs.Bits.{numberBits, field, bitsOf, bytesFor}
+use Rattle.frames.specs.Bits.{bitsOf}
 use Rattle.cards.specs.Card.{expandersBits, expandersSize, cardSize}
 use Rattle.cards.proofs.Puts.{total-next, total-none, expanders-turn, expanders-end}
 use Rattle.cards.proofs.card_writing.put_expanders.Statement.{statement}

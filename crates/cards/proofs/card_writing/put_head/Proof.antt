@@ -1,9 +1,8 @@
 -- put_head puts the four numbers one after the other.
-use native.Mathlib.Omega.{arith}
 use borrow.Author.Needs.{needs}
-use Prim.Native.Nat.{ℕ, suc, _+_, _-_, _*_, _/_, _%_, _^_, _≤_, _<_, min}
-use mathlib.Core.Path.{_≡_, refl, sym, _∙_, ap, subst}
-use Rattle.files.specs.Domain.{Domain, Expander, expanderAt, phyAt}
+use Prim.Native.Nat.{ℕ, _-_}
+use mathlib.Core.Path.{_∙_, ap}
+use Rattle.files.specs.Domain.{Expander, expanderAt}
 use Rattle.files.specs.Rows.{domainIn}
 use Rattle.cards.proofs.Puts.{head-put-as}
 use Rattle.cards.proofs.card_writing.put_head.Statement.{statement}

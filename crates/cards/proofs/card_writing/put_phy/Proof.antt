@@ -1,10 +1,9 @@
 -- put_phy puts a vacant phy's bit and result, or what put_present puts.
-use native.Mathlib.Omega.{arith}
 use borrow.Author.Needs.{needs}
-use mathlib.Core.Path.{_≡_, refl, sym, _∙_, ap, subst}
+use mathlib.Core.Path.{sym, _∙_, ap}
 use lib.Seq.{sets}
 use Rattle.files.specs.declared.Phy.{Phy}
-use Rattle.frames.specs.Bits.{numberBits, field, bitsOf, bytesFor}
+use Rattle.frames.specs.Bits.{bitsOf}
 use Rattle.cards.specs.Card.{phyBits}
 use Rattle.cards.proofs.Puts.{vacant-put}
 use Rattle.cards.proofs.card_writing.put_phy.Statement.{statement}

@@ -1,15 +1,15 @@
 -- put_phys puts phy after phy; its loop's invariant: the bits with those of the phys to come put behind are all of them put.
 use native.Mathlib.Omega.{arith}
 use borrow.Author.Needs.{needs}
-use Prim.Native.Nat.{ℕ, suc, _+_, _-_, _*_, _/_, _%_, _^_, _≤_, _<_, min}
-use mathlib.Core.Path.{_≡_, refl, sym, _∙_, ap, subst}
-use mathlib.Core.List.{List, [], _∷_, _++_}
-use lib.ListN.{length, take, drop, set, replicate, length-set, length-take, length-drop, length-replicate}
-use lib.Seq.{sets, length-take-le}
+use Prim.Native.Nat.{_+_, _-_, _*_, _≤_}
+use mathlib.Core.Path.{_≡_, refl, _∙_, ap}
+use mathlib.Core.List.{List}
+use lib.ListN.{length, drop}
+use lib.Seq.{sets}
 use Rattle.files.specs.declared.Phy.{Phy}
-use Rattle.files.specs.Domain.{Domain, Expander, expanderAt, phyAt}
+use Rattle.files.specs.Domain.{expanderAt, phyAt}
 use Rattle.files.specs.Rows.{domainIn}
-use Rattle.frames.specs.Bits.{numberBits, field, bitsOf, bytesFor}
+use Rattle.frames.specs.Bits.{bitsOf}
 use Rattle.cards.specs.Card.{phyBits, physBits, phySize, physSize}
 use Rattle.cards.proofs.Puts.{sizes-next, sizes-none, phys-turn, phys-end}
 use Rattle.cards.proofs.card_writing.put_phys.Statement.{statement}

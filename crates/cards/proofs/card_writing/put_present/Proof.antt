@@ -1,7 +1,5 @@
 -- put_present puts the numbers one after the other.
-use native.Mathlib.Omega.{arith}
 use borrow.Author.Needs.{needs}
-use mathlib.Core.Path.{_≡_, refl, sym, _∙_, ap, subst}
 use Rattle.cards.proofs.Puts.{present-none, present-all}
 use Rattle.cards.proofs.card_writing.put_present.Statement.{statement}
 use Rattle.cards.proofs.card_writing.put_present.Tie as tie

@@ -1,12 +1,11 @@
 -- file_of_rows compares the size of the file with the room for it, and writes the file.
 use native.Mathlib.Omega.{arith}
 use borrow.Author.Needs.{needs}
-use Prim.Native.Nat.{ℕ, suc, _+_, _-_, _*_, _/_, _%_, _^_, _≤_, _<_, min}
-use mathlib.Core.Path.{_≡_, refl, sym, _∙_, ap, subst}
-use mathlib.Core.List.{List, [], _∷_, _++_}
-use lib.ListN.{length, take, drop, set, replicate, length-set, length-take, length-drop, length-replicate}
-use lib.Seq.{sets, length-take-le}
-use Rattle.files.specs.Domain.{Domain, Expander, expanderAt, phyAt}
+use Prim.Native.Nat.{ℕ, _+_, _-_}
+use mathlib.Core.Path.{sym, _∙_, ap}
+use mathlib.Core.List.{_++_}
+use lib.ListN.{drop}
+use Rattle.files.specs.Domain.{Domain}
 use Rattle.files.specs.Rows.{domainIn}
 use Rattle.cards.specs.FileOf.{fileOf}
 use Rattle.cards.proofs.Promises.{not-fitted, fitted}

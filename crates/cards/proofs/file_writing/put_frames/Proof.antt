@@ -1,14 +1,12 @@
 -- put_frames writes response after response; its loop's invariant: the file with the responses to come stored behind is that with all of them.
 use native.Mathlib.Omega.{arith}
 use borrow.Author.Needs.{needs}
-use Prim.Native.Nat.{ℕ, suc, _+_, _-_, _*_, _/_, _%_, _^_, _≤_, _<_, min}
-use mathlib.Core.Path.{_≡_, refl, sym, _∙_, ap, subst}
-use mathlib.Core.List.{List, [], _∷_, _++_}
-use lib.ListN.{length, take, drop, set, replicate, length-set, length-take, length-drop, length-replicate}
-use lib.Seq.{sets, length-take-le}
-use Rattle.files.specs.Domain.{Domain, Expander, expanderAt, phyAt}
+use Prim.Native.Nat.{ℕ, _+_, _-_, _*_, _≤_}
+use mathlib.Core.Path.{_≡_, refl, _∙_}
+use lib.ListN.{length, drop, length-take, length-drop}
+use lib.Seq.{sets}
+use Rattle.files.specs.Domain.{expanderAt}
 use Rattle.files.specs.Rows.{domainIn}
-use Rattle.files.specs.declared.Phy.{Phy}
 use borrow.Rule.Slice.PartMut.{same-len-mid}
 use Rattle.cards.specs.FileOf.{physFrames}
 use Rattle.cards.proofs.FilePuts.{frames-go, frames-end}

@@ -1,20 +1,15 @@
 -- put_head writes the address and the response into the parts of the file that they fill.
 use native.Mathlib.Omega.{arith}
 use borrow.Author.Needs.{needs}
-use Prim.Native.Nat.{ℕ, suc, _+_, _-_, _*_, _/_, _%_, _^_, _≤_, _<_, min}
-use mathlib.Core.Path.{_≡_, refl, sym, _∙_, ap, subst}
-use mathlib.Core.List.{List, [], _∷_, _++_}
-use lib.ListN.{length, take, drop, set, replicate, length-set, length-take, length-drop, length-replicate}
-use lib.Seq.{sets, length-take-le}
+use Prim.Native.Nat.{_+_, _-_}
+use mathlib.Core.Path.{refl, _∙_}
+use lib.ListN.{take, drop, length-take, length-drop}
 use borrow.Rule.Slice.PartMut.{putMid, same-len-mid}
 use Rattle.frames.specs.Bytes.{bytesOf}
-use Rattle.cards.specs.ShortFrames.{shortGeneral}
 use Rattle.frames.specs.declared.General.{General}
 use Rattle.frames.proofs.Numbers.{length-bytesOf}
-use Rattle.cards.proofs.ShortFrames.{length-general}
-use Rattle.files.specs.Domain.{Domain, Expander, expanderAt}
+use Rattle.files.specs.Domain.{Expander, expanderAt}
 use Rattle.files.specs.Rows.{domainIn}
-use Rattle.cards.specs.FileOf.{generalOf}
 use Rattle.cards.proofs.FilePuts.{front-whole, head-put, general-same}
 use Rattle.cards.proofs.file_writing.put_head.Statement.{statement}
 use Rattle.cards.proofs.file_writing.put_head.Tie as tie

@@ -1,13 +1,8 @@
 -- put_phy writes the response of a vacant phy, or of one that is not.
-use native.Mathlib.Omega.{arith}
 use borrow.Author.Needs.{needs}
-use Prim.Native.Nat.{ℕ, suc, _+_, _-_, _*_, _/_, _%_, _^_, _≤_, _<_, min}
-use mathlib.Core.Path.{_≡_, refl, sym, _∙_, ap, subst}
-use mathlib.Core.List.{List, [], _∷_, _++_}
-use lib.ListN.{length, take, drop, set, replicate, length-set, length-take, length-drop, length-replicate}
-use lib.Seq.{sets, length-take-le}
+use Prim.Native.Nat.{_-_}
+use mathlib.Core.Path.{sym, _∙_, ap}
 use Rattle.cards.specs.ShortFrames.{shortDiscover}
-use Rattle.files.specs.declared.Phy.{Phy}
 use Rattle.cards.specs.FileOf.{phyFrame}
 use Rattle.cards.proofs.file_writing.put_phy.Statement.{statement}
 use Rattle.cards.proofs.file_writing.put_phy.Tie as tie

@@ -1,12 +1,11 @@
 -- put_units writes unit after unit; its loop's invariant: the file with the units to come stored behind is that with all of them.
 use native.Mathlib.Omega.{arith}
 use borrow.Author.Needs.{needs}
-use Prim.Native.Nat.{ℕ, suc, _+_, _-_, _*_, _/_, _%_, _^_, _≤_, _<_, min}
-use mathlib.Core.Path.{_≡_, refl, sym, _∙_, ap, subst}
-use mathlib.Core.List.{List, [], _∷_, _++_}
-use lib.ListN.{length, take, drop, set, replicate, length-set, length-take, length-drop, length-replicate}
-use lib.Seq.{sets, length-take-le}
-use Rattle.files.specs.Domain.{Domain, Expander, expanderAt, phyAt}
+use Prim.Native.Nat.{_+_, _-_, _*_, _≤_}
+use mathlib.Core.Path.{_≡_, refl, _∙_}
+use lib.ListN.{length, drop}
+use lib.Seq.{sets}
+use Rattle.files.specs.Domain.{Domain}
 use Rattle.files.specs.Rows.{domainIn}
 use Rattle.cards.specs.FileOf.{unitsOf}
 use Rattle.cards.proofs.FilePuts.{length-next, units-go, units-end}

@@ -1,7 +1,6 @@
 -- is_formed tests in the order of the definition.
-use mathlib.Core.Path.{_≡_, sym, _∙_}
+use mathlib.Core.Path.{sym, _∙_}
 use native.Mathlib.Omega.{arith}
-use borrow.Author.Needs.{needs}
 use borrow.Author.Tests.{not-true, not-false}
 use Rattle.cards.proofs.Walks.{formed-version, formed-zeros, formed-bad, formed-long, formed-fill}
 use Rattle.cards.proofs.reading.is_formed.Statement.{statement}

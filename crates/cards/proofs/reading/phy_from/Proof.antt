@@ -1,5 +1,4 @@
 -- phy_from reads the first eight bits, and the numbers that follow.
-use mathlib.Core.Path.{_≡_, sym, _∙_}
 use native.Mathlib.Omega.{arith}
 use borrow.Author.Needs.{needs}
 use Rattle.frames.specs.Bits.{bitsOf}

@@ -1,7 +1,5 @@
 -- unit_from reads the four numbers of an expander.
-use mathlib.Core.Path.{_≡_, sym, _∙_}
 use native.Mathlib.Omega.{arith}
-use native.Mathlib.Numerals.{add-one}
 use borrow.Author.Needs.{needs}
 use Rattle.frames.specs.Bits.{bitsOf}
 use Rattle.cards.proofs.Walks.{unit-from}

@@ -1,9 +1,9 @@
 -- put_discover clears 52 bytes, stores the fields at their offsets, and has the addresses written into the parts that they fill.
 use Prim.Native.Nat.{ℕ, _*_, _%_}
-use mathlib.Core.Path.{_≡_, refl, sym, _∙_, ap}
+use mathlib.Core.Path.{_≡_, _∙_, ap}
 use native.Mathlib.Omega.{arith}
 use mathlib.Core.List.{List}
-use lib.ListN.{length, replicate, set, length-set}
+use lib.ListN.{replicate, set, length-set}
 use borrow.Author.Needs.{needs}
 use borrow.Rule.Slice.PartMut.{putMid, same-len-mid}
 use Rattle.frames.specs.Bytes.{bytesOf}

@@ -1,8 +1,8 @@
 -- put_general clears 28 bytes and stores the fields at their offsets.
 use Prim.Native.Nat.{ℕ}
-use mathlib.Core.Path.{_≡_, refl, sym, _∙_, ap}
+use mathlib.Core.Path.{_≡_, _∙_, ap}
 use native.Mathlib.Omega.{arith}
-use lib.ListN.{length, replicate, length-set}
+use lib.ListN.{replicate, length-set}
 use borrow.Author.Needs.{needs}
 use Rattle.frames.specs.Bytes.{bytesOf}
 use Rattle.cards.specs.ShortFrames.{shortGeneral}

@@ -1,8 +1,8 @@
 -- put_vacant clears 52 bytes and stores the result.
 use Prim.Native.Nat.{ℕ}
-use mathlib.Core.Path.{_≡_, refl, sym, _∙_, ap}
+use mathlib.Core.Path.{_≡_, _∙_, ap}
 use native.Mathlib.Omega.{arith}
-use lib.ListN.{length, replicate, length-set}
+use lib.ListN.{replicate, length-set}
 use borrow.Author.Needs.{needs}
 use Rattle.cards.specs.ShortFrames.{shortVacant}
 use Rattle.cards.proofs.short_frames.put_vacant.Statement.{statement}

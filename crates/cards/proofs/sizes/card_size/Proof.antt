@@ -1,12 +1,9 @@
 -- card_size adds the sizes of expanders; its loop's invariant: the sum, with the sizes of the expanders to come, is that of the card.
 use native.Mathlib.Omega.{arith}
 use borrow.Author.Needs.{needs}
-use Prim.Native.Nat.{ℕ, suc, _+_, _-_, _*_, _/_, _%_, _^_, _≤_, _<_, min}
-use mathlib.Core.Path.{_≡_, refl, sym, _∙_, ap, subst}
-use mathlib.Core.List.{List, [], _∷_, _++_}
-use lib.ListN.{length, take, drop, set, replicate, length-set, length-take, length-drop, length-replicate}
-use lib.Seq.{sets, length-take-le}
-use Rattle.files.specs.Domain.{Domain, Expander, expanderAt, phyAt}
+use Prim.Native.Nat.{_+_, _-_, _*_, _≤_}
+use mathlib.Core.Path.{_≡_, refl}
+use lib.ListN.{length, drop}
 use Rattle.files.specs.Rows.{domainIn}
 use Rattle.cards.specs.Card.{expandersSize, cardSize}
 use Rattle.cards.proofs.Puts.{total-next, total-none}

@@ -1,7 +1,7 @@
 -- phy_size goes by the test of the definition.
 use native.Mathlib.Omega.{arith}
 use borrow.Author.Needs.{needs}
-use mathlib.Core.Path.{_≡_, refl, sym, _∙_, ap, subst}
+use mathlib.Core.Path.{sym, _∙_, ap}
 use Rattle.cards.specs.Card.{phySize}
 use Rattle.cards.proofs.Puts.{size-more}
 use Rattle.cards.proofs.sizes.phy_size.Statement.{statement}

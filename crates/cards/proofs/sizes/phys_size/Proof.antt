@@ -1,13 +1,12 @@
 -- phys_size adds the sizes of phys; its loop's invariant: the sum, with the sizes of the phys to come, is that of all.
 use native.Mathlib.Omega.{arith}
 use borrow.Author.Needs.{needs}
-use Prim.Native.Nat.{ℕ, suc, _+_, _-_, _*_, _/_, _%_, _^_, _≤_, _<_, min}
-use mathlib.Core.Path.{_≡_, refl, sym, _∙_, ap, subst}
-use mathlib.Core.List.{List, [], _∷_, _++_}
-use lib.ListN.{length, take, drop, set, replicate, length-set, length-take, length-drop, length-replicate}
-use lib.Seq.{sets, length-take-le}
+use Prim.Native.Nat.{_+_, _-_, _*_, _≤_}
+use mathlib.Core.Path.{_≡_, _∙_, ap}
+use mathlib.Core.List.{List}
+use lib.ListN.{length, drop}
 use Rattle.files.specs.declared.Phy.{Phy}
-use Rattle.files.specs.Domain.{Domain, Expander, expanderAt, phyAt}
+use Rattle.files.specs.Domain.{expanderAt, phyAt}
 use Rattle.files.specs.Rows.{domainIn}
 use Rattle.cards.specs.Card.{phySize, physSize}
 use Rattle.cards.proofs.Puts.{sizes-next, sizes-none}

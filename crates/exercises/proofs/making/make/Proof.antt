@@ -1,10 +1,11 @@
 -- make tests for 24; the rows that it fills then hold the domain that is made, and writing their file tests for 16.
 use Prim.Native.Nat.{ℕ}
-use mathlib.Core.Path.{refl, sym, _∙_}
+use mathlib.Core.Path.{refl, sym, _∙_, ap}
 use native.Mathlib.Omega.{arith}
 use lib.ListN.{length-replicate}
 use lib.Seq.{length-take-le}
 use Rattle.files.proofs.Members.{was-false}
+use Rattle.frames.specs.Refusals.{refused}
 use Rattle.exercises.specs.Rig.{noRig}
 use Rattle.exercises.proofs.Trimmed.{trimmed-few}
 use Rattle.exercises.proofs.Exercise.{makable}
@@ -16,11 +17,11 @@ use Rattle.exercises.proofs.making.make.Tie as tie
 is-no-rig-requires : tie.Need-is-no-rig-requires
 is-no-rig-requires c κs = search needs
 
-no-rig-requires : tie.Need-no-rig-requires
-no-rig-requires c κs = search needs
+refused-requires : tie.Need-refused-requires
+refused-requires c κs = search needs
 
 returns : tie.Need-returns
-returns c = make-none ((c .before .before .before .before .before .args) .a) ((c .before .before .before .before .before .args) .b) ((c .before .before .before .before .before .args) .list .now) ((c .before .before .before .before .before .args) .file .now) _ (sym ((c .before .before .is-no-rig) .ensures) ∙ (c .before .if1) .taken) ((c .no-rig) .ensures)
+returns c = make-none ((c .before .before .before .before .before .args) .a) ((c .before .before .before .before .before .args) .b) ((c .before .before .before .before .before .args) .list .now) ((c .before .before .before .before .before .args) .file .now) _ (sym ((c .before .before .is-no-rig) .ensures) ∙ (c .before .if1) .taken) (ap refused ((c .refused) .ensures))
 
 trimmed-count-requires : tie.Need-trimmed-count-requires
 trimmed-count-requires c κs = search needs
@@ -60,4 +61,4 @@ returns-2 c =
     make-some (at-args .a) (at-args .b) (at-args .list .now) (at-args .file .now) _ _ _ _ _ (sym (at-is-no-rig .ensures) ∙ at-if1 .left) (at-fits .a .fits) (at-fits .b .fits) (λ j. at-shared-slice-known .given j .fits) refl (at-trimmed-count .ensures .1) (at-put-rig .ensures) ((c .before .before .file-of-rows) .ensures)
 
 pub make-spec : {M : Type 1} → statement M
-make-spec = tie.close (tie.spec is-no-rig-requires no-rig-requires returns trimmed-count-requires slice-aggregate-put-rig cast-put-rig slice-aggregate-put-rig-2 put-rig-requires slice-aggregate-file-of-rows file-of-rows-requires same-length returns-2)
+make-spec = tie.close (tie.spec is-no-rig-requires refused-requires returns trimmed-count-requires slice-aggregate-put-rig cast-put-rig slice-aggregate-put-rig-2 put-rig-requires slice-aggregate-file-of-rows file-of-rows-requires same-length returns-2)

@@ -1,5 +1,5 @@
 -- next packs each case of a step.
-use mathlib.Core.Path.{sym, _∙_, ap}
+use mathlib.Core.Path.{sym, ap}
 use native.Mathlib.Omega.{arith}
 use borrow.Author.Needs.{needs}
 use Rattle.tracing.specs.Answers.{stepAnswer}

@@ -8,12 +8,13 @@ use lib.ListN.{length, take, length-set}
 use lib.Seq.{length-take-le}
 use borrow.Author.Needs.{needs}
 use Rattle.frames.specs.Refusals.{then}
-use Rattle.files.proofs.Reading.{countFrom, count-all, expander-stop, expander-go, expanders-end, expanders-more, take-next}
+use Rattle.files.proofs.Reading.{countFrom, count-all, expander-stop, expander-go, expanders-end, expanders-more}
 use Rattle.files.specs.File.{expanders}
 use Rattle.files.specs.Rows.{countOf}
 use Rattle.files.specs.Units.{expanderAnswer}
 use Rattle.files.proofs.file.check_expanders.Statement.{statement}
 use Rattle.files.proofs.file.check_expanders.Tie as tie
+use Rattle.files.proofs.OneMore.{set-next}
 
 abbrev Inv-loop : tie.InvT-loop
 Inv-loop most file n seen₀ i₀ at₀ seen i at =
@@ -72,7 +73,7 @@ loop-again c =
       omega arith,
       (
         simp length-set (l .inv .1 .0),
-        rw (take-next (l .seen) (l .i) _ (omega arith))
+        rw (set-next (l .seen) (l .i) _ (omega arith))
             (expander-go (a .most) (a .file .now) (a .n) (l .i) (l .at) (take (l .i) (l .seen)) (l .inv .1 .1)
             (sym (f .check-expander .ensures) ∙ ap expanderAnswer (c .before .unit2 .given .1)) (omega arith)),
       ),

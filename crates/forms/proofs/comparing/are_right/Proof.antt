@@ -1,10 +1,8 @@
 -- are_right meets its contract: the comparison from here on is the whole comparison.
-use Prim.Native.Nat.{ℕ, _+_, _-_, _*_, _/_, _%_, _≤_, _<_}
-use mathlib.Core.Path.{_≡_, refl, sym, _∙_, ap, subst}
-use lib.ListN.{length, drop}
-use Rattle.files.specs.Domain.{expanderAt}
+use Prim.Native.Nat.{_-_, _*_, _≤_}
+use mathlib.Core.Path.{_≡_, refl, sym, _∙_}
+use lib.ListN.{drop}
 use Rattle.files.specs.Rows.{domainIn}
-use Rattle.forms.specs.Form.{headField}
 use Rattle.forms.specs.Opened.{rightExpanders}
 use borrow.Author.Tests.{not-true, not-false}
 use Rattle.forms.proofs.Compared.{heads-address, heads-field, heads-phys, heads-go, heads-end, head-of}

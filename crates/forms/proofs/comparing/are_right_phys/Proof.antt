@@ -1,11 +1,10 @@
 -- are_right_phys meets its contract: the comparison from here on is the whole comparison.
-use Prim.Native.Nat.{ℕ, _+_, _-_, _*_, _/_, _%_, _≤_, _<_}
+use Prim.Native.Nat.{_+_, _-_, _*_, _≤_}
 use mathlib.Core.Path.{_≡_, refl, sym, _∙_, ap, subst}
 use lib.ListN.{drop}
-use Rattle.files.specs.declared.Phy.the-variants.{Vacant}
 use Rattle.files.specs.Domain.{expanderAt, addressOf}
 use Rattle.files.specs.Rows.{domainIn}
-use Rattle.forms.specs.Opened.{SmallPhy, rightField, rightPhys}
+use Rattle.forms.specs.Opened.{SmallPhy, rightPhys}
 use borrow.Author.Tests.{not-true, not-false}
 use Rattle.forms.proofs.Compared.{rows-small, rights, phys-address, phys-field, phys-go, phys-end}
 use borrow.Author.Needs.{needs}

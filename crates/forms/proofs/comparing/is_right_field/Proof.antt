@@ -1,11 +1,10 @@
 -- is_right_field compares each case of a phy.
-use Prim.Native.Nat.{ℕ, _+_, _-_, _*_, _/_, _%_, _≤_, _<_}
-use mathlib.Core.Path.{_≡_, refl, sym, _∙_, ap, subst}
+use Prim.Native.Nat.{_-_}
+use mathlib.Core.Path.{sym, _∙_, ap, subst}
 use Rattle.files.specs.declared.Phy.{Phy}
 use Rattle.files.specs.Rows.{domainIn}
 use Rattle.forms.specs.Opened.{SmallPhy, rightField}
 use borrow.Author.Needs.{needs}
-use native.Mathlib.Omega.{arith}
 use Rattle.forms.proofs.comparing.is_right_field.Statement.{statement}
 use Rattle.forms.proofs.comparing.is_right_field.Tie as tie
 

@@ -1,6 +1,6 @@
 -- is_right_present is the definition's chain of tests: the expander that the word names is looked at first.
-use Prim.Native.Nat.{ℕ, _+_, _-_, _*_, _/_, _%_, _≤_, _<_}
-use mathlib.Core.Path.{_≡_, refl, sym, _∙_, ap, subst}
+use Prim.Native.Nat.{_-_}
+use mathlib.Core.Path.{refl, sym, _∙_}
 use Rattle.files.specs.Rows.{domainIn}
 use Rattle.forms.proofs.Compared.{right-low, right-far, wrong-far}
 use borrow.Author.Needs.{needs}

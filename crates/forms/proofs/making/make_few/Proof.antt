@@ -1,9 +1,7 @@
 -- make_few meets its contract: the second byte states how many expanders there are, so the room is enough.
-use Prim.Native.Nat.{ℕ, _+_, _-_, _*_, _/_, _%_, _≤_, _<_}
-use mathlib.Core.Path.{_≡_, refl, sym, _∙_, ap, subst}
+use Prim.Native.Nat.{ℕ, _-_}
 use lib.ListN.{length-replicate}
-use Rattle.files.specs.Read.{Read}
-use Rattle.files.proofs.Read.{read-good, stated-expanders}
+use Rattle.files.proofs.Read.{stated-expanders}
 use Rattle.wiring.proofs.Opening.{file-room}
 use borrow.Author.Needs.{needs}
 use native.Mathlib.Omega.{arith}

@@ -1,12 +1,11 @@
 -- make_in meets its contract: the rows that the file is read into are its domain, and there is room for the entries.
-use Prim.Native.Nat.{ℕ, _+_, _-_, _*_, _/_, _%_, _≤_, _<_}
-use mathlib.Core.Path.{_≡_, refl, sym, _∙_, ap, subst}
+use Prim.Native.Nat.{_-_}
+use mathlib.Core.Path.{sym}
 use lib.Seq.{length-take-le}
 use Rattle.wiring.proofs.Opening.{opened-as, opened-fits}
 use Rattle.tables.proofs.Lawful.{judged-own}
 use Rattle.forms.proofs.Promised.{made-refused, made-read}
 use borrow.Author.Needs.{needs}
-use native.Mathlib.Omega.{arith}
 use Rattle.forms.proofs.making.make_in.Statement.{statement}
 use Rattle.forms.proofs.making.make_in.Tie as tie
 

@@ -1,9 +1,7 @@
 -- make_many meets its contract: no domain that is read has more than 64 expanders, so the room is enough.
-use Prim.Native.Nat.{ℕ, _+_, _-_, _*_, _/_, _%_, _≤_, _<_}
-use mathlib.Core.Path.{_≡_, refl, sym, _∙_, ap, subst}
+use Prim.Native.Nat.{ℕ, _-_}
 use lib.ListN.{length-replicate}
-use Rattle.files.specs.Read.{Read}
-use Rattle.files.proofs.Read.{read-good, stated-expanders}
+use Rattle.files.proofs.Read.{read-good}
 use Rattle.wiring.proofs.Opening.{file-room}
 use borrow.Author.Needs.{needs}
 use native.Mathlib.Omega.{arith}

@@ -1,7 +1,6 @@
 -- make_rows meets its contract: the judging call's causes by own lists, then 16, then the form.
-use Prim.Native.Nat.{ℕ, _+_, _-_, _*_, _/_, _%_, _≤_, _<_}
-use mathlib.Core.Path.{_≡_, refl, sym, _∙_, ap, subst}
-use lib.ListN.{length}
+use Prim.Native.Nat.{_-_}
+use mathlib.Core.Path.{sym, _∙_, ap}
 use Rattle.files.specs.Rows.{domainIn}
 use Rattle.wiring.specs.Checks.{checkAnswer}
 use Rattle.tables.proofs.Judging.{judged-room}

@@ -1,10 +1,9 @@
 -- as_trace keeps each case, and its refusal as one over a form.
-use Prim.Native.Nat.{ℕ, _+_, _-_, _*_, _/_, _%_, _≤_, _<_}
-use mathlib.Core.Path.{_≡_, refl, sym, _∙_, ap, subst}
+use Prim.Native.Nat.{_-_}
+use mathlib.Core.Path.{sym, _∙_, ap}
 use Rattle.tracing.specs.declared.TraceAnswer.the-variants.{Refused}
 use Rattle.forms.specs.Opened.{asTrace}
 use borrow.Author.Needs.{needs}
-use native.Mathlib.Omega.{arith}
 use Rattle.forms.proofs.opening.as_trace.Statement.{statement}
 use Rattle.forms.proofs.opening.as_trace.Tie as tie
 

@@ -1,6 +1,6 @@
 -- of_form is the definition's test of the number.
-use Prim.Native.Nat.{ℕ, _+_, _-_, _*_, _/_, _%_, _≤_, _<_}
-use mathlib.Core.Path.{_≡_, refl, sym, _∙_, ap, subst}
+use Prim.Native.Nat.{_-_}
+use mathlib.Core.Path.{sym, _∙_}
 use mathlib.Core.Logic.{inl, inr}
 use Rattle.forms.proofs.Tested.{late-stays, early-one}
 use borrow.Author.Needs.{needs}

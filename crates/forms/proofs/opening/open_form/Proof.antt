@@ -1,7 +1,6 @@
 -- open_form meets its contract: the rows hold what the words read as, and so the tests say what they say of it.
-use Prim.Native.Nat.{ℕ, _+_, _-_, _*_, _/_, _%_, _≤_, _<_}
-use mathlib.Core.Path.{_≡_, refl, sym, _∙_, ap, subst}
-use lib.ListN.{length}
+use Prim.Native.Nat.{_-_}
+use mathlib.Core.Path.{sym}
 use lib.Seq.{length-take-le}
 use Rattle.forms.proofs.Compared.{opens-no, opens-by}
 use borrow.Author.Needs.{needs}

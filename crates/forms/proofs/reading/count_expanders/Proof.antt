@@ -1,10 +1,9 @@
 -- count_expanders meets its contract: as many as were counted, and those that are left.
-use Prim.Native.Nat.{ℕ, _+_, _-_, _*_, _/_, _%_, _≤_, _<_}
-use mathlib.Core.Path.{_≡_, refl, sym, _∙_, ap, subst}
+use Prim.Native.Nat.{ℕ, _+_, _-_, _*_, _≤_}
+use mathlib.Core.Path.{_≡_, ap}
 use lib.ListN.{length, drop}
 use Rattle.forms.specs.Form.{expandersBack, formIn}
 use Rattle.forms.proofs.Held.{count-start, count-go, count-none, count-full}
-use borrow.Author.Needs.{needs}
 use native.Mathlib.Omega.{arith}
 use Rattle.forms.proofs.reading.count_expanders.Statement.{statement}
 use Rattle.forms.proofs.reading.count_expanders.Tie as tie

@@ -1,5 +1,4 @@
 -- count_in meets its contract by the two cases of the smaller number.
-use mathlib.Core.Path.{_≡_, refl, sym, _∙_, ap, subst}
 use Rattle.forms.proofs.Held.{count-small, count-large}
 use borrow.Author.Needs.{needs}
 use native.Mathlib.Omega.{arith}

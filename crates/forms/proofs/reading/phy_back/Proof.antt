@@ -1,9 +1,7 @@
 -- phy_back is the definition's chain of tests.
-use Prim.Native.Nat.{ℕ, _+_, _-_, _*_, _/_, _%_, _≤_, _<_}
-use mathlib.Core.Path.{_≡_, refl, sym, _∙_, ap, subst}
+use Prim.Native.Nat.{_-_}
 use Rattle.forms.proofs.Held.{back-vacant, back-empty, back-present}
 use borrow.Author.Needs.{needs}
-use native.Mathlib.Omega.{arith}
 use Rattle.forms.proofs.reading.phy_back.Statement.{statement}
 use Rattle.forms.proofs.reading.phy_back.Tie as tie
 

@@ -1,6 +1,6 @@
 -- put_phys meets its contract: the words of the phys that are left, stored from here on, are those of all phys stored from word 2 on.
-use Prim.Native.Nat.{ℕ, _+_, _-_, _*_, _/_, _%_, _≤_, _<_}
-use mathlib.Core.Path.{_≡_, refl, sym, _∙_, ap, subst}
+use Prim.Native.Nat.{_+_, _-_, _*_, _≤_}
+use mathlib.Core.Path.{_≡_, refl, _∙_}
 use lib.ListN.{length, drop, length-set}
 use lib.Seq.{sets}
 use Rattle.files.specs.Rows.{phyWords}

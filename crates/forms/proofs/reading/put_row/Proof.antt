@@ -1,7 +1,7 @@
 -- put_row meets its contract: address and second word stored in front, then the phys.
-use Prim.Native.Nat.{ℕ, _+_, _-_, _*_, _/_, _%_, _≤_, _<_}
-use mathlib.Core.Path.{_≡_, refl, sym, _∙_, ap, subst}
-use lib.ListN.{length, length-set}
+use Prim.Native.Nat.{ℕ, _+_, _-_, _*_, _/_, _%_}
+use mathlib.Core.Path.{refl, _∙_, ap}
+use lib.ListN.{length-set}
 use Rattle.forms.proofs.Held.{row-held}
 use borrow.Author.Needs.{needs}
 use native.Mathlib.Omega.{arith}

@@ -1,6 +1,6 @@
 -- read_rows meets its contract: the rows written hold the expanders so far, and the words that are left read as the others.
-use Prim.Native.Nat.{ℕ, _+_, _-_, _*_, _/_, _%_, _≤_, _<_}
-use mathlib.Core.Path.{_≡_, refl, sym, _∙_, ap, subst}
+use Prim.Native.Nat.{ℕ, _+_, _-_, _*_, _≤_}
+use mathlib.Core.Path.{_≡_, refl, _∙_, subst}
 use lib.ListN.{length, take, length-take, length-drop}
 use borrow.Rule.Slice.PartMut.{same-len-mid}
 use Rattle.forms.specs.Form.{formIn}

@@ -1,10 +1,9 @@
 -- is_bad_phy asks the file's test of a phy that is not vacant.
-use Prim.Native.Nat.{ℕ, _+_, _-_, _*_, _/_, _%_, _≤_, _<_}
-use mathlib.Core.Path.{_≡_, refl, sym, _∙_, ap, subst}
+use Prim.Native.Nat.{_-_}
+use mathlib.Core.Path.{sym, _∙_, ap}
 use mathlib.Core.Bool.{not}
 use Rattle.forms.specs.Formed.{badPhy}
 use borrow.Author.Needs.{needs}
-use native.Mathlib.Omega.{arith}
 use Rattle.forms.proofs.testing.is_bad_phy.Statement.{statement}
 use Rattle.forms.proofs.testing.is_bad_phy.Tie as tie
 

@@ -1,14 +1,12 @@
 -- is_bad_unit is the definition's chain of tests in its order.
-use Prim.Native.Nat.{ℕ, _+_, _-_, _*_, _/_, _%_, _≤_, _<_}
-use mathlib.Core.Path.{_≡_, refl, sym, _∙_, ap, subst}
-use lib.ListN.{length}
+use Prim.Native.Nat.{_-_}
+use mathlib.Core.Path.{refl, sym, _∙_, ap}
 use borrow.Author.Tests.{eq-eqb, ne-eqb, not-true, not-false}
-use Rattle.files.specs.Domain.{Domain, expanderAt, numberOf}
+use Rattle.files.specs.Domain.{expanderAt, numberOf}
 use Rattle.files.specs.Settings.{within}
 use Rattle.files.specs.Rows.{domainIn}
 use Rattle.forms.proofs.Tested.{unit-by}
 use borrow.Author.Needs.{needs}
-use native.Mathlib.Omega.{arith}
 use Rattle.forms.proofs.testing.is_bad_unit.Statement.{statement}
 use Rattle.forms.proofs.testing.is_bad_unit.Tie as tie
 

@@ -1,7 +1,6 @@
 -- trace_few meets its contract: the room is enough for so many expanders.
-use Prim.Native.Nat.{ℕ, _+_, _-_, _*_, _/_, _%_, _≤_, _<_}
-use mathlib.Core.Path.{_≡_, refl, sym, _∙_, ap, subst}
-use lib.ListN.{length, length-replicate}
+use Prim.Native.Nat.{ℕ, _-_}
+use lib.ListN.{length-replicate}
 use Rattle.forms.proofs.Promised.{form-room}
 use borrow.Author.Needs.{needs}
 use native.Mathlib.Omega.{arith}

@@ -1,6 +1,6 @@
 -- form_phy writes each case of a phy; who is attached, the entries tell.
-use Prim.Native.Nat.{ℕ, _+_, _-_, _*_, _/_, _%_, _≤_, _<_}
-use mathlib.Core.Path.{_≡_, refl, sym, _∙_, ap, subst}
+use Prim.Native.Nat.{_-_}
+use mathlib.Core.Path.{sym, _∙_, subst}
 use Rattle.files.specs.Domain.{phyAt}
 use Rattle.files.specs.Rows.{domainIn}
 use Rattle.forms.specs.Opened.{SmallPhy}

@@ -1,6 +1,6 @@
 -- form_size meets its contract: the words counted so far, and those of the expanders that are left.
-use Prim.Native.Nat.{ℕ, _+_, _-_, _*_, _/_, _%_, _≤_, _<_}
-use mathlib.Core.Path.{_≡_, refl, sym, _∙_, ap, subst}
+use Prim.Native.Nat.{_+_, _-_, _*_, _≤_}
+use mathlib.Core.Path.{_≡_, ap}
 use lib.ListN.{length, drop}
 use Rattle.files.specs.Rows.{domainIn}
 use Rattle.forms.specs.Form.{formExpanders, formOf}

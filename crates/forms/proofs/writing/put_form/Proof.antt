@@ -1,11 +1,10 @@
 -- put_form meets its contract: the words of the expanders that are left, stored from here on, are the form stored from the front on.
-use Prim.Native.Nat.{ℕ, _+_, _-_, _*_, _/_, _%_, _≤_, _<_}
-use mathlib.Core.Path.{_≡_, refl, sym, _∙_, ap, subst}
+use Prim.Native.Nat.{_+_, _-_, _≤_}
+use mathlib.Core.Path.{_≡_, refl, _∙_, ap}
 use lib.ListN.{length, drop, length-set}
 use lib.Seq.{sets}
-use Rattle.files.specs.Domain.{expanderAt}
 use Rattle.files.specs.Rows.{domainIn}
-use Rattle.forms.specs.Form.{headField, formExpanders, formOf}
+use Rattle.forms.specs.Form.{formExpanders, formOf}
 use Rattle.forms.proofs.Written.{size-next, expanders-go, expanders-end, form-start, form-put}
 use Rattle.forms.proofs.Compared.{head-of}
 use borrow.Author.Needs.{needs}

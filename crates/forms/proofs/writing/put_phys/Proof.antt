@@ -1,9 +1,9 @@
 -- put_phys meets its contract: the words of the phys that are left, stored from here on, are those of all phys stored from the first place on.
-use Prim.Native.Nat.{ℕ, _+_, _-_, _*_, _/_, _%_, _≤_, _<_}
-use mathlib.Core.Path.{_≡_, refl, sym, _∙_, ap, subst}
+use Prim.Native.Nat.{_+_, _-_, _*_, _≤_}
+use mathlib.Core.Path.{_≡_, refl, _∙_, ap}
 use lib.ListN.{length, drop, length-set}
 use lib.Seq.{sets}
-use Rattle.files.specs.Domain.{Domain, expanderAt, addressOf}
+use Rattle.files.specs.Domain.{expanderAt, addressOf}
 use Rattle.files.specs.Rows.{domainIn}
 use Rattle.forms.specs.Form.{formPhys}
 use Rattle.forms.proofs.Written.{phys-go, phys-end}

@@ -3,9 +3,10 @@ use Prim.Native.Nat.{ℕ, _+_, _-_, _≤_}
 use mathlib.Core.List.{List, [], _∷_}
 use native.Mathlib.Omega.{arith}
 use lib.ListN.{length, getD, drop, drop-of-length-le}
-use Rattle.listing.proofs.Puts.{bytes-next, Going, go-start, go-fits, go-turn, go-end}
+use Rattle.listing.proofs.Puts.{Going, go-start, go-fits, go-turn, go-end}
 use Rattle.listing.proofs.text.put_bytes.Statement.{statement}
 use Rattle.listing.proofs.text.put_bytes.Tie as tie
+use Rattle.files.proofs.OneMore.{drop-next}
 
 abbrev Inv-loop : tie.InvT-loop
 Inv-loop out₀ at text to₀ i₀ out to i = (i ≤ length text) × Going out₀ at text out to (drop i text)
@@ -24,7 +25,7 @@ put-byte-requires c κs =
     let at-pre = c .before .before .before .before .before .before .pre in
     let a = c .before .before .before .before .before .before .args in
     let l = c .before .before .before .loop in
-    let e = bytes-next (a .text .now) (l .i) (omega arith) in
+    let e = drop-next 0 (a .text .now) (l .i) (omega arith) in
     omega (arith, go-fits (l .inv .1) (getD (a .text .now) (l .i) 0 ∷ []) (drop (l .i + 1) (a .text .now)) e at-pre)
 
 add-i : tie.Need-add-i Inv-loop μ-loop
@@ -38,7 +39,7 @@ loop-again c =
     let at-pre = c .before .before .before .before .before .before .before .before .before .pre in
     let a = c .before .before .before .before .before .before .before .before .before .args in
     let l = c .before .before .before .before .before .before .loop in
-    let e = bytes-next (a .text .now) (l .i) (omega arith) in
+    let e = drop-next 0 (a .text .now) (l .i) (omega arith) in
     let rest : List ℕ = drop (l .i + 1) (a .text .now) in
     let f = go-fits (l .inv .1) (getD (a .text .now) (l .i) 0 ∷ []) rest e at-pre in
     (omega arith, go-turn (l .inv .1) rest (c .before .before .put-byte .ensures) e f)

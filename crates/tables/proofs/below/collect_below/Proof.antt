@@ -1,7 +1,7 @@
 -- collect_below meets its contract. The loop's invariant: the numbers so far are those below by the phys below p, each once.
 use Prim.Native.Nat.{_+_, _-_, _≤_, _<_}
 use mathlib.Core.Logic.{⊎-elim}
-use mathlib.Core.Path.{_≡_, refl, sym, _∙_}
+use mathlib.Core.Path.{sym, _∙_}
 use Rattle.files.specs.Domain.{Domain}
 use Rattle.files.specs.Rows.{domainIn}
 use Rattle.files.proofs.InRows.{phy-held, domain-few}

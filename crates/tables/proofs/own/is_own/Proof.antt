@@ -1,7 +1,6 @@
 -- is_own meets its contract: a direct phy gives its word, and an attached table phy that is the lowest with its address.
 use borrow.Author.Tests.{eq-eqb, ne-eqb}
 use Rattle.files.specs.Domain.{attributeOf, typeOf}
-use Rattle.wiring.specs.Addresses.{lowestPhy}
 use borrow.Author.Needs.{needs}
 use native.Mathlib.Omega.{arith}
 use Rattle.tables.proofs.own.is_own.Statement.{statement}

@@ -5,8 +5,7 @@ use native.Mathlib.Omega.{arith}
 use lib.Dec.{le→leb}
 use borrow.Author.Tests.{eq-eqb, ne-eqb, le-leb, lt-leb}
 use Rattle.wiring.specs.Causes.{farPhy}
-use Rattle.files.specs.Domain.{Domain, typeOf, attributeOf, farOf, phyAt}
-use Rattle.files.specs.declared.Phy.{Phy}
+use Rattle.files.specs.Domain.{Domain, typeOf, attributeOf, phyAt}
 use Rattle.files.specs.Rows.{domainIn}
 use Rattle.tables.proofs.Linked.{far-number-is}
 use borrow.Author.Needs.{needs}

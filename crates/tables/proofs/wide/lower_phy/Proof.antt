@@ -2,7 +2,6 @@
 use mathlib.Core.Path.{_∙_}
 use Rattle.files.specs.Rows.{domainIn}
 use Rattle.files.proofs.InRows.{phy-held}
-use Rattle.files.specs.Domain.{phyAt}
 use Rattle.tables.proofs.Linked.{linked-at}
 use borrow.Author.Needs.{needs}
 use native.Mathlib.Omega.{arith}

@@ -1,10 +1,11 @@
 -- place_of_word: going through the expanders from i on for the words that are left is going through all of them for word k.
-use Prim.Native.Nat.{ℕ, _-_, _≤_}
-use mathlib.Core.Path.{_≡_, refl}
+use Prim.Native.Nat.{_-_, _≤_}
+use mathlib.Core.Path.{_≡_, refl, ap, _∙_}
 use native.Mathlib.Omega.{arith}
 use lib.ListN.{drop}
 use Rattle.files.specs.Domain.{Domain}
 use Rattle.wiring.specs.Causes.{placesFrom}
+use Rattle.wiring.specs.Frames.{refused}
 use Rattle.files.specs.Rows.{domainIn}
 use Rattle.tables.specs.Words.{wordIn, wordPlace}
 use Rattle.tables.proofs.WordPlaces.{find-next, find-end}
@@ -55,11 +56,14 @@ loop-again c =
     let l = c .before .before .before .before .before .loop in
     (omega arith, find-next d (l .i) (l .left) (l .inv .1) (c .before .sought2 .given .1) (c .before .before .before .seek-at .ensures) (omega (arith, at-expander-count .ensures .0)))
 
+refused-requires : tie.Need-refused-requires Inv-loop μ-loop
+refused-requires c κs = search needs
+
 returns-2 : tie.Need-returns-2 Inv-loop μ-loop
 returns-2 c =
-    let d : Domain = domainIn (c .before .before .before .before .args .rows .now) in
-    let l = c .before .loop in
-    find-end d (l .i) (l .left) (l .inv .1) (omega (arith, c .before .before .expander-count .ensures .0))
+    let d : Domain = domainIn (c .before .before .before .before .before .args .rows .now) in
+    let l = c .before .before .loop in
+    ap refused (c .refused .ensures) ∙ find-end d (l .i) (l .left) (l .inv .1) (omega (arith, c .before .before .before .expander-count .ensures .0))
 
 pub place-of-word-spec : {M : Type 1} → statement M
-place-of-word-spec = tie.close (tie.spec Inv-loop μ-loop expander-count-requires loop-holds seek-at-requires enum-known-sought returns enum-known-sought-2 add-i loop-less loop-again returns-2)
+place-of-word-spec = tie.close (tie.spec Inv-loop μ-loop expander-count-requires loop-holds seek-at-requires enum-known-sought returns enum-known-sought-2 add-i loop-less loop-again refused-requires returns-2)

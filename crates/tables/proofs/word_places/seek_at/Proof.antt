@@ -1,13 +1,12 @@
 -- seek_at: going through the phys from p on for the words that are left is going through all of them for word k, whatever comes after.
 use Prim.Native.Nat.{ℕ, _-_, _≤_}
-use mathlib.Core.Path.{_≡_, refl, sym, _∙_, ap}
+use mathlib.Core.Path.{_≡_, sym, _∙_, ap}
 use mathlib.Core.List.{List, _++_}
 use native.Mathlib.Omega.{arith}
 use native.Mathlib.Nat.{sub-zero}
 use Rattle.files.specs.Domain.{Domain}
-use Rattle.wiring.specs.Causes.{Place, place, phyPlaces}
+use Rattle.wiring.specs.Causes.{Place, phyPlaces}
 use Rattle.files.specs.Rows.{domainIn}
-use Rattle.tables.specs.Tables.{size}
 use Rattle.tables.specs.Words.{wordIn}
 use Rattle.tables.proofs.WordPlaces.{seek-stop, seek-go, seek-end}
 use borrow.Author.Needs.{needs}

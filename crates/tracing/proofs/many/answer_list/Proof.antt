@@ -1,6 +1,5 @@
 -- answer_list is the definition's chain of tests, 16 of words and of answers and 18, and then the answers.
-use Prim.Native.Nat.{ℕ}
-use mathlib.Core.Path.{refl, _∙_}
+use mathlib.Core.Path.{refl}
 use native.Mathlib.Omega.{arith}
 use lib.ListN.{length}
 use borrow.Author.Tests.{le-leb, lt-leb}

@@ -1,9 +1,8 @@
 -- subtractive_reason is the definition's choice over the phy that (iv) picks.
-use Prim.Native.Nat.{ℕ}
 use mathlib.Core.Path.{sym, _∙_, ap}
 use borrow.Author.Needs.{needs}
 use borrow.Author.Tests.{eq-eqb, ne-eqb}
-use Rattle.tables.specs.Wiring.{Domain, domainIn, phyAt, addressOf}
+use Rattle.tables.specs.Wiring.{Domain, domainIn, addressOf}
 use Rattle.tracing.specs.Answers.{pickAnswer}
 use Rattle.tracing.proofs.WhichRule.{subtraction-at, subtraction-none}
 use Rattle.tracing.proofs.reasons.subtractive_reason.Statement.{statement}

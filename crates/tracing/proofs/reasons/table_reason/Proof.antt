@@ -1,5 +1,4 @@
 -- table_reason is the definition's choice over the phy that (iii) picks; the index is found from the start of its stretch.
-use Prim.Native.Nat.{ℕ}
 use mathlib.Core.Path.{sym, _∙_, ap}
 use native.Mathlib.Omega.{arith}
 use borrow.Author.Needs.{needs}

@@ -1,13 +1,11 @@
 -- check_request is the definition's chain of tests in its order: 15, 16 of words and of bytes, 18, 17.
-use Prim.Native.Nat.{ℕ}
 use mathlib.Core.Path.{refl, sym, _∙_, ap}
 use native.Mathlib.Omega.{arith}
 use lib.ListN.{length}
 use borrow.Author.Tests.{eq-eqb, ne-eqb, le-leb, lt-leb, not-true, not-false}
 use Rattle.tables.specs.Wiring.{bytesFor, Domain, domainIn, checkAnswer}
 use Rattle.tables.specs.Tables.{needed}
-use Rattle.tables.specs.Entries.{Room}
-use Rattle.tracing.specs.Trace.{Request, request}
+use Rattle.tracing.specs.Trace.{request}
 use Rattle.tracing.proofs.Asked.{requested-by}
 use borrow.Author.Needs.{needs}
 use Rattle.tracing.proofs.requests.check_request.Statement.{statement}

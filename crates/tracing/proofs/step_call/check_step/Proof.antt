@@ -1,5 +1,4 @@
 -- check_step is the definition's chain of tests in its order: 15, 16, 18, 17.
-use Prim.Native.Nat.{ℕ}
 use mathlib.Core.Path.{refl, sym, _∙_, ap}
 use native.Mathlib.Omega.{arith}
 use borrow.Author.Needs.{needs}

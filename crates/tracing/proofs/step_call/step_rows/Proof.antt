@@ -6,7 +6,6 @@ use Rattle.tables.specs.Entries.{entries}
 use Rattle.tracing.specs.declared.Reason.{Reason}
 use Rattle.tracing.specs.Steps.{Step}
 use Rattle.tracing.specs.Trace.{request}
-use Rattle.tracing.specs.Reasons.{StepTold}
 use Rattle.tracing.proofs.WhichRule.{asked-no, asked-yes}
 use Rattle.tracing.proofs.step_call.step_rows.Statement.{statement}
 use Rattle.tracing.proofs.step_call.step_rows.Tie as tie

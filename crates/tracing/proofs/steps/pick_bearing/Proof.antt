@@ -32,15 +32,15 @@ loop-holds c =
 phy-at-requires : tie.Need-phy-at-requires Inv-loop μ-loop
 phy-at-requires c κs = search needs
 
-is-bearing-requires : tie.Need-is-bearing-requires Inv-loop μ-loop
-is-bearing-requires c κs = search needs
+phy-bears-requires : tie.Need-phy-bears-requires Inv-loop μ-loop
+phy-bears-requires c κs = search needs
 
 returns : tie.Need-returns Inv-loop μ-loop
 returns c =
     let a = c .before .before .before .before .before .before .before .args in
     let d : Domain = domainIn (a .rows .now) in
     let l = c .before .before .before .before .loop in
-    let e = sym (c .before .is-bearing .ensures ∙ ap (bears (a .s)) (c .before .before .phy-at .ensures)) ∙ c .if1 .taken in
+    let e = sym (c .before .phy-bears .ensures ∙ ap (bears (a .s)) (c .before .before .phy-at .ensures)) ∙ c .if1 .taken in
     pick-stop (bearing d (a .i .0) (a .s)) (c .before .before .before .before .before .phy-count .result) (l .p) (l .inv .1) e (omega arith)
 
 add-p : tie.Need-add-p Inv-loop μ-loop
@@ -54,7 +54,7 @@ loop-again c =
     let a = c .before .before .before .before .before .before .before .args in
     let d : Domain = domainIn (a .rows .now) in
     let l = c .before .before .before .before .loop in
-    let e = sym (c .before .is-bearing .ensures ∙ ap (bears (a .s)) (c .before .before .phy-at .ensures)) ∙ c .if1 .left in
+    let e = sym (c .before .phy-bears .ensures ∙ ap (bears (a .s)) (c .before .before .phy-at .ensures)) ∙ c .if1 .left in
     (omega arith, pick-go (bearing d (a .i .0) (a .s)) (c .before .before .before .before .before .phy-count .result) (l .p) (l .inv .1) e (omega arith))
 
 returns-2 : tie.Need-returns-2 Inv-loop μ-loop
@@ -65,4 +65,4 @@ returns-2 c =
     pick-end (bearing d (a .i .0) (a .s)) (c .before .before .phy-count .result) (l .p) (l .inv .1) (omega arith)
 
 pub pick-bearing-spec : {M : Type 1} → statement M
-pick-bearing-spec = tie.close (tie.spec Inv-loop μ-loop phy-count-requires loop-holds phy-at-requires is-bearing-requires returns add-p loop-less loop-again returns-2)
+pick-bearing-spec = tie.close (tie.spec Inv-loop μ-loop phy-count-requires loop-holds phy-at-requires phy-bears-requires returns add-p loop-less loop-again returns-2)

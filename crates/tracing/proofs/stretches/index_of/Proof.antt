@@ -1,9 +1,9 @@
 -- index_of meets its contract; its loop's invariant: k and the index among the words still to come are the index among them all.
-use Prim.Native.Nat.{ℕ, _+_, _-_, _≤_, _<_}
-use mathlib.Core.Path.{_≡_, refl, sym, _∙_, ap}
+use Prim.Native.Nat.{_+_, _-_, _≤_}
+use mathlib.Core.Path.{_≡_, sym, _∙_}
 use native.Mathlib.Omega.{arith}
-use native.Mathlib.Nat.{zero-add, add-zero, sub-zero}
-use lib.ListN.{length, take, drop}
+use native.Mathlib.Nat.{zero-add, sub-zero}
+use lib.ListN.{take, drop}
 use borrow.Author.Tests.{eqb-true, eqb-false}
 use Rattle.tables.specs.Wiring.{bitsOf}
 use Rattle.tables.specs.Entries.{entries, counted}

@@ -1,9 +1,7 @@
 -- lists meets its contract; its loop's invariant: s is among the words still to come exactly when it is among them all.
-use Prim.Native.Nat.{ℕ, _<_}
 use mathlib.Core.Path.{_≡_, refl, sym, _∙_}
 use native.Mathlib.Omega.{arith}
-use lib.ListN.{length, take, drop}
-use borrow.Author.Needs.{needs}
+use lib.ListN.{take, drop}
 use borrow.Author.Tests.{eqb-true, eqb-false}
 use Rattle.tables.specs.Wiring.{isIn, bitsOf}
 use Rattle.tables.specs.Entries.{entries, counted}

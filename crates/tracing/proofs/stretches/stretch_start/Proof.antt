@@ -1,8 +1,8 @@
 -- stretch_start meets its contract; its loop's invariant: `at` is the words before the expander and of its phys below q.
-use Prim.Native.Nat.{ℕ, _+_, _-_, _*_, _≤_}
+use Prim.Native.Nat.{_+_, _-_, _*_, _≤_}
 use mathlib.Core.Path.{_≡_, sym, _∙_}
 use native.Mathlib.Omega.{arith}
-use Rattle.tables.specs.Wiring.{Domain, domainIn, phyPlaces}
+use Rattle.tables.specs.Wiring.{domainIn, phyPlaces}
 use Rattle.tables.specs.Tables.{sizes}
 use Rattle.tracing.specs.Answers.{wordsBefore}
 use Rattle.tracing.proofs.Offsets.{phys-none, phys-next, offset-is}

@@ -25,6 +25,9 @@ expander-count-requires c κs = search needs
 cast-if1 : tie.Need-cast-if1
 cast-if1 c = search needs
 
+refused-requires : tie.Need-refused-requires
+refused-requires c κs = search needs
+
 same-length : tie.Need-same-length
 same-length c = search needs
 
@@ -32,7 +35,9 @@ same-length-2 : tie.Need-same-length-2
 same-length-2 c = search needs
 
 returns : tie.Need-returns
-returns c = wiring-short _ _ _ _ (sym (c .before .before .before .before .check-wiring .ensures) ∙ ap (checkAnswer _) (c .before .before .enum-told .given .1)) (omega (arith, c .before .expander-count .ensures .0))
+returns c =
+    wiring-short _ _ _ _ _ (sym (c .before .before .before .before .before .check-wiring .ensures) ∙ ap (checkAnswer _) (c .before .before .before .enum-told .given .1))
+    (omega (arith, c .before .before .expander-count .ensures .0)) (c .refused .ensures)
 
 put-neighbours-requires : tie.Need-put-neighbours-requires
 put-neighbours-requires c κs = search needs
@@ -65,4 +70,4 @@ returns-3 c =
     (put-neighbours .ensures .0) (put-neighbours .ensures .1)
 
 pub wire-rows-spec : {M : Type 1} → statement M
-wire-rows-spec = tie.close (tie.spec put-index-requires check-wiring-requires enum-known-c enum-told expander-count-requires cast-if1 same-length same-length-2 returns put-neighbours-requires same-length-3 same-length-4 returns-2 same-length-5 same-length-6 same-length-7 returns-3)
+wire-rows-spec = tie.close (tie.spec put-index-requires check-wiring-requires enum-known-c enum-told expander-count-requires cast-if1 refused-requires same-length same-length-2 returns put-neighbours-requires same-length-3 same-length-4 returns-2 same-length-5 same-length-6 same-length-7 returns-3)

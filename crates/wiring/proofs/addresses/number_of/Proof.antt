@@ -1,14 +1,14 @@
 -- number_of meets its contract: as many as were passed, and the number among those that are left.
-use Prim.Native.Nat.{ℕ, _+_, _-_, _*_, _/_, _%_, _≤_, _<_}
-use mathlib.Core.Path.{_≡_, refl, sym, _∙_, ap, subst}
+use Prim.Native.Nat.{_+_, _-_, _≤_}
+use mathlib.Core.Path.{_≡_, sym, _∙_}
 use lib.ListN.{drop}
 use Rattle.files.specs.Domain.{numberOf}
 use Rattle.files.specs.Rows.{domainIn}
-use Rattle.forms.proofs.Tested.{number-stop, number-go, number-end}
+use Rattle.wiring.proofs.Finding.{number-stop, number-go, number-end}
 use borrow.Author.Needs.{needs}
 use native.Mathlib.Omega.{arith}
-use Rattle.forms.proofs.testing.number_of.Statement.{statement}
-use Rattle.forms.proofs.testing.number_of.Tie as tie
+use Rattle.wiring.proofs.addresses.number_of.Statement.{statement}
+use Rattle.wiring.proofs.addresses.number_of.Tie as tie
 
 abbrev Inv-loop : tie.InvT-loop
 Inv-loop rows s n i₀ i = (i ≤ n) × (i + numberOf (drop i (domainIn rows)) s ≡ numberOf (domainIn rows) s)
