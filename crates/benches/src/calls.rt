@@ -2,7 +2,6 @@
 use crate::Files;
 use crate::Joining;
 use crate::bench_rows;
-use crate::refusals;
 use crate::sides;
 use crate::writing;
 use wiring::Check;
@@ -40,7 +39,7 @@ fn join_ready(
         Check::Passed => {
             let size = first.len() + (second.len() - 2);
             if out.len() < size {
-                return refusals::joining_refused(16);
+                return Joining::Refused(wiring::refused(16));
             }
             writing::put_joined(out, first, i, p, second, j, q);
             Joining::Bytes(size)

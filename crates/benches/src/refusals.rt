@@ -1,20 +1,11 @@
-// Refusals of the join call.
+// Refusals of the two files.
 use crate::Files;
-use crate::Joining;
 use wiring::ExpanderNumber;
 use wiring::Refusal;
 ghost use mathlib.Core.Path.{_≡_};
 ghost use Prim.Native.Nat.{_+_, _<_};
 ghost use Rattle.frames.specs.Refusals.{refused, refusal};
-ghost use Rattle.benches.specs.JoinCall.{joiningAnswer};
 ghost use Rattle.benches.specs.Parts.{filesAnswer};
-
-// The join call's refusal with this number, at place 0, 0.
-pub(crate) fn joining_refused(k: u8) -> Joining
-    ensures { λ r. ⌜ joiningAnswer r ≡ refused (refusal k 0 0) ⌝ }
-{
-    Joining::Refused(wiring::refused(k))
-}
 
 // The refusal of the two files with this number, at place 0, 0.
 pub(crate) fn files_refused(k: u8) -> Files

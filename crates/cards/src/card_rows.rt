@@ -2,13 +2,13 @@
 use crate::CardWalk;
 use crate::PhysWalk;
 use crate::reading;
-use crate::refusals;
 use crate::sizes;
 use wiring::Check;
 use wiring::ExpanderNumber;
 use wiring::ExpanderRead;
 use wiring::ExpanderUnit;
 use wiring::Phy;
+use wiring::PhyId;
 use wiring::Setting;
 ghost use mathlib.Core.Path.{_≡_};
 ghost use mathlib.Core.Bool.{cond, _&&_};
@@ -101,7 +101,7 @@ fn check_unit(most: Setting, seen: &[u64], u: ExpanderUnit, i: ExpanderNumber, r
         ExpanderRead::Refused(r) => Check::Refused(r),
         ExpanderRead::Read(_, _) => {
             if ranged < u.phys {
-                return refusals::check_refused(i, ranged);
+                return Check::Refused(wiring::refusal_at(6, i, PhyId(ranged)));
             }
             Check::Passed
         }

@@ -2,7 +2,7 @@
 use mathlib.Core.Path.{sym, _∙_, ap}
 use borrow.Author.Needs.{needs}
 use lib.Dec.{leb}
-use Rattle.frames.specs.Refusals.{unless, refusal}
+use Rattle.frames.specs.Refusals.{unless, refusal, refused}
 use Rattle.files.specs.File.{unitTested}
 use Rattle.files.specs.Units.{expanderAnswer}
 use Rattle.cards.proofs.Checks.{unit-refused, unit-passed, six-refused, six-passed}
@@ -18,14 +18,14 @@ enum-known-test c = search needs
 enum-told : tie.Need-enum-told
 enum-told c = search needs
 
-check-refused-requires : tie.Need-check-refused-requires
-check-refused-requires c κs = search needs
+refusal-at-requires : tie.Need-refusal-at-requires
+refusal-at-requires c κs = search needs
 
 returns : tie.Need-returns
 returns c =
     let a = c .before .before .before .before .before .before .before .args in
     let t = sym (c .before .before .before .before .before .test-unit .ensures) ∙ ap expanderAnswer (c .before .before .before .enum-told .given .1) in
-    λ k. c .check-refused .ensures k ∙ six-refused (a .i .0) (a .u .phys) (a .ranged) (c .before .if1 .taken) k ∙ unit-passed (unitTested (a .most) (a .seen .now) (a .i .0) (a .u)) 0 _ _ t _
+    λ k. ap refused (c .refusal-at .ensures) ∙ six-refused (a .i .0) (a .u .phys) (a .ranged) (c .before .if1 .taken) k ∙ unit-passed (unitTested (a .most) (a .seen .now) (a .i .0) (a .u)) 0 _ _ t _
 
 returns-2 : tie.Need-returns-2
 returns-2 c =
@@ -40,4 +40,4 @@ returns-3 c =
     λ k. six-passed (a .i .0) (a .u .phys) (a .ranged) (c .if1 .left) k ∙ unit-passed (unitTested (a .most) (a .seen .now) (a .i .0) (a .u)) 0 _ _ t _
 
 pub check-unit-spec : {M : Type 1} → statement M
-check-unit-spec = tie.close (tie.spec test-unit-requires enum-known-test enum-told check-refused-requires returns returns-2 returns-3)
+check-unit-spec = tie.close (tie.spec test-unit-requires enum-known-test enum-told refusal-at-requires returns returns-2 returns-3)
