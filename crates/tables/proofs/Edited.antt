@@ -172,7 +172,7 @@ module _ (d : Domain) (e q a : ℕ) (f : T (pluggable (phyAt d e q))) where
   not-there : down d (phyAt d e q) ≡ false
   not-there = not-down d (phyAt d e q) (unattached (phyAt d e q) f)
 
-  below-same : (i : ℕ) → below d′ i ≡ below d i
+  pub below-same : (i : ℕ) → below d′ i ≡ below d i
   unfolding below withPhy
   below-same i =
       belowPhys-same d d′ (expanderAt d′ i .phys) number-same down-same
@@ -188,15 +188,17 @@ module _ (d : Domain) (e q a : ℕ) (f : T (pluggable (phyAt d e q))) where
   from-same (suc k) before level =
       ap (λ l. level ++ l) (from-same k level (nextLevel d′ before level) ∙ ap (levelsFrom k d level) (next-same before level))
 
+  pub first-level-same : (x p : ℕ) → belowPhys d′ (phyAt d′ x p ∷ []) ≡ belowPhys d (phyAt d x p ∷ [])
+  first-level-same x p =
+      belowPhys-same d d′ (phyAt d′ x p ∷ []) number-same down-same ∙ by-phy (λ φ. belowPhys d (φ ∷ [])) (none-below d ψ not-here ∙ sym (none-below d (phyAt d e q) not-there)) x p
+
   -- an event leaves the levels as they were
   pub levels-same : (x p : ℕ) → levels d′ x p ≡ levels d x p
   unfolding levels
   levels-same x p =
-      let b : belowPhys d′ (phyAt d′ x p ∷ []) ≡ belowPhys d (phyAt d x p ∷ []) =
-      belowPhys-same d d′ (phyAt d′ x p ∷ []) number-same down-same ∙ by-phy (λ φ. belowPhys d (φ ∷ [])) (none-below d ψ not-here ∙ sym (none-below d (phyAt d e q) not-there)) x p in
       ap (λ k. levelsFrom k d′ (x ∷ []) (belowPhys d′ (phyAt d′ x p ∷ []))) size-same
       ∙ from-same (length d) (x ∷ []) (belowPhys d′ (phyAt d′ x p ∷ []))
-      ∙ ap (levelsFrom (length d) d (x ∷ [])) b
+      ∙ ap (levelsFrom (length d) d (x ∷ [])) (first-level-same x p)
 
   pub touched-same : (v : Place) → touched d′ e v ≡ touched d e v
   unfolding touched

@@ -7,7 +7,7 @@ use native.Mathlib.Omega.{arith}
 use native.Mathlib.Decide.{decLt}
 use lib.ListN.{length, take, drop}
 use lib.Seq.{take-at}
-use lib.Dec.{T, lt→ltb}
+use lib.Dec.{T, ltb, lt→ltb, ltb→lt}
 use borrow.Author.Tests.{le-leb, lt-leb}
 use Rattle.wiring.specs.Frames.{bytesFor, marked, Refusal, Result, refused, good, then, refusal}
 use Rattle.files.specs.Domain.{Domain, expanderAt}
@@ -20,7 +20,7 @@ use Rattle.wiring.specs.Addresses.{IndexRoom}
 use Rattle.files.proofs.Members.{tests}
 use Rattle.files.proofs.Results.{then-good}
 use Rattle.files.proofs.Domains.{routes-range}
-use Rattle.wiring.proofs.Accepted.{firstOf-good}
+use Rattle.wiring.proofs.Accepted.{firstOf-good, good-firstOf}
 use Rattle.wiring.proofs.Calls.{room-checked}
 use Rattle.tables.specs.Tables.{tablePlaces, needed}
 use Rattle.tables.specs.Entries.{Entries, entries, Room, roomOf, Enough}
@@ -48,6 +48,15 @@ fillable-by d x j =
   where
     within : (i p : ℕ) → T (overOwn d i p) → p < length (expanderAt d i .phys)
     within i p t = routes-range d 2 i p (search tests) (omega arith)
+
+-- and where they can be filled, 14 does not hold
+pub by-fillable : (d : Domain) → Fillable d → firstOf 14 (overOwn d) d ≡ good d
+unfolding overOwn
+by-fillable d h =
+    good-firstOf 14 (overOwn d) d
+    (λ i p t.
+    let over : T (ltb (expanderAt d i .indexes) (length (orderList d i p))) = search tests in
+    absurd (omega (arith, h i p (search tests), ltb→lt (expanderAt d i .indexes) (length (orderList d i p)) over)))
 
 -- causes 7 to 12, 23 and 14 by own lists, with room for so many entries
 module _ (chain first low : ℕ) (d : Domain) where

@@ -1,11 +1,12 @@
 -- A drive plugged or pulled over rows: what was prepared for the domain as lent serves the edited one, and the outcomes of the call.
-use Prim.Native.Nat.{ℕ, suc, _+_, _*_, _/_, _%_, _≤_, _<_}
+use Prim.Native.Nat.{ℕ, zero, suc, _+_, _*_, _/_, _%_, _≤_, _<_}
 use mathlib.Core.Path.{_≡_, refl, sym, ap, ap₂, subst, _∙_}
 use mathlib.Core.Bool.{Bool, true, false, cond, not}
-use mathlib.Core.Logic.{_≢_}
-use mathlib.Core.List.{List, [], _∷_}
+use mathlib.Core.Logic.{_≢_, by-cases}
+use native.Mathlib.Decide.{ℕ-discrete}
+use mathlib.Core.List.{List, [], _∷_, _++_, flatMap}
 use native.Mathlib.Omega.{arith}
-use lib.ListN.{length, getD, take, drop}
+use lib.ListN.{length, getD, take, drop, length-append, List·getD-eq-default}
 use lib.Dec.{T, eqb, leb, ltb, leb→le}
 use borrow.Author.Tests.{eq-eqb, ne-eqb, le-leb, lt-leb}
 use Rattle.wiring.specs.Frames.{bytesFor, Refusal, Result, refused, good, unless, then, refusal}
@@ -14,7 +15,7 @@ use Rattle.files.specs.declared.Phy.the-variants.{Vacant, Present}
 use Rattle.files.specs.Domain.{Domain, expanderAt, phyAt, addressOf, toExpander, numberOf}
 use Rattle.wiring.specs.declared.Check.{Check}
 use Rattle.wiring.specs.declared.Check.the-variants.{Refused}
-use Rattle.wiring.specs.Checks.{checkAnswer}
+use Rattle.wiring.specs.Checks.{checkAnswer, checkedIn}
 use Rattle.files.specs.Rows.{phyIn, phyWord, phyHeld, domainIn}
 use Rattle.wiring.specs.Addresses.{numberIn, slotOf, farNumber}
 use Rattle.files.specs.PhySet.{setPhy, withWords, heldAs, PhySet}
@@ -25,15 +26,17 @@ use Rattle.files.proofs.InRows.{phy-held}
 use Rattle.tables.specs.Own.{own}
 use Rattle.tables.specs.Tables.{needed}
 use Rattle.tables.specs.Judge.{tablesFor}
-use Rattle.tables.specs.Entries.{Entries, Room, Enough}
+use Rattle.tables.specs.Entries.{Entries, Room, roomOf, Enough}
 use Rattle.tables.specs.Filling.{placesAt}
-use Rattle.tables.specs.Prepared.{OwnHeld, FarsKnown, Fillable, judgedIn}
-use Rattle.tables.proofs.Judging.{fillable-by}
+use Rattle.tables.specs.Levels.{once, belowPhys}
+use Rattle.tables.specs.Prepared.{OwnHeld, BelowHeld, belowOnce, queue, orderOf, orderList, overOwn, FarsKnown, Fillable}
+use Rattle.tables.proofs.Judging.{fillable-by, own-checked}
+use Rattle.tables.proofs.Owns.{phys-few}
 use Rattle.tables.specs.declared.Replugged.{Replugged}
 use Rattle.tables.specs.declared.Replugged.the-variants.{Refused as NotReplugged}
 use Rattle.tables.specs.Refilling.{movedBy}
-use Rattle.tables.specs.Replugging.{pluggable, replug, replugged, claimedWith, retested, admitted, replugCall, rowsAfter, ownTouched, ownRefilled, replugAnswer, ReplugDone, OwnHeldBut}
-use Rattle.tables.proofs.Edited.{phy-there, size-same, number-same, by-phy, own-other, needed-same, unattached, replug-unattached}
+use Rattle.tables.specs.Replugging.{pluggable, replug, replugged, claimedWith, retested, fitted, admitted, replugCall, rowsAfter, ownTouched, ownRefilled, replugAnswer, ReplugDone, ReplugReady, ReplugRun, OwnHeldBut}
+use Rattle.tables.proofs.Edited.{phy-there, size-same, number-same, indexes-same, by-phy, routes-same, below-same, first-level-same, own-other, needed-same, unattached, replug-unattached}
 
 -- a phy held in two words is held as it is once a drive is plugged into it or pulled from it
 held-in : (a b w : ℕ) → T (pluggable (phyIn b w)) → heldAs (replug a (phyIn b w)) ≡ replug a (phyIn b w)
@@ -110,6 +113,40 @@ module _ (ws : List ℕ) (e p a : ℕ) (f : T (pluggable (phyAt (domainIn ws) e 
         cell = λ i l o. subst (λ x. take (suc (length x)) (drop (129 * i) lists) ≡ length x ∷ x) (sym (own-other d e p a f i o)) (h .cell i (subst (λ n. i < n) (size-same d e p a f) l));
       }
 
+-- the expanders below each, and the order of each phy, are as they were
+module _ (d : Domain) (e p a : ℕ) (f : T (pluggable (phyAt d e p))) where
+  abbrev edited : Domain
+  edited = replugged d e p a
+
+  once-same : (i : ℕ) → belowOnce edited i ≡ belowOnce d i
+  once-same i = ap (once []) (below-same d e p a f i)
+
+  queue-same : (turns : ℕ) (waiting : List ℕ) → queue turns edited waiting ≡ queue turns d waiting
+  unfolding queue
+  queue-same zero waiting = refl
+  queue-same (suc turns) [] = refl
+  queue-same (suc turns) (i ∷ waiting) = ap (λ l. i ∷ l) (ap (λ l. queue turns edited (waiting ++ l)) (once-same i) ∙ queue-same turns (waiting ++ belowOnce d i))
+
+  order-same : (i q : ℕ) → orderOf edited (phyAt edited i q) ≡ orderOf d (phyAt d i q)
+  unfolding orderOf
+  order-same i q = ap₂ (λ n l. queue n edited l) (size-same d e p a f) (first-level-same d e p a f i q) ∙ queue-same (length d) (belowPhys d (phyAt d i q ∷ []))
+
+  -- lists are no longer than they were where e's own list is not
+  shorter : length (own edited e) ≤ length (own d e) → (is : List ℕ) → length (flatMap (own edited) is) ≤ length (flatMap (own d) is)
+  unfolding flatMap
+  shorter h [] = omega arith
+  shorter h (i ∷ is) =
+      omega (arith, shorter h is, length-append (own edited i) (flatMap (own edited) is), length-append (own d i) (flatMap (own d) is),
+      by-cases (ℕ-discrete i e) (λ k. subst (λ j. length (own edited j) ≤ length (own d j)) (sym k) h) (λ k. subst (λ l. length l ≤ length (own d i)) (sym (own-other d e p a f i k)) (omega arith)))
+
+  -- so the tables can be filled as before
+  pub fills-replugged : Fillable d → length (own edited e) ≤ length (own d e) → Fillable edited
+  unfolding orderList
+  fills-replugged h k i q t =
+      let old = h i q (subst T (routes-same d e p a f 2 i q) t) in
+      let l = shorter k (orderOf d (phyAt d i q)) in
+      omega (arith, old, subst (λ o. length (flatMap (own edited) o) ≤ length (flatMap (own d) (orderOf d (phyAt d i q)))) (sym (order-same i q)) l, indexes-same d e p a f i)
+
 -- what is known of a domain that is the edited one
 module _ (ws : List ℕ) (e p a : ℕ) (f : T (pluggable (phyAt (domainIn ws) e p))) (d₂ : Domain) (is : d₂ ≡ replugged (domainIn ws) e p a) where
   pub fars-then : (first : List ℕ) → FarsKnown (domainIn ws) first → FarsKnown d₂ first
@@ -120,6 +157,27 @@ module _ (ws : List ℕ) (e p a : ℕ) (f : T (pluggable (phyAt (domainIn ws) e 
 
   pub size-then : length d₂ ≡ length (domainIn ws)
   size-then = ap length is ∙ size-same (domainIn ws) e p a f
+
+  pub below-then : (bytes : List ℕ) → BelowHeld (domainIn ws) bytes → BelowHeld d₂ bytes
+  below-then bytes h =
+      subst (λ x. BelowHeld x bytes) (sym is)
+      (record {
+        enough = subst (λ n. 66 * n ≤ length bytes) (sym (size-same (domainIn ws) e p a f)) (h .enough);
+        cell = λ i l. subst (λ x. take (suc (length x)) (drop (66 * i) bytes) ≡ length x ∷ x) (sym (once-same (domainIn ws) e p a f i)) (h .cell i (subst (λ n. i < n) (size-same (domainIn ws) e p a f) l));
+      })
+
+  -- what was prepared for the domain as lent is prepared for it, too, once e's own list is written anew
+  pub ready-then : (n : ℕ) → n ≡ length (own (domainIn ws) e) → (first lists lists′ bytes order : List ℕ)
+      → ReplugReady (domainIn ws) e (length (own (domainIn ws) e)) first lists bytes order → OwnHeld d₂ lists′ → ReplugReady d₂ e n first lists′ bytes order
+  ready-then n was first lists lists′ bytes order h owns =
+      record {
+        fars = fars-then first (h .fars);
+        owns = owns;
+        below = below-then bytes (h .below);
+        room = omega (arith, size-then, h .room);
+        few = h .few;
+        fills = λ k. subst Fillable (sym is) (fills-replugged (domainIn ws) e p a f (h .fills (omega arith)) (omega (arith, was, subst (λ x. length (own x e) ≤ n) is k)));
+      }
 
   pub enough-then : (room : Room) → Enough (needed (domainIn ws)) room → Enough (needed d₂) room
   enough-then room h = subst (λ n. Enough n room) (sym (ap needed is ∙ needed-same (domainIn ws) e p a f)) h
@@ -164,35 +222,42 @@ replug-done o e d answer before after q l m = rw q (record { left = l; answers =
 pub replug-as : (o x : Result Domain) (e : ℕ) (answer : Replugged) (before after : Entries) → o ≡ x → ReplugDone x e answer before after → ReplugDone o e answer before after
 replug-as o x e answer before after q h = rw q h
 
--- the outcomes of the call, as judging and the tests after it come out
-module _ (chain first low : ℕ) (room : Room) (e p a : ℕ) (d : Domain) where
-  abbrev allowed : Result Domain
-  allowed = admitted chain first low room e p d
+-- the outcomes past causes 7 to 12 and 23, as 14 and the tests after it come out
+module _ (room : Room) (e p a : ℕ) (d : Domain) where
+  abbrev admission-of : Result Domain
+  admission-of = unless (pluggable (phyAt d e p)) (refusal 20 0 0) (tablesFor room d)
 
-  abbrev outcome : Result Domain
-  outcome = replugCall chain first low room e p a d
+  abbrev run : Result Domain
+  run = then (fitted room e p d) (λ _. retested e a (replugged d e p a))
 
-  pub unjudged : (r : Refusal) → judgedIn chain first low d ≡ refused r → (allowed ≡ refused r) × (outcome ≡ refused r)
-  unfolding replugCall
-  unjudged r q = (rw q refl, rw q refl)
+  pub unfitted : (r : Refusal) → firstOf 14 (overOwn d) d ≡ refused r → (fitted room e p d ≡ refused r) × (run ≡ refused r)
+  unfitted r q = (rw q refl, rw q refl)
 
-  pub unadmitted : (x : Domain) (r : Refusal) → judgedIn chain first low d ≡ good x → unless (pluggable (phyAt d e p)) (refusal 20 0 0) (tablesFor room d) ≡ refused r
-      → (allowed ≡ refused r) × (outcome ≡ refused r)
-  unfolding replugCall
-  unadmitted x r q s = let k : allowed ≡ refused r = rw q s in (k, ap (λ y. then y (λ _. retested e a (replugged d e p a))) k)
+  pub unadmitted : (x : Domain) (r : Refusal) → firstOf 14 (overOwn d) d ≡ good x → admission-of ≡ refused r → (fitted room e p d ≡ refused r) × (run ≡ refused r)
+  unadmitted x r q s = let k : fitted room e p d ≡ refused r = rw q s in (k, ap (λ y. then y (λ _. retested e a (replugged d e p a))) k)
 
-  pub as-retested : (x y : Domain) → judgedIn chain first low d ≡ good x → unless (pluggable (phyAt d e p)) (refusal 20 0 0) (tablesFor room d) ≡ good y
-      → (allowed ≡ good y) × (outcome ≡ retested e a (replugged d e p a))
-  unfolding replugCall
-  as-retested x y q s = let k : allowed ≡ good y = rw q s in (k, ap (λ z. then z (λ _. retested e a (replugged d e p a))) k)
+  pub as-retested : (x y : Domain) → firstOf 14 (overOwn d) d ≡ good x → admission-of ≡ good y → (fitted room e p d ≡ good y) × (run ≡ retested e a (replugged d e p a))
+  as-retested x y q s = let k : fitted room e p d ≡ good y = rw q s in (k, ap (λ z. then z (λ _. retested e a (replugged d e p a))) k)
 
   -- past 20, 16 and 18: a drive can be plugged or pulled, and there is room
-  pub admitted-facts : (y : Domain) → unless (pluggable (phyAt d e p)) (refusal 20 0 0) (tablesFor room d) ≡ good y → (T (pluggable (phyAt d e p))) × Enough (needed d) room
+  pub admitted-facts : (y : Domain) → admission-of ≡ good y → (T (pluggable (phyAt d e p))) × Enough (needed d) room
   admitted-facts y s =
       let f = unless-good (pluggable (phyAt d e p)) (refusal 20 0 0) (tablesFor room d) y s in
       let g = unless-good (leb (needed d) (room .words)) (refusal 16 0 0) _ y (f .1) in
       let h = unless-good (leb (bytesFor (needed d)) (room .bits)) (refusal 18 0 0) (good d) y (g .1) in
       (f .0, record { words = leb→le (needed d) (room .words) (g .0); bits = leb→le (bytesFor (needed d)) (room .bits) (h .0) })
+
+  -- the outcomes of the call, as causes 7 to 12 and 23 come out
+  module _ (chain first low : ℕ) where
+    pub unchecked : (r : Refusal) → checkedIn chain first low d ≡ refused r → (admitted chain first low room e p d ≡ refused r) × (replugCall chain first low room e p a d ≡ refused r)
+    unfolding replugCall
+    unchecked r q = let j = own-checked chain first low d (refused r) q in (rw j refl, rw j refl)
+
+    pub as-run : (x : Domain) → checkedIn chain first low d ≡ good x → (admitted chain first low room e p d ≡ fitted room e p d) × (replugCall chain first low room e p a d ≡ run)
+    unfolding replugCall
+    as-run x q =
+        let k : admitted chain first low room e p d ≡ fitted room e p d = ap (λ (y : Result Domain). then y (λ _. admission-of)) (own-checked chain first low d (good x) q) in
+        (k, ap (λ y. then y (λ _. retested e a (replugged d e p a))) k)
 
 -- the rows after a call that was not admitted, or was
 pub rows-stay : (o : Result Domain) (r : Refusal) (ws : List ℕ) (e p : ℕ) (φ : Phy) → o ≡ refused r → ws ≡ rowsAfter o ws e p φ
@@ -200,3 +265,39 @@ rows-stay o r ws e p φ q = rw q refl
 
 pub rows-set : (o : Result Domain) (d : Domain) (ws ws′ : List ℕ) (e p : ℕ) (φ : Phy) → o ≡ good d → ws′ ≡ withWords ws e p φ → ws′ ≡ rowsAfter o ws e p φ
 rows-set o d ws ws′ e p φ q s = rw q s
+
+pub rows-as : (o x : Result Domain) (ws ws′ : List ℕ) (e p : ℕ) (φ : Phy) → o ≡ x → ws′ ≡ rowsAfter x ws e p φ → ws′ ≡ rowsAfter o ws e p φ
+rows-as o x ws ws′ e p φ q h = rw q h
+
+-- what a refused call leaves, and one that goes on
+module _ (ws : List ℕ) (e p a : ℕ) (before : Entries) where
+  abbrev lent : Domain
+  lent = domainIn ws
+
+  pub run-refused : (r : Refusal) → (fitted (roomOf before) e p lent ≡ refused r) × (run (roomOf before) e p a lent ≡ refused r) → ReplugRun ws ws e p a (NotReplugged r) before before
+  run-refused r q = record { rows = rows-stay _ r ws e p _ (q .0); done = replug-refused _ e r before (q .1) }
+
+  pub run-done : (y : Domain) (ws′ : List ℕ) (answer : Replugged) (after : Entries)
+      → (fitted (roomOf before) e p lent ≡ good y) × (run (roomOf before) e p a lent ≡ retested e a (replugged lent e p a)) → ws′ ≡ withWords ws e p (replug a (phyAt lent e p))
+      → ReplugDone (retested e a (replugged lent e p a)) e answer before after → ReplugRun ws ws′ e p a answer before after
+  run-done y ws′ answer after q s t = record { rows = rows-set _ y ws ws′ e p _ (q .0) s; done = replug-as _ _ e answer before after (q .1) t }
+
+  vacant : (q : ℕ) → 128 ≤ q → phyAt lent e q ≡ Vacant 0
+  vacant q h = List·getD-eq-default (expanderAt lent e .phys) (Vacant 0) (omega (arith, phys-few ws e))
+
+  -- at phys from 128 on it is refused with one refusal
+  past : (x : Result Domain) → firstOf 14 (overOwn lent) lent ≡ x → (r : Refusal) × ((q : ℕ) → 128 ≤ q → fitted (roomOf before) e q lent ≡ refused r)
+  past (refused r) j = (r, λ q h. rw j refl)
+  past (good x) j = (refusal 20 0 0, λ q h. rw (j, vacant q h) refl)
+
+  pub run-past : (ws′ : List ℕ) (answer : Replugged) (after : Entries) → 128 ≤ p → ReplugRun ws ws′ e 128 a answer before after → ReplugRun ws ws′ e p a answer before after
+  run-past ws′ answer after h k =
+      let s = past (firstOf 14 (overOwn lent) lent) refl in
+      let there : fitted (roomOf before) e 128 lent ≡ refused (s .0) = s .1 128 (omega arith) in
+      let here : fitted (roomOf before) e p lent ≡ refused (s .0) = s .1 p h in
+      record {
+        rows = k .rows ∙ ap (λ y. rowsAfter y ws e 128 (replug a (phyAt lent e 128))) there ∙ sym (ap (λ y. rowsAfter y ws e p (replug a (phyAt lent e p))) here);
+        done =
+            replug-as _ _ e answer before after (ap (λ y. then y (λ _. retested e a (replugged lent e p a))) here)
+            (replug-as _ _ e answer before after (sym (ap (λ y. then y (λ _. retested e a (replugged lent e 128 a))) there)) (k .done));
+      }

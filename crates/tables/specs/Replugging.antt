@@ -15,11 +15,12 @@ use Rattle.files.specs.Domain.{Domain, expanderAt, phyAt, addressOf, toEnd}
 use Rattle.wiring.specs.Causes.{Place, clashing, firstIn, firstOf}
 use Rattle.wiring.specs.Addresses.{isTaken}
 use Rattle.files.specs.PhySet.{setPhy, withWords}
-use Rattle.tables.specs.Entries.{Entries, Room}
+use Rattle.files.specs.Rows.{domainIn}
+use Rattle.tables.specs.Entries.{Entries, Room, roomOf}
 use Rattle.tables.specs.Filling.{placesAt}
 use Rattle.tables.specs.Own.{own}
 use Rattle.tables.specs.Judge.{tablesFor}
-use Rattle.tables.specs.Prepared.{orderOf, orderList, overOwn, filledTo, judgedIn}
+use Rattle.tables.specs.Prepared.{OwnHeld, BelowHeld, orderOf, orderList, overOwn, filledTo, Fillable, FarsKnown, judgedIn}
 use Rattle.tables.specs.Refilling.{refilledBy, Moved, movedBy}
 use Rattle.tables.specs.declared.Replugged.{Replugged}
 use Rattle.tables.specs.declared.Replugged.the-variants.{Refused, Counts}
@@ -50,6 +51,13 @@ retested e s d =
     then (firstOf 8 (claimedWith s d) d) (λ _.
     then (firstIn 9 (clashing d) (placesAt d e) d) (λ _.
     firstOf 14 (overOwn d) d))
+
+-- 14 by own lists of a domain past causes 7 to 12 and 23, then 20, 16 and 18
+abbrev pub fitted : Room → ℕ → ℕ → Domain → Result Domain
+fitted room e p d =
+    then (firstOf 14 (overOwn d) d) (λ _.
+    unless (pluggable (phyAt d e p)) (refusal 20 0 0)
+    (tablesFor room d))
 
 -- causes 7 to 12, 23 and 14 by own lists of the domain as lent, with room for so many slots and phys; then 20, 16 and 18
 abbrev pub admitted : ℕ → ℕ → ℕ → Room → ℕ → ℕ → Domain → Result Domain
@@ -97,3 +105,18 @@ pub record ReplugDone (outcome : Result Domain) (e : ℕ) (answer : Replugged) (
 pub record OwnHeldBut (d : Domain) (e : ℕ) (words : List ℕ) : Type 0 where
   pub enough : 129 * length d ≤ length words
   pub cell : (i : ℕ) → i < length d → i ≢ e → take (suc (length (own d i))) (drop (129 * i) words) ≡ length (own d i) ∷ own d i
+
+-- all that is prepared where a drive is plugged or pulled at expander e: own lists, the expanders below each, and room for the levels of one phy. Tables
+-- can be filled as long as e's own list has at most n words
+pub record ReplugReady (d : Domain) (e n : ℕ) (first lists bytes order : List ℕ) : Type 0 where
+  pub fars : FarsKnown d first
+  pub owns : OwnHeld d lists
+  pub below : BelowHeld d bytes
+  pub room : 65 * length d < length order
+  pub few : length order ≤ 4161
+  pub fills : length (own d e) ≤ n → Fillable d
+
+-- rows and entries before and after address a is plugged into phy p of expander e, or its drive pulled, of a domain past causes 7 to 12 and 23, and the answer
+pub record ReplugRun (ws ws′ : List ℕ) (e p a : ℕ) (answer : Replugged) (before after : Entries) : Type 0 where
+  pub rows : ws′ ≡ rowsAfter (fitted (roomOf before) e p (domainIn ws)) ws e p (replug a (phyAt (domainIn ws) e p))
+  pub done : ReplugDone (then (fitted (roomOf before) e p (domainIn ws)) (λ _. retested e a (replugged (domainIn ws) e p a))) e answer before after

@@ -150,3 +150,14 @@ pub(crate) fn own_count(rows: &[u64], counts: &[u8], i: ExpanderNumber) -> usize
     }
     counts[i.0 as usize] as usize
 }
+
+// The length of expander i's own list; 0 where there is no such expander.
+pub(crate) fn own_length(rows: &[u64], lists: &[u64], i: ExpanderNumber) -> usize
+    requires { ⌜ OwnHeld (domainIn (now rows)) (now lists) ⌝ }
+    ensures { λ r. ⌜ r ≡ length (own (domainIn (now (rows .entry))) (i .0)) ⌝ }
+{
+    if i.0 >= wiring::expander_count(rows) {
+        return 0;
+    }
+    lists[129 * (i.0 as usize)] as usize
+}

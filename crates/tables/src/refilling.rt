@@ -5,6 +5,7 @@ use crate::all_tables;
 use crate::below;
 use crate::filling;
 use crate::order;
+use crate::own;
 use crate::word_places;
 use wiring::ExpanderNumber;
 use wiring::Phy;
@@ -73,17 +74,6 @@ fn count_nonzero(part: &[u64]) -> usize
     sum
 }
 
-// The length of expander i's own list; 0 where there is no such expander.
-fn own_length(rows: &[u64], lists: &[u64], i: ExpanderNumber) -> usize
-    requires { ⌜ OwnHeld (domainIn (now rows)) (now lists) ⌝ }
-    ensures { λ r. ⌜ r ≡ length (own (domainIn (now (rows .entry))) (i .0)) ⌝ }
-{
-    if i.0 >= wiring::expander_count(rows) {
-        return 0;
-    }
-    lists[129 * (i.0 as usize)] as usize
-}
-
 // At how many places expander i's own list, which has n words, differs from the first words of `part`.
 fn count_own(rows: &[u64], lists: &[u64], i: ExpanderNumber, n: usize, part: &[u64]) -> usize
     requires { ⌜ OwnHeld (domainIn (now rows)) (now lists) × ((n ≡ length (own (domainIn (now rows)) (i .0))) × (n ≤ length (now part))) ⌝ }
@@ -108,7 +98,7 @@ fn count_table(rows: &[u64], lists: &[u64], order: &[u8], part: &[u64]) -> usize
     let mut k: usize = 0;
     while k < order.len() {
         let i = ExpanderNumber(order[k]);
-        let n = own_length(rows, lists, i);
+        let n = own::own_length(rows, lists, i);
         sum += count_own(rows, lists, i, n, &part[m..]);
         m += n;
         k += 1;

@@ -3,7 +3,6 @@
 use crate::Replugged;
 use crate::all_tables;
 use crate::below;
-use crate::calls;
 use crate::own;
 use crate::refilling;
 use crate::retesting;
@@ -28,8 +27,9 @@ ghost use Rattle.wiring.specs.Addresses.{Indexed, IndexLeft};
 ghost use Rattle.tables.specs.Entries.{entries, roomOf, Enough};
 ghost use Rattle.tables.specs.Tables.{needed};
 ghost use Rattle.tables.specs.Judge.{tablesFor};
+ghost use Rattle.tables.specs.Own.{own};
 ghost use Rattle.tables.specs.Prepared.{FillRoom};
-ghost use Rattle.tables.specs.Replugging.{pluggable, replug, replugged, retested, admitted, replugCall, rowsAfter, ReplugDone};
+ghost use Rattle.tables.specs.Replugging.{pluggable, replug, replugged, retested, admitted, replugCall, rowsAfter, ReplugDone, ReplugReady, ReplugRun};
 ghost use Rattle.tables.specs.declared.Replugged.the-variants.{Refused as NotReplugged};
 
 // Whether a drive can be plugged into the phy or pulled from it: 20 does not hold.
@@ -96,8 +96,39 @@ fn admit(rows: &[u64], words: usize, bits: usize, e: ExpanderNumber, p: PhyId) -
     Check::Passed
 }
 
-// Replaces the phy in rows, tests what can hold of the edited domain, and writes the touched tables afresh; with room for own
-// lists, for the expanders below each, and for the levels of one phy.
+// Replaces the phy in rows, tests what can hold of the edited domain, and writes the touched tables afresh; with own lists and the
+// expanders below each as they are before, and room for the levels of one phy.
+fn replug_prepared(
+    rows: &mut [u64],
+    first: &[u16],
+    low: &[u8],
+    lists: &mut [u64],
+    below: &[u8],
+    order: &mut [u8],
+    words: &mut [u64],
+    bits: &mut [u8],
+    e: ExpanderNumber,
+    p: PhyId,
+    a: u64,
+) -> Replugged
+    requires { ⌜ ReplugReady (domainIn (now rows)) (e .0) (length (own (domainIn (now rows)) (e .0))) (now first) (now lists) (now below) (now order) × (T (pluggable (phyAt (domainIn (now rows)) (e .0) (p .0)))
+        × Enough (needed (domainIn (now rows))) (roomOf (entries (now words) (now bits)))) ⌝ }
+    ensures { λ r. ⌜ (now (rows .exit) ≡ withWords (now (rows .entry)) (e .0) (p .0) (replug a (phyAt (domainIn (now (rows .entry))) (e .0) (p .0))))
+        × ReplugDone (retested (e .0) a (replugged (domainIn (now (rows .entry))) (e .0) (p .0) a)) (e .0) r
+        (entries (now (words .entry)) (now (bits .entry))) (entries (now (words .exit)) (now (bits .exit))) ⌝ }
+{
+    let n = own::own_length(rows, lists, e);
+    let f = wiring::phy_at(rows, e, p);
+    wiring::set_phy(rows, e, p, replug_phy(a, f));
+    retesting::renew_own(rows, e, lists);
+    let verdict = retesting::retest(rows, first, low, lists, below, order, e, a, n);
+    match verdict {
+        Check::Refused(r) => Replugged::Refused(r),
+        Check::Passed => refilling::refill_all(rows, first, lists, below, order, e, words, bits),
+    }
+}
+
+// Tests 14, 20, 16 and 18 and replugs a drive, with room for own lists, for the expanders below each, and for the levels of one phy.
 fn replug_in(
     rows: &mut [u64],
     first: &[u16],
@@ -111,25 +142,38 @@ fn replug_in(
     p: PhyId,
     a: u64,
 ) -> Replugged
-    requires { ⌜ Indexed (domainIn (now rows)) (now first) (now low) × ((FillRoom (domainIn (now rows)) (now lists) (now below) (now order) × (length (now order) ≤ 4161))
-        × (T (pluggable (phyAt (domainIn (now rows)) (e .0) (p .0))) × Enough (needed (domainIn (now rows))) (roomOf (entries (now words) (now bits))))) ⌝ }
-    ensures { λ r. ⌜ (now (rows .exit) ≡ withWords (now (rows .entry)) (e .0) (p .0) (replug a (phyAt (domainIn (now (rows .entry))) (e .0) (p .0))))
-        × ReplugDone (retested (e .0) a (replugged (domainIn (now (rows .entry))) (e .0) (p .0) a)) (e .0) r
+    requires { ⌜ Indexed (domainIn (now rows)) (now first) (now low) × (FillRoom (domainIn (now rows)) (now lists) (now below) (now order) × (length (now order) ≤ 4161)) ⌝ }
+    ensures { λ r. ⌜ ReplugRun (now (rows .entry)) (now (rows .exit)) (e .0) (p .0) a r
         (entries (now (words .entry)) (now (bits .entry))) (entries (now (words .exit)) (now (bits .exit))) ⌝ }
 {
     own::put_owns(rows, low, lists);
-    let f = wiring::phy_at(rows, e, p);
-    wiring::set_phy(rows, e, p, replug_phy(a, f));
-    retesting::renew_own(rows, e, lists);
     below::put_below(rows, first, low, below);
-    let verdict = retesting::retest(rows, first, low, lists, below, order, e, a);
-    match verdict {
+    let fit = retesting::first_overlong_by(rows, first, low, lists, below, order);
+    match fit {
         Check::Refused(r) => Replugged::Refused(r),
-        Check::Passed => refilling::refill_all(rows, first, lists, below, order, e, words, bits),
+        Check::Passed => {
+            let admission = admit(rows, words.len(), bits.len(), e, p);
+            match admission {
+                Check::Refused(r) => Replugged::Refused(r),
+                Check::Passed => replug_prepared(
+                    rows,
+                    first,
+                    low,
+                    lists,
+                    below,
+                    order,
+                    words,
+                    bits,
+                    e,
+                    p,
+                    a,
+                ),
+            }
+        }
     }
 }
 
-// Replugs a drive that was admitted, with room for at most 8 expanders.
+// Replugs a drive in a domain past causes 7 to 12 and 23, with room for at most 8 expanders.
 fn replug_few(
     rows: &mut [u64],
     first: &[u16],
@@ -140,10 +184,8 @@ fn replug_few(
     p: PhyId,
     a: u64,
 ) -> Replugged
-    requires { ⌜ (length (domainIn (now rows)) ≤ 8) × (Indexed (domainIn (now rows)) (now first) (now low)
-        × (T (pluggable (phyAt (domainIn (now rows)) (e .0) (p .0))) × Enough (needed (domainIn (now rows))) (roomOf (entries (now words) (now bits))))) ⌝ }
-    ensures { λ r. ⌜ (now (rows .exit) ≡ withWords (now (rows .entry)) (e .0) (p .0) (replug a (phyAt (domainIn (now (rows .entry))) (e .0) (p .0))))
-        × ReplugDone (retested (e .0) a (replugged (domainIn (now (rows .entry))) (e .0) (p .0) a)) (e .0) r
+    requires { ⌜ (length (domainIn (now rows)) ≤ 8) × Indexed (domainIn (now rows)) (now first) (now low) ⌝ }
+    ensures { λ r. ⌜ ReplugRun (now (rows .entry)) (now (rows .exit)) (e .0) (p .0) a r
         (entries (now (words .entry)) (now (bits .entry))) (entries (now (words .exit)) (now (bits .exit))) ⌝ }
 {
     let mut lists = [0u64; 1032];
@@ -164,7 +206,7 @@ fn replug_few(
     )
 }
 
-// Replugs a drive that was admitted, with room for the most expanders.
+// Replugs a drive in such a domain, with room for the most expanders.
 fn replug_many(
     rows: &mut [u64],
     first: &[u16],
@@ -175,10 +217,8 @@ fn replug_many(
     p: PhyId,
     a: u64,
 ) -> Replugged
-    requires { ⌜ Indexed (domainIn (now rows)) (now first) (now low)
-        × (T (pluggable (phyAt (domainIn (now rows)) (e .0) (p .0))) × Enough (needed (domainIn (now rows))) (roomOf (entries (now words) (now bits)))) ⌝ }
-    ensures { λ r. ⌜ (now (rows .exit) ≡ withWords (now (rows .entry)) (e .0) (p .0) (replug a (phyAt (domainIn (now (rows .entry))) (e .0) (p .0))))
-        × ReplugDone (retested (e .0) a (replugged (domainIn (now (rows .entry))) (e .0) (p .0) a)) (e .0) r
+    requires { ⌜ Indexed (domainIn (now rows)) (now first) (now low) ⌝ }
+    ensures { λ r. ⌜ ReplugRun (now (rows .entry)) (now (rows .exit)) (e .0) (p .0) a r
         (entries (now (words .entry)) (now (bits .entry))) (entries (now (words .exit)) (now (bits .exit))) ⌝ }
 {
     let mut lists = [0u64; 8256];
@@ -199,9 +239,9 @@ fn replug_many(
     )
 }
 
-// Replugs a drive that was admitted. Few expanders need little room. No phy has a number above 127; that it calls itself there gives each room a
-// stack frame of its own (docs/DECISIONS.md, 17).
-fn replug_admitted(
+// Replugs a drive in a domain past causes 7 to 12 and 23. Few expanders need little room. No expander has a phy 128, nor any after it; that it calls
+// itself there gives each room a stack frame of its own (docs/DECISIONS.md, 17).
+fn replug_checked(
     rows: &mut [u64],
     first: &[u16],
     low: &[u8],
@@ -211,14 +251,12 @@ fn replug_admitted(
     p: PhyId,
     a: u64,
 ) -> Replugged
-    requires { ⌜ Indexed (domainIn (now rows)) (now first) (now low)
-        × (T (pluggable (phyAt (domainIn (now rows)) (e .0) (p .0))) × Enough (needed (domainIn (now rows))) (roomOf (entries (now words) (now bits)))) ⌝ }
-    ensures { λ r. ⌜ (now (rows .exit) ≡ withWords (now (rows .entry)) (e .0) (p .0) (replug a (phyAt (domainIn (now (rows .entry))) (e .0) (p .0))))
-        × ReplugDone (retested (e .0) a (replugged (domainIn (now (rows .entry))) (e .0) (p .0) a)) (e .0) r
+    requires { ⌜ Indexed (domainIn (now rows)) (now first) (now low) ⌝ }
+    ensures { λ r. ⌜ ReplugRun (now (rows .entry)) (now (rows .exit)) (e .0) (p .0) a r
         (entries (now (words .entry)) (now (bits .entry))) (entries (now (words .exit)) (now (bits .exit))) ⌝ }
 {
-    if p.0 > 127 {
-        return replug_admitted(rows, first, low, words, bits, e, PhyId(0), a);
+    if p.0 > 128 {
+        return replug_checked(rows, first, low, words, bits, e, PhyId(128), a);
     }
     if wiring::expander_count(rows) <= 8 {
         return replug_few(rows, first, low, words, bits, e, p, a);
@@ -248,15 +286,9 @@ pub fn replug_rows(
         (e .0) r (entries (now (words .entry)) (now (bits .entry))) (entries (now (words .exit)) (now (bits .exit))) ⌝ }
     ensures { λ r. ⌜ IndexLeft (domainIn (now (rows .entry))) (now (first .entry)) (now (low .entry)) (now (first .exit)) (now (low .exit)) ⌝ }
 {
-    let verdict = calls::judge_rows(rows, first, low, chain);
-    match verdict {
+    let checked = wiring::check_domain(rows, first, low, chain);
+    match checked {
         Check::Refused(r) => Replugged::Refused(r),
-        Check::Passed => {
-            let admission = admit(rows, words.len(), bits.len(), e, p);
-            match admission {
-                Check::Refused(r) => Replugged::Refused(r),
-                Check::Passed => replug_admitted(rows, first, low, words, bits, e, p, a),
-            }
-        }
+        Check::Passed => replug_checked(rows, first, low, words, bits, e, p, a),
     }
 }

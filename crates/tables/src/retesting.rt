@@ -19,7 +19,7 @@ ghost use Rattle.files.specs.Rows.{domainIn};
 ghost use Rattle.tables.specs.Filling.{Grown, placesAt};
 ghost use Rattle.tables.specs.Own.{lower, owns, own};
 ghost use Rattle.tables.specs.Prepared.{FarsKnown, OwnHeld, Counted, BelowHeld, overOwn};
-ghost use Rattle.tables.specs.Replugging.{claimedWith, retested, OwnHeldBut};
+ghost use Rattle.tables.specs.Replugging.{claimedWith, retested, OwnHeldBut, ReplugReady};
 ghost use Rattle.tables.specs.Retests.{isEnd, endsAt, isFound};
 
 // Whether an expander has address s.
@@ -236,7 +236,7 @@ fn put_lengths(rows: &[u64], lists: &[u64], counts: &mut [u8])
 }
 
 // Cause 14 by own lists, with room for the levels of one phy.
-fn first_overlong_by(
+pub(crate) fn first_overlong_by(
     rows: &[u64],
     first: &[u16],
     low: &[u8],
@@ -253,8 +253,29 @@ fn first_overlong_by(
     overlong::overlong_each(rows, first, low, &counts[..], below, order)
 }
 
+// Cause 14 of a domain whose lists have at most R words as long as expander e's own list has at most n.
+fn overlong_past(
+    rows: &[u64],
+    first: &[u16],
+    low: &[u8],
+    lists: &[u64],
+    below: &[u8],
+    order: &mut [u8],
+    e: ExpanderNumber,
+    n: usize,
+) -> Check
+    requires { ⌜ ReplugReady (domainIn (now rows)) (e .0) n (now first) (now lists) (now below) (now order) ⌝ }
+    ensures { λ r. ⌜ checkAnswer (domainIn (now (rows .entry))) r
+        ≡ firstOf 14 (overOwn (domainIn (now (rows .entry)))) (domainIn (now (rows .entry))) ⌝ }
+{
+    if own::own_length(rows, lists, e) <= n {
+        return Check::Passed;
+    }
+    first_overlong_by(rows, first, low, lists, below, order)
+}
+
 // The causes that can hold where one phy of expander e of an accepted domain has been given address s: 8 of s, 9 at
-// e, and 14, in order.
+// e, and 14, in order. Before, the own list of e had n words.
 pub(crate) fn retest(
     rows: &[u64],
     first: &[u16],
@@ -264,8 +285,9 @@ pub(crate) fn retest(
     order: &mut [u8],
     e: ExpanderNumber,
     s: u64,
+    n: usize,
 ) -> Check
-    requires { ⌜ FarsKnown (domainIn (now rows)) (now first) × (OwnHeld (domainIn (now rows)) (now lists) × (BelowHeld (domainIn (now rows)) (now below) × ((65 * length (domainIn (now rows)) < length (now order)) × (length (now order) ≤ 4161)))) ⌝ }
+    requires { ⌜ ReplugReady (domainIn (now rows)) (e .0) n (now first) (now lists) (now below) (now order) ⌝ }
     ensures { λ r. ⌜ checkAnswer (domainIn (now (rows .entry))) r ≡ retested (e .0) s (domainIn (now (rows .entry))) ⌝ }
 {
     let claimed = first_claim(rows, s);
@@ -275,7 +297,7 @@ pub(crate) fn retest(
             let clashing = first_clash(rows, e);
             match clashing {
                 Check::Refused(r) => Check::Refused(r),
-                Check::Passed => first_overlong_by(rows, first, low, lists, below, order),
+                Check::Passed => overlong_past(rows, first, low, lists, below, order, e, n),
             }
         }
     }

@@ -1,4 +1,4 @@
--- replug_few meets its contract: the room is enough for 8 expanders.
+-- replug_few meets its contract: its room is for 8 expanders.
 use Prim.Native.Nat.{ℕ}
 use native.Mathlib.Omega.{arith}
 use lib.ListN.{length-replicate}
@@ -18,7 +18,7 @@ slice-aggregate-replug-in-3 c = search needs
 replug-in-requires : tie.Need-replug-in-requires
 replug-in-requires c κs =
     let at-pre = c .before .before .before .before .before .before .before .before .before .before .before .pre in
-    (at-pre .1 .0, ((record { lists = omega (arith, length-replicate {A = ℕ} 1032 0, at-pre .0); below = omega (arith, length-replicate {A = ℕ} 528 0, at-pre .0); order = omega (arith, length-replicate {A = ℕ} 521 0, at-pre .0) }, omega (arith, length-replicate {A = ℕ} 521 0)), at-pre .1 .1))
+    (at-pre .1, (record { lists = omega (arith, at-pre .0, length-replicate {A = ℕ} 1032 0); below = omega (arith, at-pre .0, length-replicate {A = ℕ} 528 0); order = omega (arith, at-pre .0, length-replicate {A = ℕ} 521 0) }, omega (arith, length-replicate {A = ℕ} 521 0)))
 
 same-length : tie.Need-same-length
 same-length c = search needs

@@ -1,14 +1,11 @@
--- replug_in meets its contract: what was prepared for the domain as lent serves the edited one, but for the own list of the named expander.
-use mathlib.Core.Path.{_≡_, sym, ap, _∙_}
+-- replug_in meets its contract: it is refused by 14, 20, 16 or 18, or goes on as replug_prepared does.
+use mathlib.Core.Path.{sym, ap, _∙_}
 use native.Mathlib.Omega.{arith}
-use lib.ListN.{length}
-use Rattle.files.specs.Domain.{Domain}
-use Rattle.files.specs.PhySet.{withWords}
-use Rattle.wiring.specs.Checks.{checkAnswer}
 use Rattle.files.specs.Rows.{domainIn}
-use Rattle.tables.specs.Replugging.{replug, retested}
+use Rattle.wiring.specs.Checks.{checkAnswer}
 use Rattle.tables.proofs.Linked.{fars-known}
-use Rattle.tables.proofs.Replugs.{rows-are, fars-then, owns-then, size-then, enough-then, retested-fills, replug-refused, replug-done}
+use Rattle.tables.proofs.Judging.{fillable-by}
+use Rattle.tables.proofs.Replugs.{unfitted, unadmitted, as-retested, admitted-facts, run-refused, run-done}
 use borrow.Author.Needs.{needs}
 use Rattle.tables.proofs.replugging.replug_in.Statement.{statement}
 use Rattle.tables.proofs.replugging.replug_in.Tie as tie
@@ -16,70 +13,52 @@ use Rattle.tables.proofs.replugging.replug_in.Tie as tie
 put-owns-requires : tie.Need-put-owns-requires
 put-owns-requires c κs = search needs
 
-phy-at-requires : tie.Need-phy-at-requires
-phy-at-requires c κs = search needs
-
-replug-phy-requires : tie.Need-replug-phy-requires
-replug-phy-requires c κs = search needs
-
-set-phy-requires : tie.Need-set-phy-requires
-set-phy-requires c κs = search needs
-
-renew-own-requires : tie.Need-renew-own-requires
-renew-own-requires c κs =
-    let at-args = c .before .before .before .before .before .before .before .before .before .before .before .before .before .before .before .before .before .before .before .before .before .before .args in
-    let at-pre = c .before .before .before .before .before .before .before .before .before .before .before .before .before .before .before .before .before .before .before .before .before .before .pre in
-    let at-phy-at = c .before .before .before .before .before .before .before .phy-at in
-    let at-put-owns = c .before .before .before .before .before .before .before .before .before .before .before .put-owns in
-    owns-then (at-args .rows .now) (at-args .e .0) (at-args .p .0) (at-args .a) (at-pre .1 .1 .0) _ (rows-are (at-args .rows .now) (at-args .e .0) (at-args .p .0) (at-args .a) (at-pre .1 .1 .0) _ _ _ (at-phy-at .ensures) ((c .before .before .before .before .before .replug-phy) .ensures) ((c .before .before .before .before .set-phy) .ensures)) _ (at-put-owns .ensures)
-
 put-below-requires : tie.Need-put-below-requires
 put-below-requires c κs =
-    let at-args = c .before .before .before .before .before .before .before .before .before .before .before .before .before .before .before .before .before .before .before .before .before .before .before .before .before .before .before .args in
-    let at-pre = c .before .before .before .before .before .before .before .before .before .before .before .before .before .before .before .before .before .before .before .before .before .before .before .before .before .before .before .pre in
-    let at-phy-at = c .before .before .before .before .before .before .before .before .before .before .before .before .phy-at in
-    let at-replug-phy = c .before .before .before .before .before .before .before .before .before .before .replug-phy in
-    let at-set-phy = c .before .before .before .before .before .before .before .before .before .set-phy in
-    let is = rows-are (at-args .rows .now) (at-args .e .0) (at-args .p .0) (at-args .a) (at-pre .1 .1 .0) _ _ _ (at-phy-at .ensures) (at-replug-phy .ensures) (at-set-phy .ensures) in (fars-then (at-args .rows .now) (at-args .e .0) (at-args .p .0) (at-args .a) (at-pre .1 .1 .0) _ is (at-args .first .now) (fars-known (at-args .rows .now) (at-args .first .now) (at-pre .0 .firsts)), omega (arith, size-then (at-args .rows .now) (at-args .e .0) (at-args .p .0) (at-args .a) (at-pre .1 .1 .0) _ is, at-pre .1 .0 .0 .below))
+    let at-args = c .before .before .before .before .before .before .before .before .before .before .before .before .before .before .before .args in
+    let at-pre = c .before .before .before .before .before .before .before .before .before .before .before .before .before .before .before .pre in
+    (fars-known (at-args .rows .now) (at-args .first .now) (at-pre .0 .firsts), at-pre .1 .0 .below)
 
-retest-requires : tie.Need-retest-requires
-retest-requires c κs =
-    let at-args = c .before .before .before .before .before .before .before .before .before .before .before .before .before .before .before .before .before .before .before .before .before .before .before .before .before .before .before .before .before .before .before .before .before .before .args in
-    let at-pre = c .before .before .before .before .before .before .before .before .before .before .before .before .before .before .before .before .before .before .before .before .before .before .before .before .before .before .before .before .before .before .before .before .before .before .pre in
-    let at-phy-at = c .before .before .before .before .before .before .before .before .before .before .before .before .before .before .before .before .before .before .before .phy-at in
-    let at-replug-phy = c .before .before .before .before .before .before .before .before .before .before .before .before .before .before .before .before .before .replug-phy in
-    let at-set-phy = c .before .before .before .before .before .before .before .before .before .before .before .before .before .before .before .before .set-phy in
-    let at-renew-own = c .before .before .before .before .before .before .before .before .before .before .before .renew-own in
+first-overlong-by-requires : tie.Need-first-overlong-by-requires
+first-overlong-by-requires c κs =
+    let at-args = c .before .before .before .before .before .before .before .before .before .before .before .before .before .before .before .before .before .before .before .before .before .before .args in
+    let at-pre = c .before .before .before .before .before .before .before .before .before .before .before .before .before .before .before .before .before .before .before .before .before .before .pre in
+    let at-put-owns = c .before .before .before .before .before .before .before .before .before .before .before .put-owns in
     let at-put-below = c .before .before .before .before .before .before .put-below in
-    let is = rows-are (at-args .rows .now) (at-args .e .0) (at-args .p .0) (at-args .a) (at-pre .1 .1 .0) _ _ _ (at-phy-at .ensures) (at-replug-phy .ensures) (at-set-phy .ensures) in (fars-then (at-args .rows .now) (at-args .e .0) (at-args .p .0) (at-args .a) (at-pre .1 .1 .0) _ is (at-args .first .now) (fars-known (at-args .rows .now) (at-args .first .now) (at-pre .0 .firsts)), (at-renew-own .ensures, (at-put-below .ensures, (omega (arith, size-then (at-args .rows .now) (at-args .e .0) (at-args .p .0) (at-args .a) (at-pre .1 .1 .0) _ is, at-pre .1 .0 .0 .order), at-pre .1 .0 .1))))
+    (fars-known (at-args .rows .now) (at-args .first .now) (at-pre .0 .firsts), (at-put-owns .ensures, (at-put-below .ensures, (at-pre .1 .0 .order, at-pre .1 .1))))
 
-enum-known-verdict : tie.Need-enum-known-verdict
-enum-known-verdict c = search needs
+enum-known-fit : tie.Need-enum-known-fit
+enum-known-fit c = search needs
 
 enum-told : tie.Need-enum-told
 enum-told c = search needs
 
-refill-all-requires : tie.Need-refill-all-requires
-refill-all-requires c κs =
-    let at-args = c .before .before .before .before .before .before .before .before .before .before .before .before .before .before .before .before .before .before .before .before .before .before .before .before .before .before .before .before .before .before .before .before .before .before .before .before .before .before .before .before .before .before .before .before .before .args in
-    let at-pre = c .before .before .before .before .before .before .before .before .before .before .before .before .before .before .before .before .before .before .before .before .before .before .before .before .before .before .before .before .before .before .before .before .before .before .before .before .before .before .before .before .before .before .before .before .before .pre in
-    let at-phy-at = c .before .before .before .before .before .before .before .before .before .before .before .before .before .before .before .before .before .before .before .before .before .before .before .before .before .before .before .before .before .before .phy-at in
-    let at-replug-phy = c .before .before .before .before .before .before .before .before .before .before .before .before .before .before .before .before .before .before .before .before .before .before .before .before .before .before .before .before .replug-phy in
-    let at-set-phy = c .before .before .before .before .before .before .before .before .before .before .before .before .before .before .before .before .before .before .before .before .before .before .before .before .before .before .before .set-phy in
-    let at-renew-own = c .before .before .before .before .before .before .before .before .before .before .before .before .before .before .before .before .before .before .before .before .before .before .renew-own in
-    let at-put-below = c .before .before .before .before .before .before .before .before .before .before .before .before .before .before .before .before .before .put-below in
-    let at-retest = c .before .before .before .before .before .before .before .before .before .before .retest in
-    let at-enum-told = c .before .before .before .before .before .before .enum-told in
-    let is = rows-are (at-args .rows .now) (at-args .e .0) (at-args .p .0) (at-args .a) (at-pre .1 .1 .0) _ _ _ (at-phy-at .ensures) (at-replug-phy .ensures) (at-set-phy .ensures) in (fars-then (at-args .rows .now) (at-args .e .0) (at-args .p .0) (at-args .a) (at-pre .1 .1 .0) _ is (at-args .first .now) (fars-known (at-args .rows .now) (at-args .first .now) (at-pre .0 .firsts)), (at-renew-own .ensures, (at-put-below .ensures, (omega (arith, at-retest .kept .1 .1 .1 .1 .1 .0, size-then (at-args .rows .now) (at-args .e .0) (at-args .p .0) (at-args .a) (at-pre .1 .1 .0) _ is, at-pre .1 .0 .0 .order), (retested-fills (at-args .e .0) (at-args .a) _ _ (sym (at-retest .ensures) ∙ ap (checkAnswer _) (at-enum-told .given .1)), enough-then (at-args .rows .now) (at-args .e .0) (at-args .p .0) (at-args .a) (at-pre .1 .1 .0) _ is _ (at-pre .1 .1 .1))))))
+admit-requires : tie.Need-admit-requires
+admit-requires c κs = search needs
+
+enum-known-admission : tie.Need-enum-known-admission
+enum-known-admission c = search needs
+
+enum-told-2 : tie.Need-enum-told-2
+enum-told-2 c = search needs
+
+replug-prepared-requires : tie.Need-replug-prepared-requires
+replug-prepared-requires c κs =
+    let at-args = c .before .before .before .before .before .before .before .before .before .before .before .before .before .before .before .before .before .before .before .before .before .before .before .before .before .before .before .before .before .before .before .before .before .before .before .before .before .args in
+    let at-pre = c .before .before .before .before .before .before .before .before .before .before .before .before .before .before .before .before .before .before .before .before .before .before .before .before .before .before .before .before .before .before .before .before .before .before .before .before .before .pre in
+    let at-put-owns = c .before .before .before .before .before .before .before .before .before .before .before .before .before .before .before .before .before .before .before .before .before .before .before .before .before .before .put-owns in
+    let at-put-below = c .before .before .before .before .before .before .before .before .before .before .before .before .before .before .before .before .before .before .before .before .before .put-below in
+    let at-first-overlong-by = c .before .before .before .before .before .before .before .before .before .before .before .before .before .before .first-overlong-by in
+    let at-enum-told = c .before .before .before .before .before .before .before .before .before .before .enum-told in
+    let at-admit = c .before .before .before .before .before .before .before .before .admit in
+    let at-enum-told2 = c .before .before .before .before .before .before .enum-told2 in
+    (record { fars = fars-known (at-args .rows .now) (at-args .first .now) (at-pre .0 .firsts); owns = at-put-owns .ensures; below = at-put-below .ensures; room = omega (arith, at-pre .1 .0 .order, at-first-overlong-by .kept .1 .1 .1 .1 .1 .0); few = omega (arith, at-pre .1 .1, at-first-overlong-by .kept .1 .1 .1 .1 .1 .0); fills = λ _. fillable-by _ _ (sym (at-first-overlong-by .ensures) ∙ ap (checkAnswer _) (at-enum-told .given .1)) }, admitted-facts _ (at-args .e .0) (at-args .p .0) (at-args .a) (domainIn (at-args .rows .now)) _ (sym (at-admit .ensures) ∙ ap (checkAnswer _) (at-enum-told2 .given .1)))
 
 same-length : tie.Need-same-length
 same-length c = search needs
 
 same-length-2 : tie.Need-same-length-2
-same-length-2 c =
-    let at-renew-own = c .before .before .before .before .before .before .before .before .before .before .before .before .before .before .before .before .before .renew-own in
-    let at-put-owns = c .before .before .before .before .before .before .before .before .before .before .before .before .before .before .before .before .before .before .before .before .before .before .before .before .before .before .before .before .before .put-owns in
-    at-renew-own .kept .1 .1 .0 ∙ at-put-owns .kept .1 .1 .0
+same-length-2 c = search needs
 
 same-length-3 : tie.Need-same-length-3
 same-length-3 c = search needs
@@ -89,23 +68,14 @@ same-length-4 c = search needs
 
 returns : tie.Need-returns
 returns c =
-    let at-args = c .before .before .before .before .before .before .before .before .before .before .before .before .before .before .before .before .before .before .before .before .before .before .before .before .before .before .before .before .before .before .before .before .before .before .before .before .before .before .before .before .args in
-    let at-pre = c .before .before .before .before .before .before .before .before .before .before .before .before .before .before .before .before .before .before .before .before .before .before .before .before .before .before .before .before .before .before .before .before .before .before .before .before .before .before .before .before .pre in
-    let at-phy-at = c .before .before .before .before .before .before .before .before .before .before .before .before .before .before .before .before .before .before .before .before .before .before .before .before .before .phy-at in
-    let at-replug-phy = c .before .before .before .before .before .before .before .before .before .before .before .before .before .before .before .before .before .before .before .before .before .before .before .replug-phy in
-    let at-set-phy = c .before .before .before .before .before .before .before .before .before .before .before .before .before .before .before .before .before .before .before .before .before .before .set-phy in
-    let is = rows-are (at-args .rows .now) (at-args .e .0) (at-args .p .0) (at-args .a) (at-pre .1 .1 .0) _ _ _ (at-phy-at .ensures) (at-replug-phy .ensures) (at-set-phy .ensures) in (at-set-phy .ensures .words ∙ ap (withWords (at-args .rows .now) (at-args .e .0) (at-args .p .0)) (at-replug-phy .ensures ∙ ap (replug (at-args .a)) (at-phy-at .ensures)), replug-refused _ _ _ _ (ap (retested (at-args .e .0) (at-args .a)) (sym is) ∙ sym ((c .before .before .before .before .before .retest) .ensures) ∙ ap (checkAnswer _) ((c .before .verdict) .given .1)))
+    let at-args = c .before .before .before .before .before .before .before .before .before .before .before .before .before .before .before .before .before .before .before .before .before .before .before .before .before .before .before .before .args in
+    run-refused (at-args .rows .now) (at-args .e .0) (at-args .p .0) (at-args .a) _ _ (unfitted _ (at-args .e .0) (at-args .p .0) (at-args .a) (domainIn (at-args .rows .now)) _ (sym ((c .before .before .before .before .before .first-overlong-by) .ensures) ∙ ap (checkAnswer _) ((c .before .fit) .given .1)))
 
 same-length-5 : tie.Need-same-length-5
-same-length-5 c =
-    let at-set-phy = c .before .before .before .before .before .before .before .before .before .before .before .before .before .before .before .before .before .before .before .before .before .before .before .before .before .before .before .before .before .before .before .before .before .before .set-phy in
-    at-set-phy .kept .0
+same-length-5 c = search needs
 
 same-length-6 : tie.Need-same-length-6
-same-length-6 c =
-    let at-renew-own = c .before .before .before .before .before .before .before .before .before .before .before .before .before .before .before .before .before .before .before .before .before .before .before .before .before .before .before .before .before .renew-own in
-    let at-put-owns = c .before .before .before .before .before .before .before .before .before .before .before .before .before .before .before .before .before .before .before .before .before .before .before .before .before .before .before .before .before .before .before .before .before .before .before .before .before .before .before .before .before .put-owns in
-    at-renew-own .kept .1 .1 .0 ∙ at-put-owns .kept .1 .1 .0
+same-length-6 c = search needs
 
 same-length-7 : tie.Need-same-length-7
 same-length-7 c = search needs
@@ -113,23 +83,44 @@ same-length-7 c = search needs
 same-length-8 : tie.Need-same-length-8
 same-length-8 c = search needs
 
+returns-2 : tie.Need-returns-2
+returns-2 c =
+    let at-args = c .before .before .before .before .before .before .before .before .before .before .before .before .before .before .before .before .before .before .before .before .before .before .before .before .before .before .before .before .before .before .before .before .args in
+    let at-first-overlong-by = c .before .before .before .before .before .before .before .before .before .first-overlong-by in
+    run-refused (at-args .rows .now) (at-args .e .0) (at-args .p .0) (at-args .a) _ _ (unadmitted _ (at-args .e .0) (at-args .p .0) (at-args .a) (domainIn (at-args .rows .now)) _ _ (sym (at-first-overlong-by .ensures) ∙ ap (checkAnswer _) ((c .before .before .before .before .before .enum-told) .given .1)) (sym ((c .before .before .before .admit) .ensures) ∙ ap (checkAnswer _) ((c .before .admission) .given .1)))
+
 same-length-9 : tie.Need-same-length-9
 same-length-9 c = search needs
 
 same-length-10 : tie.Need-same-length-10
-same-length-10 c = search needs
+same-length-10 c =
+    let at-replug-prepared = c .before .before .before .before .before .before .before .before .before .before .replug-prepared in
+    let at-put-owns = c .before .before .before .before .before .before .before .before .before .before .before .before .before .before .before .before .before .before .before .before .before .before .before .before .before .before .before .before .before .before .before .before .before .before .before .before .before .put-owns in
+    at-replug-prepared .kept .1 .1 .1 .0 ∙ at-put-owns .kept .1 .1 .0
 
-returns-2 : tie.Need-returns-2
-returns-2 c =
-    let at-args = c .before .before .before .before .before .before .before .before .before .before .before .before .before .before .before .before .before .before .before .before .before .before .before .before .before .before .before .before .before .before .before .before .before .before .before .before .before .before .before .before .before .before .before .before .before .before .before .before .before .before .before .before .args in
-    let at-pre = c .before .before .before .before .before .before .before .before .before .before .before .before .before .before .before .before .before .before .before .before .before .before .before .before .before .before .before .before .before .before .before .before .before .before .before .before .before .before .before .before .before .before .before .before .before .before .before .before .before .before .before .before .pre in
-    let at-phy-at = c .before .before .before .before .before .before .before .before .before .before .before .before .before .before .before .before .before .before .before .before .before .before .before .before .before .before .before .before .before .before .before .before .before .before .before .before .before .phy-at in
-    let at-replug-phy = c .before .before .before .before .before .before .before .before .before .before .before .before .before .before .before .before .before .before .before .before .before .before .before .before .before .before .before .before .before .before .before .before .before .before .before .replug-phy in
-    let at-set-phy = c .before .before .before .before .before .before .before .before .before .before .before .before .before .before .before .before .before .before .before .before .before .before .before .before .before .before .before .before .before .before .before .before .before .before .set-phy in
-    let at-retest = c .before .before .before .before .before .before .before .before .before .before .before .before .before .before .before .before .before .retest in
-    let at-enum-told = c .before .before .before .before .before .before .before .before .before .before .before .before .before .enum-told in
-    let at-refill-all = c .before .before .before .before .before .before .refill-all in
-    let is = rows-are (at-args .rows .now) (at-args .e .0) (at-args .p .0) (at-args .a) (at-pre .1 .1 .0) _ _ _ (at-phy-at .ensures) (at-replug-phy .ensures) (at-set-phy .ensures) in (at-set-phy .ensures .words ∙ ap (withWords (at-args .rows .now) (at-args .e .0) (at-args .p .0)) (at-replug-phy .ensures ∙ ap (replug (at-args .a)) (at-phy-at .ensures)), replug-done _ _ _ _ _ _ (ap (retested (at-args .e .0) (at-args .a)) (sym is) ∙ sym (at-retest .ensures) ∙ ap (checkAnswer _) (at-enum-told .given .1)) (at-refill-all .ensures .0) (at-refill-all .ensures .1))
+same-length-11 : tie.Need-same-length-11
+same-length-11 c =
+    let at-put-below = c .before .before .before .before .before .before .before .before .before .before .before .before .before .before .before .before .before .before .before .before .before .before .before .before .before .before .before .before .before .before .before .before .put-below in
+    at-put-below .kept .1 .1 .1 .0
+
+same-length-12 : tie.Need-same-length-12
+same-length-12 c = search needs
+
+same-length-13 : tie.Need-same-length-13
+same-length-13 c = search needs
+
+same-length-14 : tie.Need-same-length-14
+same-length-14 c = search needs
+
+returns-3 : tie.Need-returns-3
+returns-3 c =
+    let at-args = c .before .before .before .before .before .before .before .before .before .before .before .before .before .before .before .before .before .before .before .before .before .before .before .before .before .before .before .before .before .before .before .before .before .before .before .before .before .before .before .before .before .before .before .before .before .before .before .before .args in
+    let at-first-overlong-by = c .before .before .before .before .before .before .before .before .before .before .before .before .before .before .before .before .before .before .before .before .before .before .before .before .before .first-overlong-by in
+    let at-enum-told = c .before .before .before .before .before .before .before .before .before .before .before .before .before .before .before .before .before .before .before .before .before .enum-told in
+    let at-admit = c .before .before .before .before .before .before .before .before .before .before .before .before .before .before .before .before .before .before .before .admit in
+    let at-enum-told2 = c .before .before .before .before .before .before .before .before .before .before .before .before .before .before .before .before .before .enum-told2 in
+    let at-replug-prepared = c .before .before .before .before .before .before .before .before .before .before .replug-prepared in
+    run-done (at-args .rows .now) (at-args .e .0) (at-args .p .0) (at-args .a) _ _ _ _ _ (as-retested _ (at-args .e .0) (at-args .p .0) (at-args .a) (domainIn (at-args .rows .now)) _ _ (sym (at-first-overlong-by .ensures) ∙ ap (checkAnswer _) (at-enum-told .given .1)) (sym (at-admit .ensures) ∙ ap (checkAnswer _) (at-enum-told2 .given .1))) (at-replug-prepared .ensures .0) (at-replug-prepared .ensures .1)
 
 pub replug-in-spec : {M : Type 1} → statement M
-replug-in-spec = tie.close (tie.spec put-owns-requires phy-at-requires replug-phy-requires set-phy-requires renew-own-requires put-below-requires retest-requires enum-known-verdict enum-told refill-all-requires same-length same-length-2 same-length-3 same-length-4 returns same-length-5 same-length-6 same-length-7 same-length-8 same-length-9 same-length-10 returns-2)
+replug-in-spec = tie.close (tie.spec put-owns-requires put-below-requires first-overlong-by-requires enum-known-fit enum-told admit-requires enum-known-admission enum-told-2 replug-prepared-requires same-length same-length-2 same-length-3 same-length-4 returns same-length-5 same-length-6 same-length-7 same-length-8 returns-2 same-length-9 same-length-10 same-length-11 same-length-12 same-length-13 same-length-14 returns-3)

@@ -20,7 +20,7 @@ replug-in-requires : tie.Need-replug-in-requires
 replug-in-requires c κs =
     let at-args = c .before .before .before .before .before .before .before .before .before .before .before .args in
     let at-pre = c .before .before .before .before .before .before .before .before .before .before .before .pre in
-    let h = domain-few (at-args .rows .now) in (at-pre .0, ((record { lists = omega (arith, length-replicate {A = ℕ} 8256 0); below = omega (arith, length-replicate {A = ℕ} 4224 0); order = omega (arith, length-replicate {A = ℕ} 4161 0) }, omega (arith, length-replicate {A = ℕ} 4161 0)), at-pre .1))
+    let h = domain-few (at-args .rows .now) in (at-pre, (record { lists = omega (arith, length-replicate {A = ℕ} 8256 0); below = omega (arith, length-replicate {A = ℕ} 4224 0); order = omega (arith, length-replicate {A = ℕ} 4161 0) }, omega (arith, length-replicate {A = ℕ} 4161 0)))
 
 same-length : tie.Need-same-length
 same-length c = search needs

@@ -26,33 +26,30 @@ enum-known-clashing c = search needs
 enum-told-2 : tie.Need-enum-told-2
 enum-told-2 c = search needs
 
-first-overlong-by-requires : tie.Need-first-overlong-by-requires
-first-overlong-by-requires c κs = search needs
+overlong-past-requires : tie.Need-overlong-past-requires
+overlong-past-requires c κs = search needs
 
 returns : tie.Need-returns
 returns c =
-    let a = (c .before .before .before .before .before .before .before .before .before .before .args) in
-    let d : Domain = domainIn (a .rows .now) in
-    retested-by d (a .e .0) (a .s) (told d ((c .before .before .before .first-claim) .ensures) ((c .before .claimed) .given .1)) refl refl
+    let at-args = c .before .before .before .before .before .before .before .before .before .before .args in
+    let d : Domain = domainIn (at-args .rows .now) in retested-by d (at-args .e .0) (at-args .s) (told d ((c .before .before .before .first-claim) .ensures) ((c .before .claimed) .given .1)) refl refl
 
 returns-2 : tie.Need-returns-2
 returns-2 c =
+    let at-args = c .before .before .before .before .before .before .before .before .before .before .before .before .before .args in
     let at-first-claim = c .before .before .before .before .before .before .first-claim in
-    let a = (c .before .before .before .before .before .before .before .before .before .before .before .before .before .args) in
-    let d : Domain = domainIn (a .rows .now) in
-    retested-by d (a .e .0) (a .s) (told d (at-first-claim .ensures) ((c .before .before .before .before .enum-told) .given .1)) (told d ((c .before .before .before .first-clash) .ensures) ((c .before .clashing) .given .1)) refl
+    let d : Domain = domainIn (at-args .rows .now) in retested-by d (at-args .e .0) (at-args .s) (told d (at-first-claim .ensures) ((c .before .before .before .before .enum-told) .given .1)) (told d ((c .before .before .before .first-clash) .ensures) ((c .before .clashing) .given .1)) refl
 
 same-length : tie.Need-same-length
 same-length c = search needs
 
 returns-3 : tie.Need-returns-3
 returns-3 c =
+    let at-args = c .before .before .before .before .before .before .before .before .before .before .before .before .before .before .before .before .args in
     let at-first-claim = c .before .before .before .before .before .before .before .before .before .first-claim in
     let at-enum-told = c .before .before .before .before .before .before .before .enum-told in
     let at-first-clash = c .before .before .before .before .before .before .first-clash in
-    let a = (c .before .before .before .before .before .before .before .before .before .before .before .before .before .before .before .before .args) in
-    let d : Domain = domainIn (a .rows .now) in
-    retested-by d (a .e .0) (a .s) (told d (at-first-claim .ensures) (at-enum-told .given .1)) (told d (at-first-clash .ensures) ((c .before .before .before .before .enum-told2) .given .1)) (sym ((c .before .before .first-overlong-by) .ensures))
+    let d : Domain = domainIn (at-args .rows .now) in retested-by d (at-args .e .0) (at-args .s) (told d (at-first-claim .ensures) (at-enum-told .given .1)) (told d (at-first-clash .ensures) ((c .before .before .before .before .enum-told2) .given .1)) (sym ((c .before .before .overlong-past) .ensures))
 
 pub retest-spec : {M : Type 1} → statement M
-retest-spec = tie.close (tie.spec first-claim-requires enum-known-claimed enum-told first-clash-requires enum-known-clashing enum-told-2 first-overlong-by-requires returns returns-2 same-length returns-3)
+retest-spec = tie.close (tie.spec first-claim-requires enum-known-claimed enum-told first-clash-requires enum-known-clashing enum-told-2 overlong-past-requires returns returns-2 same-length returns-3)

@@ -5,8 +5,8 @@ use lib.ListN.{length}
 use Rattle.files.specs.Rows.{domainIn}
 use Rattle.tables.proofs.Owns.{own-count, own-none}
 use borrow.Author.Needs.{needs}
-use Rattle.tables.proofs.refilling.own_length.Statement.{statement}
-use Rattle.tables.proofs.refilling.own_length.Tie as tie
+use Rattle.tables.proofs.own.own_length.Statement.{statement}
+use Rattle.tables.proofs.own.own_length.Tie as tie
 
 expander-count-requires : tie.Need-expander-count-requires
 expander-count-requires c κs = search needs
