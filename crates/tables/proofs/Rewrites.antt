@@ -1,7 +1,7 @@
 -- The touched tables written afresh, one after the other: one table, a place after others, and all places.
 use Prim.Native.Nat.{ℕ, zero, suc, _+_, _*_, _-_, _≤_, _<_}
 use mathlib.Core.Path.{_≡_, refl, sym, _∙_, ap, ap₂, subst}
-use mathlib.Core.Bool.{Bool, true, false, cond, not}
+use mathlib.Core.Bool.{_&&_, Bool, true, false, cond, not}
 use mathlib.Core.List.{List, [], _∷_, _++_, append-nil, append-assoc}
 use native.Mathlib.Omega.{arith}
 use borrow.Author.Tests.{not-true}
@@ -18,7 +18,7 @@ use Rattle.wiring.specs.Frames.{Result, good}
 use Rattle.files.specs.Lists.{any, keep, isIn}
 use Rattle.files.specs.Domain.{Domain, Expander, noExpander, expanderAt, phyAt, routes, toExpander}
 use Rattle.wiring.specs.Causes.{Place, place, phyPlaces, placesFrom, places}
-use Rattle.files.proofs.Members.{by-test, is-false, was-true, and-left, and-right, keep-append}
+use Rattle.files.proofs.Members.{by-test, is-false, was-true, and-left, and-right, and-both, keep-append}
 use Rattle.tables.specs.Levels.{down}
 use Rattle.tables.specs.Tables.{tablePlaces, size, sizes, needed}
 use Rattle.tables.specs.Entries.{Entries, entries, roomOf, Room}
@@ -26,7 +26,7 @@ use Rattle.tables.specs.Filling.{overlay, placesAt}
 use Rattle.tables.specs.Prepared.{orderOf, orderList, filledTo}
 use Rattle.tables.specs.Refilling.{changed, Moved, movedBy}
 use Rattle.tables.specs.Replugging.{ownTouched, ownTableAt, ownRefilled, replugAnswer}
-use Rattle.tables.specs.Rewriting.{renewedAt, Near, Rewritten}
+use Rattle.tables.specs.Rewriting.{renewedAt, tableLink, Passed, Near, Rewritten}
 use Rattle.tables.specs.declared.Replugged.the-variants.{Counts}
 use Rattle.tables.specs.declared.refilling.Tally.{Tally}
 use Rattle.tables.proofs.Fills.{length-filled}
@@ -81,12 +81,17 @@ module _ (d : Domain) (e : ℕ) where
   abbrev isTable : Place → Bool
   isTable v = routes 2 (phyAt d (v .expander) (v .phy))
 
-  not-touched : (v : Place) → isTable v ≡ false → (ownTouched d e v ≡ false) × (size d v ≡ 0)
-  unfolding ownTouched size isIn any
-  not-touched v h =
+  not-linked : (v : Place) → tableLink (phyAt d (v .expander) (v .phy)) ≡ false → ownTouched d e v ≡ false
+  unfolding ownTouched isIn any
+  not-linked v h =
       let φ : Phy = phyAt d (v .expander) (v .phy) in
-      let n : down d φ ≡ false = is-false (down d φ) (λ t. subst T h (and-left (routes 2 φ) _ (and-right (toExpander φ) _ t))) in
-      (ap (isIn e) (order-none d φ n), ap (λ (b : Bool). cond b (expanderAt d (v .expander) .indexes) 0) h)
+      let n : down d φ ≡ false = is-false (down d φ) (λ t. subst T h (and-both (routes 2 φ) _ (and-left (routes 2 φ) _ (and-right (toExpander φ) _ t)) (and-left (toExpander φ) _ t))) in
+      ap (isIn e) (order-none d φ n)
+
+  not-touched : (v : Place) → isTable v ≡ false → (ownTouched d e v ≡ false) × (size d v ≡ 0)
+  unfolding size
+  not-touched v h =
+      (not-linked v (ap (λ (b : Bool). b && toExpander (phyAt d (v .expander) (v .phy))) h), ap (λ (b : Bool). cond b (expanderAt d (v .expander) .indexes) 0) h)
 
   touched-table : (v : Place) → T (ownTouched d e v) → isTable v ≡ true
   touched-table v t = by-test (isTable v) (λ q. q) (λ q. absurd (subst T (not-touched v q .0) t))
@@ -280,12 +285,11 @@ module _ (d : Domain) (e : ℕ) where
       rw (add-one p) (sym (phys-more i 0 p ∙ ap (λ (x : ℕ). phyPlaces i 0 p ++ (place i x ∷ [])) z)) in
       subst (λ (l : List Place). Rewritten d e l s r a c) m (rewritten-then d e (phyPlaces i 0 p) (place i p ∷ []) s t r a b c u v h k)
 
-  -- a phy that has no table is passed over
-  pub phys-skip : (i p : ℕ) (s t : Tally) (a b : Entries) → Rewritten d e (phyPlaces i 0 p) s t a b → {x : Bool} → x ≡ routes 2 (phyAt d i p) → not x ≡ true
-      → s .at + sizes d (phyPlaces i 0 p) ≤ length (a .words) → s .at + sizes d (phyPlaces i 0 p) ≤ 8 * length (a .bits) → Rewritten d e (phyPlaces i 0 (p + 1)) s t a b
-  phys-skip i p s t a b u {x} q k h l =
-      let n = not-touched d e (place i p) (sym q ∙ not-true x k) in
-      phys-turn i p s t t a b b u (rewritten-old d e (place i p) t t b (n .0) (omega (arith, n .1)) refl refl) h l
+  -- a phy without levels is passed over
+  pub phys-skip : (i p : ℕ) (s t r : Tally) (a b : Entries) → Rewritten d e (phyPlaces i 0 p) s t a b → {x : Bool} → x ≡ tableLink (phyAt d i p) → not x ≡ true → Passed d (place i p) t r
+      → s .at + sizes d (phyPlaces i 0 p) ≤ length (a .words) → s .at + sizes d (phyPlaces i 0 p) ≤ 8 * length (a .bits) → Rewritten d e (phyPlaces i 0 (p + 1)) s r a b
+  phys-skip i p s t r a b u {x} q k w h l =
+      phys-turn i p s t r a b b u (rewritten-old d e (place i p) t r b (not-linked d e (place i p) (sym q ∙ not-true x k)) (w .next) (w .tables) (w .words)) h l
 
   pub phys-end : (i p : ℕ) (s r : Tally) (a b : Entries) → Rewritten d e (phyPlaces i 0 p) s r a b → p ≡ length (expanderAt d i .phys) → Rewritten d e (placesAt d i) s r a b
   phys-end i p s r a b u q = subst (λ (n : ℕ). Rewritten d e (phyPlaces i 0 n) s r a b) q u
@@ -303,6 +307,9 @@ module _ (d : Domain) (e : ℕ) where
 -- tallies
 pub near-none : (s : Tally) → Near 0 s s
 near-none s = record { far = omega arith; few = omega arith; less = omega arith }
+
+pub near-passed : (d : Domain) (q : Place) (s r : Tally) → Passed d q s r → Near 1 s r
+near-passed d q s r w = record { far = omega (arith, w .next, w .few); few = omega (arith, w .tables); less = omega (arith, w .next, w .words) }
 
 pub near-then : (m n k : ℕ) (s t r : Tally) → Near m s t → Near n t r → m + n ≤ k → Near k s r
 near-then m n k s t r u v h =

@@ -1,13 +1,14 @@
 -- What the functions that write touched tables afresh promise: the numbers from a place on renewed, how far they went, and what they counted.
-use Prim.Native.Nat.{ℕ, _+_, _*_, _≤_}
+use Prim.Native.Nat.{ℕ, _+_, _*_, _≤_, _<_}
 use mathlib.Core.Path.{_≡_}
-use mathlib.Core.Bool.{Bool}
+use mathlib.Core.Bool.{Bool, _&&_}
 use mathlib.Core.List.{List, _++_}
 use lib.ListN.{length, take, drop}
 pub use Rattle.frames.specs.Bits.{withBit}
 use Rattle.wiring.specs.Frames.{bitsOf, zeroBits}
 use Rattle.files.specs.Lists.{keep}
-use Rattle.files.specs.Domain.{Domain}
+use Rattle.files.specs.declared.Phy.{Phy}
+use Rattle.files.specs.Domain.{Domain, routes, toExpander}
 use Rattle.wiring.specs.Causes.{Place}
 use Rattle.tables.specs.Tables.{size, sizes}
 use Rattle.tables.specs.Entries.{Entries, roomOf}
@@ -18,6 +19,17 @@ use Rattle.tables.specs.declared.refilling.Tally.{Tally}
 -- numbers renewed from a place on, where the tables at these places stand one after the other
 unfoldable pub renewedAt : Domain → (Place → Bool) → (Place → List ℕ) → List Place → ℕ → List ℕ → List ℕ
 renewedAt d test new qs at l = take at l ++ renewed test (size d) new qs (drop at l)
+
+-- a table phy attached to an expander: no other phy has levels
+abbrev pub tableLink : Phy → Bool
+tableLink φ = routes 2 φ && toExpander φ
+
+-- a place that is passed over: its words are gone through, and nothing is counted
+pub record Passed (d : Domain) (q : Place) (s r : Tally) : Type 0 where
+  pub next : r .at ≡ s .at + size d q
+  pub tables : r .tables ≡ s .tables
+  pub words : r .words ≡ s .words
+  pub few : size d q < 65536
 
 -- from one tally to the next at n places: at most 65536 words and one table for each, and no more words changed than gone through
 pub record Near (n : ℕ) (s r : Tally) : Type 0 where

@@ -1,7 +1,6 @@
 // The tables with an expander in their order, written afresh among words and bits that hold tables already. The words that
 // change are counted before they are written.
 use crate::Replugged;
-use crate::all_tables;
 use crate::below;
 use crate::filling;
 use crate::order;
@@ -28,7 +27,7 @@ ghost use Rattle.tables.specs.Filling.{placesAt, overlay};
 ghost use Rattle.tables.specs.Prepared.{FarsKnown, OwnHeld, BelowHeld, orderOf, orderList, filledTo, Fillable, FilledFrom};
 ghost use Rattle.tables.specs.Refilling.{changed, movedBy};
 ghost use Rattle.tables.specs.Replugging.{ownTouched, ownRefilled, replugAnswer};
-ghost use Rattle.tables.specs.Rewriting.{withBit, Near, Rewritten};
+ghost use Rattle.tables.specs.Rewriting.{withBit, tableLink, Passed, Near, Rewritten};
 
 // How far the tables gone through reach, how many of them were touched, and how many words changed.
 struct Tally {
@@ -214,6 +213,29 @@ fn refill_table(
     }
 }
 
+// Whether phy p of expander i is a table phy attached to an expander: no other has levels.
+fn is_table_link(rows: &[u64], i: ExpanderNumber, p: PhyId) -> bool
+    ensures { λ r. ⌜ r ≡ tableLink (phyAt (domainIn (now (rows .entry))) (i .0) (p .0)) ⌝ }
+{
+    let f = wiring::phy_at(rows, i, p);
+    if wiring::phy_attribute(f) != 2 {
+        return false;
+    }
+    wiring::phy_type(f) >= 2
+}
+
+// Passes over the table of a phy that has no levels.
+fn pass_over(rows: &[u64], i: ExpanderNumber, p: PhyId, s: Tally) -> Tally
+    requires { ⌜ s .at + size (domainIn (now rows)) (place (i .0) (p .0)) < 2 ^ 64 ⌝ }
+    ensures { λ r. ⌜ Passed (domainIn (now (rows .entry))) (place (i .0) (p .0)) s r ⌝ }
+{
+    Tally {
+        at: s.at + word_places::size_at(rows, i, p) as usize,
+        tables: s.tables,
+        words: s.words,
+    }
+}
+
 // Goes so through the tables of expander i. `order` is room for the levels of one phy.
 fn refill_at(
     rows: &[u64],
@@ -240,7 +262,8 @@ fn refill_at(
     let mut m: usize = 0;
     let mut p: u8 = 0;
     while p < n {
-        if !all_tables::is_table(rows, i, PhyId(p)) {
+        if !is_table_link(rows, i, PhyId(p)) {
+            t = pass_over(rows, i, PhyId(p), t);
             p += 1;
             continue;
         }

@@ -17,7 +17,7 @@ use Rattle.tables.specs.Prepared.{orderOf}
 use Rattle.tables.specs.Rewriting.{Near, Rewritten}
 use Rattle.tables.proofs.Growing.{grown-kept, grown-again}
 use Rattle.tables.proofs.Orders.{order-none}
-use Rattle.tables.proofs.Rewrites.{phys-fit, phys-start, phys-turn, phys-skip, phys-end, near-none, near-then}
+use Rattle.tables.proofs.Rewrites.{phys-fit, phys-start, phys-turn, phys-skip, phys-end, near-none, near-passed, near-then}
 use borrow.Author.Needs.{needs}
 use Rattle.tables.proofs.refilling.refill_at.Statement.{statement}
 use Rattle.tables.proofs.refilling.refill_at.Tie as tie
@@ -39,8 +39,21 @@ loop-holds c =
     let none : Vacant 0 ≡ phyAt d (a .i .0) 255 = sym (List·getD-eq-default (expanderAt d (a .i .0) .phys) (Vacant 0) (omega (arith, short-in (a .rows .now) (a .i .0)))) in
     (omega arith, (refl, ((none, o), (near-none (a .s), phys-start d (a .e .0) (a .i .0) (a .s) (entries (a .words .now) (a .bits .now))))))
 
-is-table-requires : tie.Need-is-table-requires Inv-loop μ-loop
-is-table-requires c κs = search needs
+is-table-link-requires : tie.Need-is-table-link-requires Inv-loop μ-loop
+is-table-link-requires c κs = search needs
+
+pass-over-requires : tie.Need-pass-over-requires Inv-loop μ-loop
+pass-over-requires c κs =
+    let at-pre = c .before .before .before .before .before .before .before .before .before .before .before .before .pre in
+    let at-good = c .before .before .before .before .before .before .before .before .before .before .before .before .good in
+    let a = c .before .before .before .before .before .before .before .before .before .before .before .before .args in
+    let d : Domain = domainIn (a .rows .now) in
+    let l = c .before .before .before .loop in
+    let u = l .inv .1 .1 .1 .1 in
+    let f = phys-fit d (a .i .0) (c .before .before .before .before .phy-count .result) (l .p) (omega (arith, c .before .before .loop-test .taken)) in
+    let n = ap (λ (k : ℕ). sizes d (phyPlaces (a .i .0) 0 k)) (c .before .before .before .before .phy-count .ensures .0) in
+    let most : a .s .at + sizes d (phyPlaces (a .i .0) 0 (c .before .before .before .before .phy-count .result)) ≤ length (a .words .now) = omega (arith, n, at-pre .1 .1 .1 .1 .1 .1 .0) in
+    omega (arith, u .next, most, f, at-good)
 
 add-p : tie.Need-add-p Inv-loop μ-loop
 add-p c = omega arith
@@ -50,14 +63,15 @@ loop-less c = omega arith
 
 loop-again : tie.Need-loop-again Inv-loop μ-loop
 loop-again c =
-    let at-pre = c .before .before .before .before .before .before .before .before .before .before .before .before .pre in
-    let a = c .before .before .before .before .before .before .before .before .before .before .before .before .args in
+    let at-pre = c .before .before .before .before .before .before .before .before .before .before .before .before .before .pre in
+    let a = c .before .before .before .before .before .before .before .before .before .before .before .before .before .args in
     let d : Domain = domainIn (a .rows .now) in
-    let l = c .before .before .before .loop in
+    let l = c .before .before .before .before .loop in
     let w = l .inv .1 .1 .1 in
-    let f = phys-fit d (a .i .0) (c .before .before .before .before .phy-count .result) (l .p) (omega (arith, c .before .before .loop-test .taken)) in
-    let n = ap (λ (k : ℕ). sizes d (phyPlaces (a .i .0) 0 k)) (c .before .before .before .before .phy-count .ensures .0) in
-    (omega (arith, c .before .before .loop-test .taken), (l .inv .1 .0, (l .inv .1 .1 .0, (near-then (l .p) 0 (l .p + 1) (a .s) (l .t) (l .t) (w .0) (near-none (l .t)) (omega arith), phys-skip d (a .e .0) (a .i .0) (l .p) (a .s) (l .t) (entries (a .words .now) (a .bits .now)) (entries (l .words) (l .bits)) (w .1) (c .before .is-table .ensures) (c .if1 .taken) (omega (arith, at-pre .1 .1 .1 .1 .1 .1 .0)) (omega (arith, at-pre .1 .1 .1 .1 .1 .1 .1))))))
+    let r = c .pass-over in
+    let f = phys-fit d (a .i .0) (c .before .before .before .before .before .phy-count .result) (l .p) (omega (arith, c .before .before .before .loop-test .taken)) in
+    let n = ap (λ (k : ℕ). sizes d (phyPlaces (a .i .0) 0 k)) (c .before .before .before .before .before .phy-count .ensures .0) in
+    (omega (arith, c .before .before .before .loop-test .taken), (l .inv .1 .0, (l .inv .1 .1 .0, (near-then (l .p) 1 (l .p + 1) (a .s) (l .t) (r .result) (w .0) (near-passed d _ (l .t) (r .result) (r .ensures)) (omega arith), phys-skip d (a .e .0) (a .i .0) (l .p) (a .s) (l .t) (r .result) (entries (a .words .now) (a .bits .now)) (entries (l .words) (l .bits)) (w .1) (c .before .before .is-table-link .ensures) (c .before .if1 .taken) (r .ensures) (omega (arith, at-pre .1 .1 .1 .1 .1 .1 .0)) (omega (arith, at-pre .1 .1 .1 .1 .1 .1 .1))))))
 
 phy-below-requires : tie.Need-phy-below-requires Inv-loop μ-loop
 phy-below-requires c κs = search needs
@@ -132,4 +146,4 @@ returns c =
     (phys-end d (a .e .0) (a .i .0) (l .p) (a .s) (l .t) (entries (a .words .now) (a .bits .now)) (entries (l .words) (l .bits)) (w .1) (omega (arith, count .ensures .0)), near-then (l .p) 0 128 (a .s) (l .t) (l .t) (w .0) (near-none (l .t)) (omega (arith, count .ensures .1)))
 
 pub refill-at-spec : {M : Type 1} → statement M
-refill-at-spec = tie.close (tie.spec Inv-loop μ-loop phy-count-requires loop-holds is-table-requires add-p loop-less loop-again phy-below-requires order-for-requires slice-reshare-prefix-refill-table slice-aggregate-refill-table refill-table-requires add-p-2 loop-less-2 loop-again-2 same-length same-length-2 same-length-3 returns)
+refill-at-spec = tie.close (tie.spec Inv-loop μ-loop phy-count-requires loop-holds is-table-link-requires pass-over-requires add-p loop-less loop-again phy-below-requires order-for-requires slice-reshare-prefix-refill-table slice-aggregate-refill-table refill-table-requires add-p-2 loop-less-2 loop-again-2 same-length same-length-2 same-length-3 returns)
