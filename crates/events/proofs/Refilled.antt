@@ -2,7 +2,7 @@
 -- the other, and an event changes the own list of the named expander alone.
 use mathlib.Core.Path.{_≡_, refl, sym, ap, ap₂, subst, _∙_}
 use mathlib.Core.Logic.{_⊎_, inl, inr}
-use mathlib.Core.List.{List, [], _∷_, _++_, map, flatMap, append-assoc, append-nil}
+use mathlib.Core.List.{List, [], _∷_, _++_, map, flatMap, append-assoc, append-nil, map-append}
 use mathlib.Core.Bool.{Bool, true, false, cond}
 use Prim.Native.Nat.{ℕ, zero, suc, _+_, _*_, _-_, _/_, _≤_, _<_}
 use native.Mathlib.Omega.{arith}
@@ -12,7 +12,7 @@ use lib.Dec.{T, eqb}
 use Rattle.frames.specs.Bits.{bitsOf, packedIn, bytesFor, packed, zeroBit, zeroBits, marked}
 use Rattle.frames.proofs.PackedBits.{Bits, length-packedIn}
 use Rattle.frames.proofs.Packing.{Bytes, bitsOf-append, packed-back, unpacked, bytes-packedIn}
-use Rattle.frames.proofs.DisableBits.{marked-room, length-marked}
+use Rattle.frames.proofs.DisableBits.{bits-zeroBits, marked-room, length-marked}
 use Rattle.files.specs.declared.Phy.{Phy}
 use Rattle.files.specs.Lists.{In, isIn}
 use Rattle.files.specs.Domain.{Domain, expanderAt, phyAt, routes}
@@ -48,23 +48,10 @@ renewed-is test width new old (v ∷ qs) rest h =
     piece true q t = refl
     piece false q t = t ∙ h v (inl refl) .1 q
 
-map-append : (f : ℕ → ℕ) (l m : List ℕ) → map f (l ++ m) ≡ map f l ++ map f m
-map-append f [] m = refl
-map-append f (x ∷ l) m = ap (λ r. f x ∷ r) (map-append f l m)
-
 zeroBits-flat : (f : Place → List ℕ) (qs : List Place) → zeroBits (flatMap f qs) ≡ flatMap (λ v. zeroBits (f v)) qs
 unfolding flatMap
 zeroBits-flat f [] = refl
 zeroBits-flat f (v ∷ qs) = map-append zeroBit (f v) (flatMap f qs) ∙ ap (λ l. zeroBits (f v) ++ l) (zeroBits-flat f qs)
-
--- bits and bytes
-pub bits-zeros : (words : List ℕ) → Bits (zeroBits words)
-bits-zeros [] = tt
-bits-zeros (w ∷ words) = (go (eqb w 0), bits-zeros words)
-  where
-    go : (b : Bool) → cond b 1 0 < 2
-    go true = omega arith
-    go false = omega arith
 
 bytes-append : (s t : List ℕ) → Bytes s → Bytes t → Bytes (s ++ t)
 bytes-append [] t h k j = k j
@@ -81,7 +68,7 @@ module _ (words bits : List ℕ) (h : bytesFor (length words) ≤ length bits) w
       let n : ℕ = bytesFor (length words) in
       let l : length (zeroBits words) ≡ length words = length-map words zeroBit in
       let p : packed (zeroBits words) ≡ packedIn n (zeroBits words) = ap (λ k. packedIn (bytesFor k) (zeroBits words)) l in
-      let u : bitsOf (packedIn n (zeroBits words)) ≡ zeroBits words ++ replicate (8 * n - length (zeroBits words)) 0 = unpacked n (zeroBits words) (bits-zeros words) (omega arith) in
+      let u : bitsOf (packedIn n (zeroBits words)) ≡ zeroBits words ++ replicate (8 * n - length (zeroBits words)) 0 = unpacked n (zeroBits words) (bits-zeroBits words) (omega arith) in
       ap bitsOf (marked-room words bits h) ∙ bitsOf-append (packed (zeroBits words)) (drop n bits) ∙ ap (λ s. bitsOf s ++ bitsOf (drop n bits)) p
       ∙ ap (λ s. s ++ bitsOf (drop n bits)) (u ∙ ap (λ k. zeroBits words ++ replicate (8 * n - k) 0) l)
       ∙ append-assoc (zeroBits words) (replicate (8 * n - length words) 0) (bitsOf (drop n bits))
@@ -90,7 +77,7 @@ module _ (words bits : List ℕ) (h : bytesFor (length words) ≤ length bits) w
   marked-bytes b =
       let n : ℕ = bytesFor (length words) in
       subst Bytes (sym (marked-room words bits h))
-      (bytes-append (packed (zeroBits words)) (drop n bits) (bytes-packedIn (bytesFor (length (zeroBits words))) (zeroBits words) (bits-zeros words)) (λ k. rw (getD-drop n bits k 0) (b (n + k))))
+      (bytes-append (packed (zeroBits words)) (drop n bits) (bytes-packedIn (bytesFor (length (zeroBits words))) (zeroBits words) (bits-zeroBits words)) (λ k. rw (getD-drop n bits k 0) (b (n + k))))
 
 -- d, and d with phy q of expander e plugged or pulled, both accepted
 module _ (d : Domain) (e q a : ℕ) (f : T (pluggable (phyAt d e q))) (wires : Wired d) (linked : Linked d)

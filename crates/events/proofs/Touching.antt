@@ -32,7 +32,7 @@ use Rattle.events.specs.Events.{edited}
 use Rattle.events.specs.Calls.{eventCall}
 use Rattle.events.specs.Paper9.{Touches}
 use Rattle.tables.proofs.Edited.{levels-same, touched-same, routes-same, needed-same, stretch-same}
-use Rattle.events.proofs.Refilled.{bits-zeros}
+use Rattle.frames.proofs.DisableBits.{bits-zeroBits}
 use Rattle.events.proofs.Happening.{accepted-is}
 
 -- numbers renewed at places, each as wide as the table there
@@ -168,7 +168,7 @@ module _ (y : Domain) (e : ℕ) where
         let m = length-bitsOf (before .bits) in
         let o : 8 * length (before .bits) - length r ≡ 0 = omega arith in
         ap (λ l. bitsOf (packedIn (length (before .bits)) l)) (bits-all (bitsOf (before .bits)))
-        ∙ unpacked (length (before .bits)) r (renewed-bits y (touched y e) (λ v. zeroBits (tableAt y v)) bits-fit (λ v. bits-zeros (tableAt y v)) (places y) (bitsOf (before .bits)) (bits-bitsOf (before .bits))) (omega arith)
+        ∙ unpacked (length (before .bits)) r (renewed-bits y (touched y e) (λ v. zeroBits (tableAt y v)) bits-fit (λ v. bits-zeroBits (tableAt y v)) (places y) (bitsOf (before .bits)) (bits-bitsOf (before .bits))) (omega arith)
         ∙ ap (λ k. r ++ replicate k 0) o ∙ append-nil r
 
     wide : (i p : ℕ) → T (routes 2 (phyAt y i p)) → size y (place i p) ≡ expanderAt y i .indexes

@@ -30,7 +30,7 @@ zero-no words i h e = sym (zero-is words i h ∙ rw (ne-eqb (getD words i 0) 0 e
 pub zero-none : (words : List ℕ) (i : ℕ) → length words ≤ i → 0 ≡ getD (zeroBits words) i 0
 zero-none words i h = sym (List·getD-eq-default (zeroBits words) 0 (omega (arith, length-map words zeroBit)))
 
-bits-zeroBits : (words : List ℕ) → Bits (zeroBits words)
+pub bits-zeroBits : (words : List ℕ) → Bits (zeroBits words)
 bits-zeroBits [] = tt
 bits-zeroBits (w ∷ words) = (go (eqb w 0), bits-zeroBits words)
   where

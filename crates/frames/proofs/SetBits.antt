@@ -3,7 +3,9 @@ use Prim.Native.Nat.{ℕ, zero, suc, _+_, _*_, _/_, _%_, _-_, _^_, _≤_, _<_}
 use mathlib.Core.Path.{_≡_, sym, _∙_, ap, subst}
 use mathlib.Core.List.{List, [], _∷_}
 use native.Mathlib.Omega.{arith}
-use native.Mathlib.Nat.{mod-lt, mul-le-mul-right, one-mul, div-mul-le-self}
+use native.Mathlib.Numerals.{add-one}
+use native.Mathlib.Nat.{mod-lt, mul-le-mul-right, one-mul, div-mul-le-self, add-comm}
+use lib.Bits.{bitAnd, and-high}
 use lib.Pow.{pow-pos, pow-add, pow-mono, split, mod-pow-add, shr-lt, shl-exact}
 use lib.ListN.{length, getD, set}
 use lib.Seq.{set-append-left}
@@ -42,6 +44,23 @@ parts v k =
     let e : suc k ≡ 1 + k = omega arith in
     let q : v % 2 ^ suc k ≡ (v / 2 ^ k % 2) * 2 ^ k + v % 2 ^ k = ap (λ (n : ℕ). v % 2 ^ n) e ∙ mod-pow-add v 1 k in
     omega arith
+
+-- the mask of one bit
+bit-and : (v n : ℕ) → bitAnd v (2 ^ n) ≡ (v / 2 ^ n % 2) * 2 ^ n
+bit-and v n =
+    let e : 2 ^ (1 + n) - 2 ^ n ≡ 2 ^ n = omega (arith, pow-suc n, ap (λ (k : ℕ). 2 ^ k) (add-comm 1 n ∙ add-one n)) in
+    ap (bitAnd v) (sym e) ∙ and-high v 1 n
+
+-- one bit's worth is at most the mask
+pub bit-worth : (m b : ℕ) → b < 2 → b * m ≤ m
+bit-worth m b h = let k : b ≤ 1 = omega arith in let e : b * m ≤ 1 * m = mul-le-mul-right m k in omega arith
+
+-- a byte from which a bit is taken by its mask, and the other put in its place
+pub with-is : (v m b n : ℕ) → m ≡ 2 ^ n → v - bitAnd v m + b * m ≡ withBit v n b
+with-is v m b n e =
+    let p = parts v n in
+    let q = bit-and v n in
+    rw e (omega (arith, p, q))
 
 withBit-set : (v r b : ℕ) → r < 8 → b < 2 → numberBits 8 (withBit v (7 - r) b) ≡ set (numberBits 8 v) r b
 withBit-set v r b h k =

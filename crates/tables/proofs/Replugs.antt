@@ -136,8 +136,13 @@ module _ (d : Domain) (e p a : ℕ) (f : T (pluggable (phyAt d e p))) where
   unfolding flatMap
   shorter h [] = omega arith
   shorter h (i ∷ is) =
-      omega (arith, shorter h is, length-append (own edited i) (flatMap (own edited) is), length-append (own d i) (flatMap (own d) is),
-      by-cases (ℕ-discrete i e) (λ k. subst (λ j. length (own edited j) ≤ length (own d j)) (sym k) h) (λ k. subst (λ l. length l ≤ length (own d i)) (sym (own-other d e p a f i k)) (omega arith)))
+      omega (
+        arith,
+        shorter h is,
+        length-append (own edited i) (flatMap (own edited) is),
+        length-append (own d i) (flatMap (own d) is),
+        by-cases (ℕ-discrete i e) (λ k. subst (λ j. length (own edited j) ≤ length (own d j)) (sym k) h) (λ k. subst (λ l. length l ≤ length (own d i)) (sym (own-other d e p a f i k)) (omega arith)),
+      )
 
   -- so the tables can be filled as before
   pub fills-replugged : Fillable d → length (own edited e) ≤ length (own d e) → Fillable edited

@@ -120,7 +120,7 @@ fn with_bit(byte: u8, r: usize, b: u64) -> u8
 {
     let m = weight(r);
     let v = byte as u64;
-    (v / (2 * m) * (2 * m) + (b * m + v % m)) as u8
+    (v - (v & m) + b * m) as u8
 }
 
 // The disable bit of a word.
@@ -143,8 +143,8 @@ fn set_bit(s: &mut [u8], k: usize, b: u64)
     s[j] = with_bit(v, k % 8, b);
 }
 
-// Sets the bits from `at` on, one for each word, exactly where the word is zero. All other bits stay.
-fn mark_from(part: &[u64], bits: &mut [u8], at: usize)
+// Sets the bits from `at` on one by one, a bit for each word, exactly where the word is zero. All other bits stay.
+fn mark_each(part: &[u64], bits: &mut [u8], at: usize)
     requires { ⌜ (at + length (now part) ≤ 8 * length (now bits)) × (at + length (now part) < 2 ^ 64) ⌝ }
     ensures { λ _. ⌜ bitsOf (now (bits .exit)) ≡ sets (bitsOf (now (bits .entry))) at (zeroBits (now (part .entry))) ⌝ }
 {
@@ -153,6 +153,31 @@ fn mark_from(part: &[u64], bits: &mut [u8], at: usize)
         set_bit(bits, at + k, zero_bit(part[k]));
         k += 1;
     }
+}
+
+// Sets the bits from byte j on so, whole bytes at once.
+fn mark_bytes(part: &[u64], bits: &mut [u8], j: usize)
+    requires { ⌜ (length (now part) % 8 ≡ 0) × (8 * j + length (now part) ≤ 8 * length (now bits)) ⌝ }
+    ensures { λ _. ⌜ bitsOf (now (bits .exit)) ≡ sets (bitsOf (now (bits .entry))) (8 * j) (zeroBits (now (part .entry))) ⌝ }
+{
+    wiring::mark_zeros(part, &mut bits[j..]);
+}
+
+// Sets the bits from `at` on so: one by one up to the first whole byte, and after the last.
+fn mark_from(part: &[u64], bits: &mut [u8], at: usize)
+    requires { ⌜ (at + length (now part) ≤ 8 * length (now bits)) × (at + length (now part) < 2 ^ 64) ⌝ }
+    ensures { λ _. ⌜ bitsOf (now (bits .exit)) ≡ sets (bitsOf (now (bits .entry))) at (zeroBits (now (part .entry))) ⌝ }
+{
+    let k = (8 - at % 8) % 8;
+    if part.len() < k {
+        mark_each(part, bits, at);
+        return;
+    }
+    let m = k + (part.len() - k) / 8 * 8;
+    let j = (at + k) / 8;
+    mark_each(&part[..k], bits, at);
+    mark_bytes(&part[k..m], bits, j);
+    mark_each(&part[m..], bits, at + m);
 }
 
 // Writes the table of phy p of expander i from word `at` to word `to`, and its bits; the answer is how many words changed.
