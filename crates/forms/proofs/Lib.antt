@@ -10,3 +10,4 @@ pub mod Traces
 pub mod Backs
 pub mod Exact
 pub mod Excess
+mod Pair
