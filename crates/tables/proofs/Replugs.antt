@@ -31,7 +31,7 @@ use Rattle.tables.specs.Filling.{placesAt}
 use Rattle.tables.specs.Levels.{once, belowPhys}
 use Rattle.tables.specs.Prepared.{OwnHeld, BelowHeld, belowOnce, queue, orderOf, orderList, overOwn, FarsKnown, Fillable}
 use Rattle.tables.proofs.Judging.{fillable-by, own-checked}
-use Rattle.tables.proofs.Owns.{phys-few}
+use Rattle.wiring.proofs.EndDevices.{short-in}
 use Rattle.tables.specs.declared.Replugged.{Replugged}
 use Rattle.tables.specs.declared.Replugged.the-variants.{Refused as NotReplugged}
 use Rattle.tables.specs.Refilling.{movedBy}
@@ -288,7 +288,7 @@ module _ (ws : List ℕ) (e p a : ℕ) (before : Entries) where
   run-done y ws′ answer after q s t = record { rows = rows-set _ y ws ws′ e p _ (q .0) s; done = replug-as _ _ e answer before after (q .1) t }
 
   vacant : (q : ℕ) → 128 ≤ q → phyAt lent e q ≡ Vacant 0
-  vacant q h = List·getD-eq-default (expanderAt lent e .phys) (Vacant 0) (omega (arith, phys-few ws e))
+  vacant q h = List·getD-eq-default (expanderAt lent e .phys) (Vacant 0) (omega (arith, short-in ws e))
 
   -- at phys from 128 on it is refused with one refusal
   past : (x : Result Domain) → firstOf 14 (overOwn lent) lent ≡ x → (r : Refusal) × ((q : ℕ) → 128 ≤ q → fitted (roomOf before) e q lent ≡ refused r)

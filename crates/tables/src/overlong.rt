@@ -7,7 +7,6 @@ use wiring::Check;
 use wiring::ExpanderNumber;
 use wiring::Phy;
 use wiring::PhyId;
-use wiring::Refusal;
 ghost use mathlib.Core.Path.{_≡_};
 ghost use mathlib.Core.Bool.{false};
 ghost use mathlib.Core.List.{flatMap};
@@ -85,11 +84,7 @@ fn overlong_phy(
         let f = wiring::phy_below(rows, i, PhyId(p));
         let q = wide::lower_phy(rows, first, low, i, PhyId(p), f);
         if is_overlong(rows, first, counts, below, i, PhyId(p), q, f, order) {
-            return Check::Refused(Refusal {
-                number: 14,
-                expander: i,
-                phy: PhyId(p),
-            });
+            return wiring::check_refused(14, i, PhyId(p));
         }
         p += 1;
     }

@@ -11,14 +11,12 @@ use wiring::ExpanderNumber;
 use wiring::Phy;
 use wiring::PhyFields;
 use wiring::PhyId;
-use wiring::Refusal;
 ghost use mathlib.Core.Path.{_≡_};
 ghost use Prim.Native.Nat.{_≤_};
 ghost use mathlib.Core.Bool.{cond};
 ghost use lib.Dec.{T, eqb};
 ghost use lib.ListN.{length};
 ghost use Rattle.wiring.specs.Frames.{refusal, unless, then};
-ghost use Rattle.wiring.specs.declared.Check.the-variants.{Refused};
 ghost use Rattle.wiring.specs.Checks.{checkAnswer};
 ghost use Rattle.files.specs.Domain.{phyAt};
 ghost use Rattle.files.specs.Rows.{domainIn};
@@ -67,31 +65,20 @@ fn replug_phy(a: u64, f: Phy) -> Phy
     }
 }
 
-// A check's refusal with this number, at place 0, 0.
-fn refuse(number: u8) -> Check
-    ensures { λ r. ⌜ r ≡ Refused (refusal number 0 0) ⌝ }
-{
-    Check::Refused(Refusal {
-        number: number,
-        expander: ExpanderNumber(0),
-        phy: PhyId(0),
-    })
-}
-
 // 20 at phy p of expander e, then 16 and 18, where so many words and bytes are lent.
 fn admit(rows: &[u64], words: usize, bits: usize, e: ExpanderNumber, p: PhyId) -> Check
     ensures { λ r. ⌜ checkAnswer (domainIn (now (rows .entry))) r
         ≡ unless (pluggable (phyAt (domainIn (now (rows .entry))) (e .0) (p .0))) (refusal 20 0 0) (tablesFor (record { words = words; bits = bits }) (domainIn (now (rows .entry)))) ⌝ }
 {
     if !is_pluggable(wiring::phy_at(rows, e, p)) {
-        return refuse(20);
+        return wiring::check_refused(20, ExpanderNumber(0), PhyId(0));
     }
     let needed = all_tables::needed_words(rows);
     if words < needed {
-        return refuse(16);
+        return wiring::check_refused(16, ExpanderNumber(0), PhyId(0));
     }
     if bits < wiring::bytes_for(needed) {
-        return refuse(18);
+        return wiring::check_refused(18, ExpanderNumber(0), PhyId(0));
     }
     Check::Passed
 }

@@ -6,7 +6,6 @@ use wiring::Check;
 use wiring::ExpanderNumber;
 use wiring::Phy;
 use wiring::PhyId;
-use wiring::Refusal;
 ghost use mathlib.Core.Path.{_≡_};
 ghost use Prim.Native.Nat.{_*_, _≤_, _<_};
 ghost use lib.ListN.{length};
@@ -57,11 +56,7 @@ fn first_end(rows: &[u64], i: ExpanderNumber, s: u64) -> Check
     while p < n {
         let f = wiring::phy_below(rows, i, PhyId(p));
         if is_end(s, f) {
-            return Check::Refused(Refusal {
-                number: 8,
-                expander: i,
-                phy: PhyId(p),
-            });
+            return wiring::check_refused(8, i, PhyId(p));
         }
         p += 1;
     }
@@ -148,11 +143,7 @@ pub(crate) fn first_clash(rows: &[u64], e: ExpanderNumber) -> Check
     let mut p: u8 = 0;
     while p < n {
         if has_clash(rows, e, PhyId(p)) {
-            return Check::Refused(Refusal {
-                number: 9,
-                expander: e,
-                phy: PhyId(p),
-            });
+            return wiring::check_refused(9, e, PhyId(p));
         }
         p += 1;
     }

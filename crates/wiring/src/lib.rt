@@ -13,6 +13,7 @@ pub use addresses::far_number;
 pub use addresses::lowest_phy;
 pub use addresses::number_of;
 pub use links::check_domain;
+pub use refusals::check_refused;
 pub use wiring_call::wire;
 
 // What the layers above use of files.

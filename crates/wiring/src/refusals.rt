@@ -7,7 +7,7 @@ ghost use Rattle.frames.specs.Refusals.{refusal};
 ghost use Rattle.wiring.specs.declared.Check.the-variants.{Refused};
 
 // Number k at phy p of expander i, of a domain.
-pub(crate) fn check_refused(k: u8, i: ExpanderNumber, p: PhyId) -> Check
+pub fn check_refused(k: u8, i: ExpanderNumber, p: PhyId) -> Check
     ensures { λ r. ⌜ r ≡ Refused (refusal k (i .0) (p .0)) ⌝ }
 {
     Check::Refused(frames::refusal_at(k, i, p))

@@ -12,6 +12,7 @@ use Rattle.wiring.proofs.Searches.{phy-stop, phy-go, phy-end}
 use Rattle.tables.specs.Filling.{placesAt}
 use Rattle.tables.specs.Prepared.{overOwn}
 use Rattle.tables.proofs.Over.{below-next}
+use Rattle.wiring.specs.Checks.{checkAnswer}
 use borrow.Author.Needs.{needs}
 use native.Mathlib.Omega.{arith}
 use Rattle.tables.proofs.overlong.overlong_phy.Statement.{statement}
@@ -49,15 +50,18 @@ is-overlong-requires c κs =
 
 same-length : tie.Need-same-length Inv-loop μ-loop
 same-length c =
-    let at-loop = c .before .before .before .before .before .before .before .before .loop in
-    (c .before .before .before .is-overlong) .kept .1 .1 .1 .1 .1 .1 .1 .1 .0 ∙ at-loop .inv .1 .0
+    let at-loop = c .before .before .before .before .before .before .before .before .before .loop in
+    (c .before .before .before .before .is-overlong) .kept .1 .1 .1 .1 .1 .1 .1 .1 .0 ∙ at-loop .inv .1 .0
+
+check-refused-requires : tie.Need-check-refused-requires Inv-loop μ-loop
+check-refused-requires c κs = search needs
 
 returns : tie.Need-returns Inv-loop μ-loop
 returns c =
-    let at-args = c .before .before .before .before .before .before .before .before .before .before .before .before .before .before .before .before .args in
-    let at-phy-count = c .before .before .before .before .before .before .before .before .before .phy-count in
-    let at-loop = c .before .before .before .before .before .before .before .before .loop in
-    phy-stop 14 (overOwn (domainIn (at-args .rows .now))) (domainIn (at-args .rows .now)) (at-args .i .0) (at-phy-count .result) (at-loop .p) (at-loop .inv .1 .1 .1) (sym ((c .before .before .before .is-overlong) .ensures) ∙ (c .if1) .taken) (omega arith)
+    let at-args = c .before .before .before .before .before .before .before .before .before .before .before .before .before .before .before .before .before .args in
+    let at-phy-count = c .before .before .before .before .before .before .before .before .before .before .phy-count in
+    let at-loop = c .before .before .before .before .before .before .before .before .before .loop in
+    ap (checkAnswer (domainIn (at-args .rows .now))) ((c .check-refused) .ensures) ∙ phy-stop 14 (overOwn (domainIn (at-args .rows .now))) (domainIn (at-args .rows .now)) (at-args .i .0) (at-phy-count .result) (at-loop .p) (at-loop .inv .1 .1 .1) (sym ((c .before .before .before .before .is-overlong) .ensures) ∙ (c .before .if1) .taken) (omega arith)
 
 add-p : tie.Need-add-p Inv-loop μ-loop
 add-p c = omega arith
@@ -84,4 +88,4 @@ returns-2 c =
     phy-end 14 (overOwn (domainIn (at-args .rows .now))) (domainIn (at-args .rows .now)) (at-args .i .0) ((c .before .before .phy-count) .result) ((c .before .loop) .p) ((c .before .loop) .inv .1 .1 .1) (omega arith)
 
 pub overlong-phy-spec : {M : Type 1} → statement M
-overlong-phy-spec = tie.close (tie.spec Inv-loop μ-loop phy-count-requires loop-holds phy-below-requires lower-phy-requires is-overlong-requires same-length returns add-p loop-less loop-again same-length-2 returns-2)
+overlong-phy-spec = tie.close (tie.spec Inv-loop μ-loop phy-count-requires loop-holds phy-below-requires lower-phy-requires is-overlong-requires check-refused-requires same-length returns add-p loop-less loop-again same-length-2 returns-2)

@@ -7,6 +7,7 @@ use Rattle.wiring.specs.Causes.{clashing, phyPlaces, firstIn}
 use Rattle.files.specs.Rows.{domainIn}
 use Rattle.wiring.proofs.Searches.{phy-stop, phy-go, phy-end}
 use Rattle.tables.specs.Filling.{placesAt}
+use Rattle.wiring.specs.Checks.{checkAnswer}
 use borrow.Author.Needs.{needs}
 use native.Mathlib.Omega.{arith}
 use Rattle.tables.proofs.retesting.first_clash.Statement.{statement}
@@ -31,12 +32,15 @@ loop-holds c =
 has-clash-requires : tie.Need-has-clash-requires Inv-loop μ-loop
 has-clash-requires c κs = omega (arith, (c .before .before .phy-count) .ensures .0)
 
+check-refused-requires : tie.Need-check-refused-requires Inv-loop μ-loop
+check-refused-requires c κs = search needs
+
 returns : tie.Need-returns Inv-loop μ-loop
 returns c =
-    let a = (c .before .before .before .before .before .before .args) in
-    let l = (c .before .before .before .loop) in
+    let a = (c .before .before .before .before .before .before .before .args) in
+    let l = (c .before .before .before .before .loop) in
     let d : Domain = domainIn (a .rows .now) in
-    phy-stop 9 (clashing d) d (a .e .0) ((c .before .before .before .before .phy-count) .result) (l .p) (l .inv .1) (sym ((c .before .has-clash) .ensures) ∙ (c .if1) .taken) (omega arith)
+    ap (checkAnswer d) ((c .check-refused) .ensures) ∙ phy-stop 9 (clashing d) d (a .e .0) ((c .before .before .before .before .before .phy-count) .result) (l .p) (l .inv .1) (sym ((c .before .before .has-clash) .ensures) ∙ (c .before .if1) .taken) (omega arith)
 
 add-p : tie.Need-add-p Inv-loop μ-loop
 add-p c = omega arith
@@ -59,4 +63,4 @@ returns-2 c =
     phy-end 9 (clashing d) d (a .e .0) ((c .before .before .phy-count) .result) (l .p) (l .inv .1) (omega arith)
 
 pub first-clash-spec : {M : Type 1} → statement M
-first-clash-spec = tie.close (tie.spec Inv-loop μ-loop phy-count-requires loop-holds has-clash-requires returns add-p loop-less loop-again returns-2)
+first-clash-spec = tie.close (tie.spec Inv-loop μ-loop phy-count-requires loop-holds has-clash-requires check-refused-requires returns add-p loop-less loop-again returns-2)

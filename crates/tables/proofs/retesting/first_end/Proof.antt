@@ -9,6 +9,7 @@ use Rattle.files.specs.Rows.{domainIn}
 use Rattle.wiring.proofs.Searches.{phy-stop, phy-go, phy-end}
 use Rattle.tables.specs.Filling.{placesAt}
 use Rattle.tables.specs.Retests.{isEnd, endsAt}
+use Rattle.wiring.specs.Checks.{checkAnswer}
 use borrow.Author.Needs.{needs}
 use native.Mathlib.Omega.{arith}
 use Rattle.tables.proofs.retesting.first_end.Statement.{statement}
@@ -35,12 +36,15 @@ phy-below-requires c κs = search needs
 is-end-requires : tie.Need-is-end-requires Inv-loop μ-loop
 is-end-requires c κs = search needs
 
+check-refused-requires : tie.Need-check-refused-requires Inv-loop μ-loop
+check-refused-requires c κs = search needs
+
 returns : tie.Need-returns Inv-loop μ-loop
 unfolding endsAt
 returns c =
-    let at-args = c .before .before .before .before .before .before .before .args in
+    let at-args = c .before .before .before .before .before .before .before .before .args in
     let d : Domain = domainIn (at-args .rows .now) in
-    phy-stop 8 (endsAt (at-args .s) d) d (at-args .i .0) ((c .before .before .before .before .before .phy-count) .result) ((c .before .before .before .before .loop) .p) ((c .before .before .before .before .loop) .inv .1) (ap (isEnd (at-args .s)) (sym ((c .before .before .phy-below) .ensures ∙ phy-held _ _ _ (omega (arith, (c .before .before .before .before .before .phy-count) .ensures .0)))) ∙ sym ((c .before .is-end) .ensures) ∙ (c .if1) .taken) (omega arith)
+    ap (checkAnswer d) ((c .check-refused) .ensures) ∙ phy-stop 8 (endsAt (at-args .s) d) d (at-args .i .0) ((c .before .before .before .before .before .before .phy-count) .result) ((c .before .before .before .before .before .loop) .p) ((c .before .before .before .before .before .loop) .inv .1) (ap (isEnd (at-args .s)) (sym ((c .before .before .before .phy-below) .ensures ∙ phy-held _ _ _ (omega (arith, (c .before .before .before .before .before .before .phy-count) .ensures .0)))) ∙ sym ((c .before .before .is-end) .ensures) ∙ (c .before .if1) .taken) (omega arith)
 
 add-p : tie.Need-add-p Inv-loop μ-loop
 add-p c = omega arith
@@ -61,4 +65,4 @@ returns-2 c =
     phy-end 8 (endsAt ((c .before .before .before .before .args) .s) d) d ((c .before .before .before .before .args) .i .0) ((c .before .before .phy-count) .result) ((c .before .loop) .p) ((c .before .loop) .inv .1) (omega arith)
 
 pub first-end-spec : {M : Type 1} → statement M
-first-end-spec = tie.close (tie.spec Inv-loop μ-loop phy-count-requires loop-holds phy-below-requires is-end-requires returns add-p loop-less loop-again returns-2)
+first-end-spec = tie.close (tie.spec Inv-loop μ-loop phy-count-requires loop-holds phy-below-requires is-end-requires check-refused-requires returns add-p loop-less loop-again returns-2)
