@@ -9,21 +9,21 @@ use lib.ListN.{length, set, length-set}
 use lib.Dec.{T}
 use Rattle.files.specs.declared.Phy.{Phy}
 use Rattle.files.specs.Lists.{keep}
-use Rattle.files.specs.Domain.{Expander, Domain, expanderAt, phyAt, routes}
-use Rattle.files.specs.PhySet.{withPhy, setPhy}
-use Rattle.wiring.specs.Causes.{Place, place, phyPlaces, placesFrom, places}
-use Rattle.wiring.specs.Tested.{Linked}
-use Rattle.wiring.proofs.Wires.{Wired}
+use Rattle.files.specs.Domain.{Expander, Domain, expanderAt, phyAt, isTable}
+use Rattle.files.specs.PhyReplaced.{withPhy, setPhy}
+use Rattle.wiring.specs.PhyCauses.{Place, place, phyPlaces, placesFrom, places}
+use Rattle.wiring.specs.WiringCauses.{Linked}
+use Rattle.wiring.proofs.WiredPhys.{Wired}
 use Rattle.tables.specs.Tables.{table, tablePlaces, tables}
-use Rattle.tables.proofs.Growing.{flat-append}
+use Rattle.tables.proofs.GrowingLists.{flat-append}
 use Rattle.benches.specs.Joined.{cabledTo, joined}
-use Rattle.benches.specs.Bench.{Joinable}
-use Rattle.benches.proofs.Holds.{Part, length-with, first-part, second-part}
-use Rattle.benches.proofs.PartTables.{table-same, routes-same}
+use Rattle.benches.specs.JoinConditions.{Joinable}
+use Rattle.benches.proofs.PartsOfJoined.{Part, length-with, first-part, second-part}
+use Rattle.benches.proofs.PartTables.{table-same, attribute-same}
 
 -- what a place adds to the tables
 abbrev words : Domain → Place → List ℕ
-words d q = cond (routes 2 (phyAt d (q .expander) (q .phy))) (table d (q .expander) (q .phy)) []
+words d q = cond (isTable (phyAt d (q .expander) (q .phy))) (table d (q .expander) (q .phy)) []
 
 module _ {A B : Type 0} where
   flat-keep : (t : A → Bool) (f : A → List B) (l : List A) → flatMap f (keep t l) ≡ flatMap (λ q. cond (t q) (f q) []) l
@@ -69,18 +69,18 @@ module _ (f g : Place → List ℕ) (k : ℕ) where
 
 words-same : (d e : Domain) (w : Wired d) (r : Linked d) (k i p s q : ℕ) (part : Part d e k i p s q) (x y : ℕ) → x < length d
     → words e (place (k + x) y) ≡ words d (place x y)
-words-same d e w r k i p s q part x y h = go (routes 2 (phyAt d x y)) refl
+words-same d e w r k i p s q part x y h = go (isTable (phyAt d x y)) refl
   where
-    go : (b : Bool) → routes 2 (phyAt d x y) ≡ b → words e (place (k + x) y) ≡ cond b (table d x y) []
-    go true o = ap (λ c. cond c (table e (k + x) y) []) (routes-same d e w r k i p s q part x y h ∙ o) ∙ table-same d e w r k i p s q part x y h (subst T (sym o) tt)
-    go false o = ap (λ c. cond c (table e (k + x) y) []) (routes-same d e w r k i p s q part x y h ∙ o)
+    go : (b : Bool) → isTable (phyAt d x y) ≡ b → words e (place (k + x) y) ≡ cond b (table d x y) []
+    go true o = ap (λ c. cond c (table e (k + x) y) []) (attribute-same d e w r k i p s q part x y h ∙ o) ∙ table-same d e w r k i p s q part x y h (subst T (sym o) tt)
+    go false o = ap (λ c. cond c (table e (k + x) y) []) (attribute-same d e w r k i p s q part x y h ∙ o)
 
 part-words : (d e : Domain) (w : Wired d) (r : Linked d) (k i p s q : ℕ) (part : Part d e k i p s q) → flatMap (words e) (placesFrom k d) ≡ tables d
 unfolding tables tablePlaces
 part-words d e w r k i p s q part =
     ap (λ v. flatMap (words e) (placesFrom v d)) (let z : k ≡ k + 0 = omega arith in z)
     ∙ places-same (words e) (words d) k 0 d (λ x y l. words-same d e w r k i p s q part x y (omega arith))
-    ∙ sym (flat-keep (λ q. routes 2 (phyAt d (q .expander) (q .phy))) (λ q. table d (q .expander) (q .phy)) (places d))
+    ∙ sym (flat-keep (λ q. isTable (phyAt d (q .expander) (q .phy))) (λ q. table d (q .expander) (q .phy)) (places d))
 
 joined-places : (d₁ : Domain) (i p : ℕ) (d₂ : Domain) (j q : ℕ) → placesFrom 0 (joined d₁ i p d₂ j q) ≡ placesFrom 0 d₁ ++ placesFrom (length d₁) d₂
 unfolding joined
@@ -96,7 +96,7 @@ pub joined-tables : (d₁ : Domain) (i p : ℕ) (d₂ : Domain) (j q : ℕ) → 
     → tables (joined d₁ i p d₂ j q) ≡ tables d₁ ++ tables d₂
 unfolding tables tablePlaces
 joined-tables d₁ i p d₂ j q w₁ r₁ w₂ r₂ c =
-    flat-keep (λ q. routes 2 (phyAt e (q .expander) (q .phy))) (λ q. table e (q .expander) (q .phy)) (places e)
+    flat-keep (λ q. isTable (phyAt e (q .expander) (q .phy))) (λ q. table e (q .expander) (q .phy)) (places e)
     ∙ ap (flatMap (words e)) shape
     ∙ flat-append (words e) (placesFrom 0 d₁) (placesFrom (length d₁) d₂)
     ∙ ap₂ _++_ (part-words d₁ e w₁ r₁ 0 i p s₂ q (first-part d₁ i p d₂ j q c)) (part-words d₂ e w₂ r₂ (length d₁) j q s₁ p (second-part d₁ i p d₂ j q c))

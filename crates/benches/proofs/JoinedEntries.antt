@@ -10,22 +10,22 @@ use Rattle.frames.specs.Refusals.{Result, good, then}
 use Rattle.frames.specs.Bits.{bitsOf, zeroBit}
 use Rattle.files.specs.declared.Setting.{Setting}
 use Rattle.files.specs.Domain.{Domain}
-use Rattle.files.specs.Read.{Bytes}
-use Rattle.files.proofs.Read.{read-good}
-use Rattle.files.proofs.Results.{good-one}
+use Rattle.files.specs.ReadDomain.{Bytes}
+use Rattle.files.proofs.ReadDomain.{read-good}
+use Rattle.files.proofs.CallResults.{good-one}
 use Rattle.tables.specs.Tables.{tables, needed}
 use Rattle.tables.specs.Entries.{Entries, roomOf}
-use Rattle.tables.specs.Judge.{judged, judgedTables, tableCall, Counted, countsIn, TablesDone}
+use Rattle.tables.specs.JudgingCall.{judged, judgedTables, tableCall, Counted, countsIn, TablesDone}
 use Rattle.tables.specs.declared.TablesGiven.the-variants.{Counts}
-use Rattle.tables.proofs.Tables.{tables-length}
-use Rattle.tables.proofs.Given.{judged-file, table-call, tables-same}
-use Rattle.tables.proofs.Exactly.{counts-iff, tables-of}
-use Rattle.tables.proofs.Stretches.{index-for-index}
+use Rattle.tables.proofs.TableLengths.{tables-length}
+use Rattle.tables.proofs.AcceptedDomains.{judged-file, table-call, tables-same}
+use Rattle.tables.proofs.TableRefusals.{counts-iff, tables-of}
+use Rattle.tables.proofs.TableStretches.{index-for-index}
 use Rattle.benches.specs.Bytes.{joinedFile}
 use Rattle.benches.specs.Joined.{joined}
-use Rattle.benches.proofs.Accepts.{same-tables}
+use Rattle.benches.proofs.JoinedAccepted.{same-tables}
 use Rattle.benches.proofs.JoinedReads.{joined-exactly}
-use Rattle.benches.proofs.Exactly.{Conditions}
+use Rattle.benches.proofs.JoinRefusals.{Conditions}
 
 -- a table call on a file that is accepted as d, and that answered counts
 module _ (setting : Setting) (file : List ℕ) (d : Domain) (e : judged setting file ≡ good d) (t n : ℕ) (before after : Entries)

@@ -12,35 +12,35 @@ use Rattle.frames.specs.Bytes.{byte}
 use Rattle.frames.specs.Refusals.{Result, refused, good, unless, then, refusal}
 use Rattle.files.specs.declared.Setting.{Setting}
 use Rattle.files.specs.Settings.{inRange}
-use Rattle.files.specs.Domain.{Expander, Domain, expanderAt, phyAt, attributeOf, routes}
-use Rattle.files.specs.PhySet.{setPhy}
-use Rattle.files.specs.Read.{Bytes, ReadExpander, Read}
+use Rattle.files.specs.Domain.{Expander, Domain, expanderAt, phyAt, attributeOf, isSubtractive}
+use Rattle.files.specs.PhyReplaced.{setPhy}
+use Rattle.files.specs.ReadDomain.{Bytes, ReadExpander, Read}
 use Rattle.files.specs.Lists.{In}
-use Rattle.wiring.specs.Addresses.{IndexRoom}
+use Rattle.wiring.specs.AddressIndex.{IndexRoom}
 use Rattle.files.specs.File.{headerUnit, domainRead, expanders}
 use Rattle.wiring.specs.Devices.{Borne}
-use Rattle.wiring.specs.Chains.{ShortChains}
-use Rattle.files.proofs.Members.{is-true}
-use Rattle.files.proofs.Ranges.{range-iff}
-use Rattle.files.proofs.Results.{unless-good}
-use Rattle.files.proofs.Read.{read-good, stated-expanders, number-fits}
-use Rattle.wiring.proofs.Accepted.{read-expander}
-use Rattle.files.proofs.Domains.{routes-range}
-use Rattle.tables.specs.Judge.{judgedDomain, judged}
-use Rattle.tables.specs.Prepared.{judgedIn}
-use Rattle.tables.proofs.Given.{judged-file}
-use Rattle.tables.proofs.Lawful.{judged-own}
-use Rattle.benches.specs.Bench.{Free}
+use Rattle.wiring.specs.LongChains.{ShortChains}
+use Rattle.files.proofs.ListMembers.{is-true}
+use Rattle.files.proofs.SettingRanges.{range-iff}
+use Rattle.files.proofs.CallResults.{unless-good}
+use Rattle.files.proofs.ReadDomain.{read-good, stated-expanders, number-fits}
+use Rattle.wiring.proofs.WiredAndLinked.{read-expander}
+use Rattle.files.proofs.Domains.{attribute-range}
+use Rattle.tables.specs.JudgingCall.{judgedDomain, judged}
+use Rattle.tables.specs.PreparedLists.{judgedIn}
+use Rattle.tables.proofs.AcceptedDomains.{judged-file}
+use Rattle.tables.proofs.LevelListsByOwn.{judged-own}
+use Rattle.benches.specs.JoinConditions.{Free}
 use Rattle.benches.specs.Bytes.{addressIn, cabledAt, joinedFile}
 use Rattle.offsets.specs.Offsets.{expanderOffset, phyOffset}
 use Rattle.benches.specs.Joined.{cabledTo, joined}
 use Rattle.benches.specs.BenchRows.{repeatedFrom, differing, judgedApart, apartIn}
 use Rattle.offsets.proofs.Offsets.{units-of, expander-there, head-found, phy-placed}
-use Rattle.benches.proofs.Written.{cabled-rest}
-use Rattle.benches.proofs.Units.{UnitBytes, UnitsOf, unitsBytes, expandersAll, placeIn, units-read, units-cut, testedAll, cableUnits, units-cabled, domain-cabled, bytes-units, has-phy, has-less, bytes-append, domain-append, units-append, length-units, tested-is, tested-pass}
-use Rattle.benches.proofs.Holds.{routes-inside, joined-length}
+use Rattle.benches.proofs.JoinedFileWritten.{cabled-rest}
+use Rattle.benches.proofs.FileUnits.{UnitBytes, UnitsOf, unitsBytes, expandersAll, placeIn, units-read, units-cut, testedAll, cableUnits, units-cabled, domain-cabled, bytes-units, has-phy, has-less, bytes-append, domain-append, units-append, length-units, tested-is, tested-pass}
+use Rattle.benches.proofs.PartsOfJoined.{attribute-inside, joined-length}
 use Rattle.benches.proofs.SameAddress.{tested-apart}
-use Rattle.benches.proofs.Accepts.{each-joined, joined-accepted}
+use Rattle.benches.proofs.JoinedAccepted.{each-joined, joined-accepted}
 
 -- the address of an expander in a file
 pub address-in : (most : Setting) (file : List ℕ) (d : Domain) → domainRead most file ≡ good d → (i : ℕ) → i < length d → addressIn file i ≡ expanderAt d i .address
@@ -56,11 +56,11 @@ pub record CabledUnits (file : List ℕ) (d : Domain) (i p s q : ℕ) : Type 0 w
   pub domain : expandersAll units ≡ setPhy d i p (cabledTo s q)
   pub bytes : drop 2 (cabledAt file (phyOffset file i p) s q) ≡ unitsBytes units
 
-pub cabled-units : (most : Setting) (file : List ℕ) (d : Domain) → domainRead most file ≡ good d → (i p s q : ℕ) → T (routes 1 (phyAt d i p)) → s ≢ 0 → s < 2 ^ 64 → CabledUnits file d i p s q
+pub cabled-units : (most : Setting) (file : List ℕ) (d : Domain) → domainRead most file ≡ good d → (i p s q : ℕ) → T (isSubtractive (phyAt d i p)) → s ≢ 0 → s < 2 ^ 64 → CabledUnits file d i p s q
 cabled-units most file d e i p s q t z k =
     let o = units-of most file d e in
     let c = units-cut most file (length d) 0 2 [] d (o .1) in
-    let l = routes-range d 1 i p t (omega arith) in
+    let l = attribute-range d 1 i p t (omega arith) in
     let a = phy-placed most file d e i p l in
     let h = has-phy (c .units) i p (subst (λ (v : Domain). p < length (expanderAt v i .phys)) (sym (c .domain)) l) in
     let at = c .place i p (has-less (c .units) i p h) in
@@ -83,10 +83,10 @@ module _ (most : Setting) (first : List ℕ) (i p : ℕ) (second : List ℕ) (j 
   g₂ = read-good most second d₂ e₂
 
   in₁ : i < length d₁
-  in₁ = routes-inside d₁ 1 i p (omega arith) (f₁ .subtractive)
+  in₁ = attribute-inside d₁ 1 i p (omega arith) (f₁ .subtractive)
 
   in₂ : j < length d₂
-  in₂ = routes-inside d₂ 1 j q (omega arith) (f₂ .subtractive)
+  in₂ = attribute-inside d₂ 1 j q (omega arith) (f₂ .subtractive)
 
   abbrev s₁ : ℕ
   s₁ = addressIn first i

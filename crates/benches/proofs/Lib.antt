@@ -1,19 +1,19 @@
-pub mod Bounds
-pub mod Written
-pub mod Joins
-pub mod Frames
-pub mod Units
+pub mod RefusalBounds
+pub mod JoinedFileWritten
+pub mod JoinOutcomes
+pub mod CabledFrames
+pub mod FileUnits
 pub mod SameAddress
-pub mod Bridge
-pub mod Holds
+pub mod BridgedGraphs
+pub mod PartsOfJoined
 pub mod PartTables
 pub mod JoinTables
-pub mod Whole
-pub mod Benches
-pub mod Accepts
-pub mod Across
+pub mod JoinedPassesCauses
+pub mod JoinedDomains
+pub mod JoinedAccepted
+pub mod ArrivalAcross
 pub mod JoinedReads
 pub mod RowsJudged
-pub mod Exactly
+pub mod JoinRefusals
 pub mod JoinedEntries
-mod Worked
+mod WorkedJoin

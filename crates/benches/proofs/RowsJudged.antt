@@ -14,24 +14,24 @@ use Rattle.files.specs.declared.DomainRead.{DomainRead}
 use Rattle.wiring.specs.declared.Check.{Check}
 use Rattle.wiring.specs.declared.Check.the-variants.{Refused, Passed}
 use Rattle.files.specs.Domain.{Expander, Domain, noExpander, expanderAt}
-use Rattle.files.specs.Read.{Bytes}
-use Rattle.wiring.specs.Addresses.{slotsBefore, IndexRoom}
+use Rattle.files.specs.ReadDomain.{Bytes}
+use Rattle.wiring.specs.AddressIndex.{slotsBefore, IndexRoom}
 use Rattle.wiring.specs.Checks.{checkAnswer}
 use Rattle.files.specs.File.{domainRead}
 use Rattle.files.specs.Rows.{phyIn, physIn, rowIn, rowsIn, domainIn, rowsRead, RowsRead}
-use Rattle.files.specs.PhySet.{withPhy, setPhy, heldAs, PhySet}
+use Rattle.files.specs.PhyReplaced.{withPhy, setPhy, phyFromWords, PhySet}
 use Rattle.files.specs.declared.Phy.{Phy}
-use Rattle.files.proofs.Read.{read-good}
-use Rattle.tables.specs.Judge.{judged}
-use Rattle.benches.specs.Bench.{Free}
+use Rattle.files.proofs.ReadDomain.{read-good}
+use Rattle.tables.specs.JudgingCall.{judged}
+use Rattle.benches.specs.JoinConditions.{Free}
 use Rattle.benches.specs.Bytes.{joinedFile}
 use Rattle.benches.specs.BenchRows.{readAs, bothRead, cabled, apartIn, checkOf}
 use Rattle.benches.specs.Joined.{cabledTo, joined}
-use Rattle.benches.specs.Parts.{Ready}
-use Rattle.benches.proofs.Holds.{routes-inside, joined-length}
-use Rattle.benches.proofs.Joins.{accepted-read}
+use Rattle.benches.specs.SidesFound.{Ready}
+use Rattle.benches.proofs.PartsOfJoined.{attribute-inside, joined-length}
+use Rattle.benches.proofs.JoinOutcomes.{accepted-read}
 use Rattle.benches.proofs.JoinedReads.{rows-own}
-use Rattle.benches.proofs.Exactly.{free-is}
+use Rattle.benches.proofs.JoinRefusals.{free-is}
 
 -- rows before other words
 phys-left : (k : ℕ) (u v : List ℕ) → 2 * k ≤ length u → physIn k (u ++ v) ≡ physIn k u
@@ -102,7 +102,7 @@ both-held setting first second d₁ d₂ e₁ e₂ before one between two after 
     ap domainIn t ∙ domain-append n m u v lu lv f ∙ ap₂ (λ (c d : Domain). c ++ d) p q
 
 -- the cable's phy is held as it is
-held-cable : (s q : ℕ) → q < 256 → heldAs (cabledTo s q) ≡ cabledTo s q
+held-cable : (s q : ℕ) → q < 256 → phyFromWords (cabledTo s q) ≡ cabledTo s q
 held-cable s q h =
     let w : ℕ = 1 + 2 * 2 + 8 * 1 + 32 * q in
     let a : w / 2 % 4 ≡ 2 = omega arith in
@@ -117,8 +117,8 @@ pub rows-cabled : (before between after : List ℕ) (n i p j q s t : ℕ) (φ ψ
 unfolding cabled
 rows-cabled before between after n i p j q s t φ ψ hp hq one other f g x y =
     let d : Domain = domainIn before in
-    let a : heldAs φ ≡ cabledTo (expanderAt d (n + j) .address) q = ap heldAs f ∙ held-cable t q hq ∙ ap (λ (z : ℕ). cabledTo z q) y in
-    let b : heldAs ψ ≡ cabledTo (expanderAt d i .address) p = ap heldAs g ∙ held-cable s p hp ∙ ap (λ (z : ℕ). cabledTo z p) x in
+    let a : phyFromWords φ ≡ cabledTo (expanderAt d (n + j) .address) q = ap phyFromWords f ∙ held-cable t q hq ∙ ap (λ (z : ℕ). cabledTo z q) y in
+    let b : phyFromWords ψ ≡ cabledTo (expanderAt d i .address) p = ap phyFromWords g ∙ held-cable s p hp ∙ ap (λ (z : ℕ). cabledTo z p) x in
     other .domain ∙ ap₂ (λ (v : Domain) (χ : Phy). setPhy v (n + j) q χ) (one .domain ∙ ap (setPhy d i p) a) b
 
 -- so the rows hold the joined domain
@@ -158,7 +158,7 @@ module _ (setting : Setting) (first : List ℕ) (n i p : ℕ) (second : List ℕ
 
   -- the second's expander is a byte's number among all
   pub ready-place : n + j < 256
-  ready-place = omega (arith, ready-few, routes-inside (c .other .domain) 1 j q (omega arith) (free-other .subtractive), c .other .count)
+  ready-place = omega (arith, ready-few, attribute-inside (c .other .domain) 1 j q (omega arith) (free-other .subtractive), c .other .count)
 
   -- rows that both files were read into, one after the other, with the cable written, were judged: what judging the joined file says
   pub bench-judged : Bytes first → Bytes second → (rows part rest who low : List ℕ) (answer : Check) → slotsBefore (n + m) ≤ length who → 128 * (n + m) ≤ length low
@@ -169,7 +169,7 @@ module _ (setting : Setting) (first : List ℕ) (n i p : ℕ) (second : List ℕ
       let d₁ = c .one .domain in
       let d₂ = c .other .domain in
       let J : Domain = joined d₁ i p d₂ j q in
-      let inside = routes-inside d₁ 1 i p (omega arith) (free-one .subtractive) in
+      let inside = attribute-inside d₁ 1 i p (omega arith) (free-one .subtractive) in
       let few : length d₁ + length d₂ ≤ setting .expanders = omega (arith, c .few, c .one .count, c .other .count) in
       let l = joined-length d₁ i p d₂ j q in
       let room : IndexRoom J who low = record { slots = omega (arith, c .one .count, c .other .count); phys = omega (arith, c .one .count, c .other .count) } in

@@ -15,14 +15,14 @@ use Rattle.files.specs.declared.Setting.{Setting}
 use Rattle.wiring.specs.declared.Check.{Check}
 use Rattle.wiring.specs.declared.Check.the-variants.{Refused}
 use Rattle.files.specs.Lists.{any, In, isIn}
-use Rattle.files.specs.Read.{ReadExpander, addresses}
+use Rattle.files.specs.ReadDomain.{ReadExpander, addresses}
 use Rattle.files.specs.Domain.{Expander, Domain, noExpander, expanderAt, numberOf}
 use Rattle.wiring.specs.Checks.{checkAnswer}
 use Rattle.files.specs.File.{expanderOf}
-use Rattle.files.proofs.Members.{was-true, by-test}
-use Rattle.tables.specs.Prepared.{judgedIn}
+use Rattle.files.proofs.ListMembers.{was-true, by-test}
+use Rattle.tables.specs.PreparedLists.{judgedIn}
 use Rattle.benches.specs.BenchRows.{repeatedFrom, repeated, differing, apartIn}
-use Rattle.benches.proofs.Units.{UnitBytes, UnitOf, UnitsOf, physAll, expandersAll, testedAll, length-phys}
+use Rattle.benches.proofs.FileUnits.{UnitBytes, UnitOf, UnitsOf, physAll, expandersAll, testedAll, length-phys}
 
 -- the lowest expander that has the address of one before it
 module _ (d : Domain) (n k : ℕ) {v : ℕ} (inv : repeatedFrom d (n - k) k ≡ v) where

@@ -10,9 +10,9 @@ use Rattle.wiring.specs.declared.Check.{Check}
 use Rattle.wiring.specs.declared.Check.the-variants.{Refused, Passed}
 use Rattle.files.specs.Domain.{Domain, expanderAt, numberOf}
 use Rattle.files.specs.File.{domainRead}
-use Rattle.files.specs.PhySet.{setPhy}
-use Rattle.tables.specs.Judge.{judgedDomain}
-use Rattle.tables.specs.Prepared.{judgedIn}
+use Rattle.files.specs.PhyReplaced.{setPhy}
+use Rattle.tables.specs.JudgingCall.{judgedDomain}
+use Rattle.tables.specs.PreparedLists.{judgedIn}
 use Rattle.benches.specs.Joined.{cabledTo}
 
 -- the domain that a file reads as; no expander where it is refused

@@ -8,19 +8,19 @@ use Rattle.frames.specs.Refusals.{Result, refused, good, unless, then, refusal,
 use Rattle.files.specs.declared.Setting.{Setting}
 use Rattle.files.specs.declared.Phy.{Phy}
 use Rattle.files.specs.Lists.{any}
-use Rattle.files.specs.Domain.{Domain, expanderAt, phyAt, routes, attached}
-use Rattle.tables.specs.Judge.{judged}
+use Rattle.files.specs.Domain.{Domain, expanderAt, phyAt, isSubtractive, attached}
+use Rattle.tables.specs.JudgingCall.{judged}
 use Rattle.benches.specs.declared.Joining.{Joining}
 use Rattle.benches.specs.declared.Joining.the-variants.{Refused, Bytes}
 use Rattle.benches.specs.Bytes.{joinedFile}
 
 -- an attached subtractive phy
 abbrev pub upward : Phy → Bool
-upward φ = attached φ && routes 1 φ
+upward φ = attached φ && isSubtractive φ
 
 -- 21 does not hold of a named phy: it exists, is not vacant, subtractive and not attached, and its expander has no attached subtractive phy
 unfoldable pub free : Domain → ℕ → ℕ → Bool
-free d i p = routes 1 (phyAt d i p) && (not (attached (phyAt d i p)) && not (any upward (expanderAt d i .phys)))
+free d i p = isSubtractive (phyAt d i p) && (not (attached (phyAt d i p)) && not (any upward (expanderAt d i .phys)))
 
 module _ {A : Type 0} where
   -- a refusal with so many added to its expander number, place 0, 0 included

@@ -4,11 +4,11 @@ use mathlib.Core.List.{_++_}
 use Rattle.files.specs.declared.Phy.{Phy}
 use Rattle.files.specs.declared.Phy.the-variants.{Present}
 use Rattle.files.specs.Domain.{Domain, expanderAt}
-use Rattle.files.specs.PhySet.{setPhy}
+use Rattle.files.specs.PhyReplaced.{setPhy}
 
 -- a subtractive phy cabled to phy q of the expander with address s: type 2, far address, far phy
 abbrev pub cabledTo : ℕ → ℕ → Phy
-cabledTo s q = Present (record { device = 2; attribute = 1; address = s; far = record { 0 = q } })
+cabledTo s q = Present (record { deviceType = 2; attribute = 1; address = s; attachedPhy = record { 0 = q } })
 
 -- "the joined file holds the first's expanders, then the second's": phy p of expander i of the first, and phy q of expander j of the second,
 -- each by its own file's numbers, have the cable

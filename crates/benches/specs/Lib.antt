@@ -2,5 +2,5 @@ pub mod Joined
 pub mod Bytes
 pub mod JoinCall
 pub mod BenchRows
-pub mod Parts
-pub mod Bench
+pub mod SidesFound
+pub mod JoinConditions

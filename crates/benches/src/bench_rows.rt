@@ -11,11 +11,11 @@ ghost use Prim.Native.Nat.{_+_, _*_, _≤_, _<_};
 ghost use lib.ListN.{length, take};
 ghost use Rattle.wiring.specs.Checks.{checkAnswer};
 ghost use Rattle.files.specs.Rows.{domainIn};
-ghost use Rattle.tables.specs.Judge.{judged};
+ghost use Rattle.tables.specs.JudgingCall.{judged};
 ghost use Rattle.benches.specs.Bytes.{joinedFile};
 ghost use Rattle.benches.specs.BenchRows.{bothRead, cabled, apartIn, checkOf};
 ghost use Rattle.benches.specs.Joined.{cabledTo};
-ghost use Rattle.benches.specs.Parts.{Accepted, Ready, JoinRoom};
+ghost use Rattle.benches.specs.SidesFound.{Accepted, Ready, JoinRoom};
 
 // Reads two accepted files of n and m expanders into rows: the first's, then the second's.
 fn read_both(setting: Setting, first: &[u8], n: u8, second: &[u8], m: u8, rows: &mut [u64])
@@ -32,10 +32,10 @@ fn cabled_to(s: u64, q: PhyId) -> Phy
     ensures { λ r. ⌜ r ≡ cabledTo s (q .0) ⌝ }
 {
     Phy::Present(PhyFields {
-        device: 2,
+        deviceType: 2,
         attribute: 1,
         address: s,
-        far: q,
+        attachedPhy: q,
     })
 }
 

@@ -12,7 +12,7 @@ ghost use Prim.Native.Nat.{_+_, _≤_};
 ghost use lib.ListN.{length};
 ghost use Rattle.frames.specs.Bytes.{byte};
 ghost use Rattle.benches.specs.JoinCall.{joinCall, JoinDone};
-ghost use Rattle.benches.specs.Parts.{Ready, statedBoth, JoinRoom};
+ghost use Rattle.benches.specs.SidesFound.{Ready, statedBoth, JoinRoom};
 
 // Judges the joined domain in rows, and writes the joined file where it is accepted and there is room: 16.
 fn join_ready(

@@ -5,7 +5,7 @@ use wiring::Refusal;
 ghost use mathlib.Core.Path.{_≡_};
 ghost use Prim.Native.Nat.{_+_, _<_};
 ghost use Rattle.frames.specs.Refusals.{refused, refusal};
-ghost use Rattle.benches.specs.Parts.{filesAnswer};
+ghost use Rattle.benches.specs.SidesFound.{filesAnswer};
 
 // The refusal of the two files with this number, at place 0, 0.
 pub(crate) fn files_refused(k: u8) -> Files

@@ -11,9 +11,9 @@ use wiring::Setting;
 ghost use mathlib.Core.Path.{_≡_};
 ghost use Prim.Native.Nat.{_≤_, min};
 ghost use Rattle.frames.specs.Bytes.{byte};
-ghost use Rattle.wiring.specs.Frames.{then};
-ghost use Rattle.tables.specs.Judge.{judged};
-ghost use Rattle.benches.specs.Parts.{sideAnswer, sideOf, filesAnswer, countsFor, filesFor, statedBoth, JoinRoom};
+ghost use Rattle.wiring.specs.FrameDefinitions.{then};
+ghost use Rattle.tables.specs.JudgingCall.{judged};
+ghost use Rattle.benches.specs.SidesFound.{sideAnswer, sideOf, filesAnswer, countsFor, filesFor, statedBoth, JoinRoom};
 
 // Reads one file into rows, judges it there, and tests whether phy p of its expander i can take the cable.
 fn judge_side(

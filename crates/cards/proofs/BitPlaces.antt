@@ -12,7 +12,7 @@ use Rattle.frames.specs.Bits.{numberBits, field, bitsOf}
 use Rattle.frames.proofs.PackedBits.{Bits, length-numberBits, length-bitsOf, field-next, bits-drop}
 use Rattle.frames.proofs.DisableBits.{field-none}
 use Rattle.frames.proofs.NumberBits.{field-back, field-lt, field-split, field-high, field-low}
-use Rattle.frames.proofs.Packing.{Bytes, bits-bitsOf, bitsOf-drop}
+use Rattle.frames.proofs.PackedRows.{Bytes, bits-bitsOf, bitsOf-drop}
 
 -- the bits of bytes from a place on
 abbrev from : List ℕ → ℕ → List ℕ

@@ -8,19 +8,19 @@ use lib.Dec.{leb}
 use Rattle.frames.specs.Refusals.{Result, refused, good, refusal, fitting}
 use Rattle.files.specs.declared.Setting.{Setting}
 use Rattle.files.specs.Domain.{Domain}
-use Rattle.files.specs.Read.{Bytes, Read, FitsDomain}
+use Rattle.files.specs.ReadDomain.{Bytes, Read, FitsDomain}
 use Rattle.files.specs.File.{domainRead}
-use Rattle.files.proofs.Read.{read-good, read-fits}
-use Rattle.files.proofs.Results.{never, good-one, unless-good, then-good}
+use Rattle.files.proofs.ReadDomain.{read-good, read-fits}
+use Rattle.files.proofs.CallResults.{never, good-one, unless-good, then-good}
 use Rattle.cards.specs.declared.Made.the-variants.{Bytes as MadeBytes}
 use Rattle.cards.specs.Card.{cardOf}
 use Rattle.cards.specs.CardRead.{cardRead}
 use Rattle.cards.specs.FileOf.{fileOf}
 use Rattle.cards.specs.Calls.{cardFor, cardCall, fileFor, fileCall, MadeDone}
-use Rattle.cards.proofs.CardBack.{card-back}
-use Rattle.cards.proofs.CardIs.{card-is}
-use Rattle.cards.proofs.FileBack.{file-of}
-use Rattle.cards.proofs.Allowed.{legal-read, legal-fits, read-legal}
+use Rattle.cards.proofs.CardRoundTrip.{card-back}
+use Rattle.cards.proofs.CardDomain.{card-is}
+use Rattle.cards.proofs.FileRoundTrip.{file-of}
+use Rattle.cards.proofs.ReadDomainsFit.{legal-read, legal-fits, read-legal}
 
 -- the file of a domain that causes 22 and 1 to 6 leave, and that fits in bytes, reads as the domain, and so does its card
 pub file-back : (setting : Setting) (d : Domain) → Read setting d → FitsDomain d → domainRead setting (fileOf d) ≡ good d

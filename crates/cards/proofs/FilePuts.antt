@@ -8,29 +8,29 @@ use lib.Seq.{sets}
 use Rattle.frames.specs.Bytes.{bytesOf, atFront}
 use Rattle.cards.specs.ShortFrames.{shortGeneral}
 use Rattle.frames.specs.declared.General.{General}
-use Rattle.frames.proofs.Numbers.{length-bytesOf, front-room}
+use Rattle.frames.proofs.ByteNumbers.{length-bytesOf, front-room}
 use Rattle.cards.proofs.ShortFrames.{length-general}
 use Rattle.files.specs.declared.Phy.{Phy}
 use Rattle.files.specs.declared.Phy.the-variants.{Vacant}
 use Rattle.files.specs.Domain.{Expander, Domain, noExpander, expanderAt}
 use Rattle.files.proofs.OneMore.{drop-next}
 use Rattle.cards.specs.FileOf.{generalOf, phyFrame, physFrames, unitHead, unitsOf, fileOf}
-use Rattle.cards.proofs.FileBack.{length-phy, length-frames, length-head}
-use Rattle.cards.proofs.Puts.{puts}
+use Rattle.cards.proofs.FileRoundTrip.{length-phy, length-frames, length-head}
+use Rattle.cards.proofs.CardPuts.{puts}
 use Rattle.cards.proofs.RowPuts.{mid-sets}
-use Rattle.tables.proofs.BitSets.{sets-front}
+use Rattle.tables.proofs.BitsReplaced.{sets-front}
 
 -- a frame written at the front of a part that it fills
 pub front-whole : (new before : List ℕ) → length before ≡ length new → atFront new before ≡ new
 front-whole new before h = front-room new before (omega arith) ∙ ap (λ (m : List ℕ). new ++ m) (drop-of-length-le before {i = length new} (omega arith)) ∙ append-nil new
 
 -- an expander's address and its REPORT GENERAL response
-pub head-put : (e : Expander) (s s1 s2 r1 r2 : List ℕ) (to k1 k2 own : ℕ) (g : General) → to + 36 ≤ length s → length s1 ≡ length s → own ≡ e .address → g ≡ generalOf e
-    → k1 ≡ 8 → r1 ≡ bytesOf 8 own → s1 ≡ take to s ++ (r1 ++ drop k1 (drop to s)) → k2 ≡ 28 → r2 ≡ shortGeneral g → s2 ≡ take (to + 8) s1 ++ (r2 ++ drop k2 (drop (to + 8) s1))
+pub head-put : (e : Expander) (s s1 s2 r1 r2 : List ℕ) (to k1 k2 ownAddress : ℕ) (g : General) → to + 36 ≤ length s → length s1 ≡ length s → ownAddress ≡ e .address → g ≡ generalOf e
+    → k1 ≡ 8 → r1 ≡ bytesOf 8 ownAddress → s1 ≡ take to s ++ (r1 ++ drop k1 (drop to s)) → k2 ≡ 28 → r2 ≡ shortGeneral g → s2 ≡ take (to + 8) s1 ++ (r2 ++ drop k2 (drop (to + 8) s1))
     → s2 ≡ sets s to (unitHead e)
 unfolding unitHead
-head-put e s s1 s2 r1 r2 to k1 k2 own g h n qo qg q1 e1 f1 q2 e2 f2 =
-    let l1 : length r1 ≡ k1 = ap length e1 ∙ length-bytesOf 8 own ∙ sym q1 in
+head-put e s s1 s2 r1 r2 to k1 k2 ownAddress g h n qo qg q1 e1 f1 q2 e2 f2 =
+    let l1 : length r1 ≡ k1 = ap length e1 ∙ length-bytesOf 8 ownAddress ∙ sym q1 in
     let l2 : length r2 ≡ k2 = ap length e2 ∙ length-general g ∙ sym q2 in
     let p1 : s1 ≡ sets s to r1 = f1 ∙ mid-sets s r1 to k1 l1 (omega arith) in
     let p2 : s2 ≡ sets s1 (to + 8) r2 = f2 ∙ mid-sets s1 r2 (to + 8) k2 l2 (omega arith) in
@@ -38,23 +38,23 @@ head-put e s s1 s2 r1 r2 to k1 k2 own g h n qo qg q1 e1 f1 q2 e2 f2 =
     let b : r2 ≡ shortGeneral (generalOf e) = e2 ∙ ap shortGeneral qg in
     puts s s1 s2 to (to + 8) r1 r2 p1 p2 (omega arith) ∙ ap (λ (m : List ℕ). sets s to (m ++ r2)) a ∙ ap (λ (m : List ℕ). sets s to (bytesOf 8 (e .address) ++ m)) b
 
-pub frames-go : (φs : List Phy) (s v r : List ℕ) (own o p to a k : ℕ) (φ : Phy) → p < length φs → to + 52 * length φs ≤ length s → o ≡ own → φ ≡ getD φs p (Vacant 0)
-    → sets s (to + 52 * p) (physFrames own p (drop p φs)) ≡ v → a ≡ to + 52 * p → k ≡ 52 → r ≡ phyFrame o p φ
-    → sets (take a s ++ (r ++ drop k (drop a s))) (to + 52 * (p + 1)) (physFrames own (p + 1) (drop (p + 1) φs)) ≡ v
+pub frames-go : (φs : List Phy) (s v r : List ℕ) (ownAddress o p to a k : ℕ) (φ : Phy) → p < length φs → to + 52 * length φs ≤ length s → o ≡ ownAddress → φ ≡ getD φs p (Vacant 0)
+    → sets s (to + 52 * p) (physFrames ownAddress p (drop p φs)) ≡ v → a ≡ to + 52 * p → k ≡ 52 → r ≡ phyFrame o p φ
+    → sets (take a s ++ (r ++ drop k (drop a s))) (to + 52 * (p + 1)) (physFrames ownAddress (p + 1) (drop (p + 1) φs)) ≡ v
 unfolding physFrames
-frames-go φs s v r own o p to a k φ h m qo qφ inv qa qk qr =
-    let f : List ℕ = phyFrame own p (getD φs p (Vacant 0)) in
-    let n : length f ≡ 52 = length-phy own p (getD φs p (Vacant 0)) in
-    let e : r ≡ f = qr ∙ ap (λ (x : ℕ). phyFrame x p φ) qo ∙ ap (phyFrame own p) qφ in
+frames-go φs s v r ownAddress o p to a k φ h m qo qφ inv qa qk qr =
+    let f : List ℕ = phyFrame ownAddress p (getD φs p (Vacant 0)) in
+    let n : length f ≡ 52 = length-phy ownAddress p (getD φs p (Vacant 0)) in
+    let e : r ≡ f = qr ∙ ap (λ (x : ℕ). phyFrame x p φ) qo ∙ ap (phyFrame ownAddress p) qφ in
     let lr : length r ≡ k = ap length e ∙ n ∙ sym qk in
     let t : take a s ++ (r ++ drop k (drop a s)) ≡ sets s (to + 52 * p) f = mid-sets s r a k lr (omega arith) ∙ ap (λ (x : ℕ). sets s x r) qa ∙ ap (sets s (to + 52 * p)) e in
-    let rest : List ℕ = physFrames own (p + 1) (drop (p + 1) φs) in
+    let rest : List ℕ = physFrames ownAddress (p + 1) (drop (p + 1) φs) in
     puts s _ (sets (take a s ++ (r ++ drop k (drop a s))) (to + 52 * (p + 1)) rest) (to + 52 * p) (to + 52 * (p + 1)) f rest t refl (omega arith)
-    ∙ sym (ap (λ (x : List Phy). sets s (to + 52 * p) (physFrames own p x)) (drop-next (Vacant 0) φs p h)) ∙ inv
+    ∙ sym (ap (λ (x : List Phy). sets s (to + 52 * p) (physFrames ownAddress p x)) (drop-next (Vacant 0) φs p h)) ∙ inv
 
-pub frames-end : (φs : List Phy) (s v : List ℕ) (own p to : ℕ) → length φs ≤ p → sets s to (physFrames own p (drop p φs)) ≡ v → s ≡ v
+pub frames-end : (φs : List Phy) (s v : List ℕ) (ownAddress p to : ℕ) → length φs ≤ p → sets s to (physFrames ownAddress p (drop p φs)) ≡ v → s ≡ v
 unfolding physFrames
-frames-end φs s v own p to h inv = sym (ap (λ (x : List Phy). sets s to (physFrames own p x)) (drop-of-length-le φs h)) ∙ inv
+frames-end φs s v ownAddress p to h inv = sym (ap (λ (x : List Phy). sets s to (physFrames ownAddress p x)) (drop-of-length-le φs h)) ∙ inv
 
 pub length-next : (d : Domain) (i : ℕ) → i < length d → length (unitsOf (drop i d)) ≡ 36 + 52 * length (expanderAt d i .phys) + length (unitsOf (drop (i + 1) d))
 unfolding unitsOf
@@ -99,5 +99,5 @@ unfolding fileOf
 file-put d n s t e h q =
     q ∙ ap (λ (k : ℕ). sets (set (set s 0 0x10) 1 k) 2 (unitsOf d)) e ∙ sets-front (0x10 ∷ length d ∷ unitsOf d) s (omega arith)
 
-pub general-same : (e : Expander) (r m c : ℕ) → r ≡ e .indexes → m ≡ length (e .phys) → c ≡ e .configurable → record { indexes = r; phys = m; configurable = c } ≡ generalOf e
+pub general-same : (e : Expander) (r m c : ℕ) → r ≡ e .routeIndexes → m ≡ length (e .phys) → c ≡ e .configurable → record { routeIndexes = r; phys = m; configurable = c } ≡ generalOf e
 general-same e r m c qr qm qc = rw (qr, qm, qc)

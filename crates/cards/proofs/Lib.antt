@@ -1,17 +1,17 @@
 pub mod BitPlaces
 pub mod ShortFrames
-pub mod Legal
-pub mod CardBack
-pub mod CardIs
-pub mod FileBack
-pub mod Allowed
-pub mod Puts
-pub mod Walks
-pub mod Checks
+pub mod DomainRanges
+pub mod CardRoundTrip
+pub mod CardDomain
+pub mod FileRoundTrip
+pub mod ReadDomainsFit
+pub mod CardPuts
+pub mod CardPlaces
+pub mod CardChecks
 pub mod RowPuts
 pub mod FilePuts
-pub mod Promises
+pub mod CallOutcomes
 pub mod Conversions
-mod Pair
-pub mod Unchanged
-pub mod KeptBytes
+mod PairCard
+pub mod ConversionUnchanged
+pub mod FileOfFile

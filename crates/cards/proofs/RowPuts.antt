@@ -18,16 +18,16 @@ use Rattle.wiring.specs.declared.Check.the-variants.{Passed as AllPassed}
 use Rattle.files.specs.Domain.{Expander, Domain, addressOf}
 use Rattle.files.specs.File.{unitTested}
 use Rattle.files.specs.Rows.{phyWord, phyWords, headWord, rowOf, rowsOf}
-use Rattle.files.proofs.Filling.{length-phyWords, length-rowOf}
+use Rattle.files.proofs.RowFilling.{length-phyWords, length-rowOf}
 use Rattle.cards.specs.declared.PhysWalk.{PhysWalk}
 use Rattle.cards.specs.Card.{phySize, physSize, expandersSize, cardSize, phyOn, physOn, unitOn, expanderOn, expandersOn, domainOn}
 use Rattle.cards.specs.CardRead.{resultFine, resultsFine, allFine, phyRanged, unitsTested}
-use Rattle.cards.specs.Walks.{rangedCount, afterCheck, PhysStored, RowStored, CardStored}
+use Rattle.cards.specs.CardWalks.{rangedCount, afterCheck, PhysStored, RowStored, CardStored}
 use Rattle.frames.proofs.NumberBits.{field-lt}
-use Rattle.cards.proofs.CardIs.{count-phys, phys-in}
-use Rattle.cards.proofs.Puts.{puts}
-use Rattle.cards.proofs.Walks.{next-phys, no-phys, next-expanders, no-expanders, sizes-few}
-use Rattle.cards.proofs.Checks.{ranged-go, ranged-end, tests-go}
+use Rattle.cards.proofs.CardDomain.{count-phys, phys-in}
+use Rattle.cards.proofs.CardPuts.{puts}
+use Rattle.cards.proofs.CardPlaces.{next-phys, no-phys, next-expanders, no-expanders, sizes-few}
+use Rattle.cards.proofs.CardChecks.{ranged-go, ranged-end, tests-go}
 
 -- a part of a list written, as stores
 pub mid-sets : (s r : List ℕ) (a k : ℕ) → length r ≡ k → a + k ≤ length s → take a s ++ (r ++ drop k (drop a s)) ≡ sets s a r
@@ -93,7 +93,7 @@ row-words l a w ws q h =
     let e : 2 + length ws ≡ suc (suc (length ws)) = omega arith in
     ap (λ (m : List ℕ). sets (set (set m 0 a) 1 w) 2 ws) q ∙ sets-eq ws (a ∷ w ∷ replicate 256 0) 2 (omega arith) ∙ rw (e, z)
 
-pub row-made : (l : List ℕ) (at : ℕ) (row before after : List ℕ) (u : ExpanderUnit) (w : ℕ) (walk : PhysWalk) → u ≡ unitOn (drop at l) → u .phys ≤ 128 → w ≡ headWord (u .indexes) (u .phys) (u .configurable)
+pub row-made : (l : List ℕ) (at : ℕ) (row before after : List ℕ) (u : ExpanderUnit) (w : ℕ) (walk : PhysWalk) → u ≡ unitOn (drop at l) → u .phys ≤ 128 → w ≡ headWord (u .routeIndexes) (u .phys) (u .configurable)
     → row ≡ replicate 258 0 → before ≡ set (set row 0 (u .address)) 1 w → PhysStored (physOn (u .phys) (drop (at + 88) l)) (at + 88) walk before after → RowStored (expanderOn (drop at l)) at walk after
 unfolding rowOf expanderOn
 row-made l at row before after u w walk qu h qw qr qb s =
@@ -103,7 +103,7 @@ row-made l at row before after u w walk qu h qw qr qb s =
     let n : u .phys ≡ suc (field 7 (drop 81 m)) = ap (λ (x : ExpanderUnit). x .phys) qu in
     let k : length (phyWords φs) ≡ 2 * length φs = length-phyWords φs in
     let p : physOn (u .phys) (drop (at + 88) l) ≡ φs = ap (λ (x : ExpanderUnit). physOn (x .phys) (drop (at + 88) l)) qu ∙ ap (physOn (suc (field 7 (drop 81 m)))) (sym (drop-drop 88 at l)) in
-    let v : w ≡ headWord (field 16 (drop 64 m)) (length φs) (field 1 (drop 80 m)) = qw ∙ ap (λ (x : ExpanderUnit). headWord (x .indexes) (x .phys) (x .configurable)) qu ∙ ap (λ (x : ℕ). headWord (field 16 (drop 64 m)) x (field 1 (drop 80 m))) (sym c) in
+    let v : w ≡ headWord (field 16 (drop 64 m)) (length φs) (field 1 (drop 80 m)) = qw ∙ ap (λ (x : ExpanderUnit). headWord (x .routeIndexes) (x .phys) (x .configurable)) qu ∙ ap (λ (x : ℕ). headWord (field 16 (drop 64 m)) x (field 1 (drop 80 m))) (sym c) in
     let a : u .address ≡ field 64 m = ap (λ (x : ExpanderUnit). x .address) qu in
     let d = ap (λ (x : List Phy). physSize x) p in
     record {

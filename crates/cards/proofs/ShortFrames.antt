@@ -15,7 +15,7 @@ use Rattle.frames.specs.declared.Discover.{Discover}
 use Rattle.frames.specs.declared.Response.{Response}
 use Rattle.frames.specs.declared.Response.the-variants.{ReportGeneral, Discover as DiscoverResponse}
 use Rattle.cards.specs.ShortFrames.{shortGeneral, shortVacant, shortDiscover}
-use Rattle.frames.proofs.Numbers.{number-back}
+use Rattle.frames.proofs.ByteNumbers.{number-back}
 
 -- sizes
 pub length-general : (g : General) → length (shortGeneral g) ≡ 28
@@ -48,10 +48,10 @@ unfolding shortDiscover
 size-discover d rest = size-short DiscoverResponse (shortDiscover d) rest (omega (arith, length-discover d)) refl
 
 -- R has two bytes, and the configurable bit one bit
-pub general-back : (g : General) → g .indexes < 65536 → g .configurable < 2 → generalRead (shortGeneral g) ≡ good g
+pub general-back : (g : General) → g .routeIndexes < 65536 → g .configurable < 2 → generalRead (shortGeneral g) ≡ good g
 unfolding generalRead generalFixed frameSize shortGeneral numberAt bytesOf
 general-back g h k =
-    let r : numberAt (bytesOf 2 (g .indexes)) 0 2 ≡ g .indexes = number-back 2 (g .indexes) h in
+    let r : numberAt (bytesOf 2 (g .routeIndexes)) 0 2 ≡ g .routeIndexes = number-back 2 (g .routeIndexes) h in
     let c : g .configurable / 2 ^ 0 % 2 ^ 1 ≡ g .configurable = omega arith in
     simp (r, c)
 
@@ -60,12 +60,12 @@ unfolding discoverRead discoverFixed frameSize shortVacant
 vacant-back result h = simp (ne-eqb result 0 (λ (z : result ≡ 0). omega arith))
 
 -- addresses have eight bytes, the type three bits and the attribute four
-pub discover-back : (d : Discover) → d .own < 2 ^ 64 → d .attached < 2 ^ 64 → d .device < 8 → d .attribute < 16 → discoverRead (shortDiscover d) ≡ good (fields d)
+pub discover-back : (d : Discover) → d .ownAddress < 2 ^ 64 → d .attachedAddress < 2 ^ 64 → d .deviceType < 8 → d .attribute < 16 → discoverRead (shortDiscover d) ≡ good (fields d)
 unfolding discoverRead discoverFixed frameSize shortDiscover numberAt bytesOf
 discover-back d h k t u =
-    let o : numberAt (bytesOf 8 (d .own)) 0 8 ≡ d .own = number-back 8 (d .own) h in
-    let s : numberAt (bytesOf 8 (d .attached)) 0 8 ≡ d .attached = number-back 8 (d .attached) k in
-    let e : d .device % 8 * 16 / 2 ^ 4 % 2 ^ 3 ≡ d .device = omega arith in
+    let o : numberAt (bytesOf 8 (d .ownAddress)) 0 8 ≡ d .ownAddress = number-back 8 (d .ownAddress) h in
+    let s : numberAt (bytesOf 8 (d .attachedAddress)) 0 8 ≡ d .attachedAddress = number-back 8 (d .attachedAddress) k in
+    let e : d .deviceType % 8 * 16 / 2 ^ 4 % 2 ^ 3 ≡ d .deviceType = omega arith in
     let a : d .attribute % 16 / 2 ^ 0 % 2 ^ 4 ≡ d .attribute = omega arith in
     simp (o, s, e, a)
 

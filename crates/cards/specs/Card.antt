@@ -15,12 +15,12 @@ use Rattle.files.specs.File.{expanderOf}
 -- attached address and attached phy, when the type isn't 0
 abbrev pub endBits : Bool → PhyFields → List ℕ
 endBits true f = []
-endBits false f = numberBits 64 (f .address) ++ numberBits 8 (f .far .0)
+endBits false f = numberBits 64 (f .address) ++ numberBits 8 (f .attachedPhy .0)
 
 -- one bit: 0 and the result of a vacant phy; or 1, type and attribute, and what is attached
 abbrev pub phyBits : Phy → List ℕ
 phyBits (Vacant result) = 0 ∷ numberBits 8 result
-phyBits (Present f) = 1 ∷ (numberBits 3 (f .device) ++ (numberBits 2 (f .attribute) ++ endBits (eqb (f .device) 0) f))
+phyBits (Present f) = 1 ∷ (numberBits 3 (f .deviceType) ++ (numberBits 2 (f .attribute) ++ endBits (eqb (f .deviceType) 0) f))
 
 unfoldable pub physBits : List Phy → List ℕ
 physBits [] = []
@@ -29,7 +29,7 @@ physBits (φ ∷ φs) = phyBits φ ++ physBits φs
 -- address, R, configurable, phys less 1
 abbrev pub headBits : Expander → List ℕ
 headBits e =
-    numberBits 64 (e .address) ++ (numberBits 16 (e .indexes) ++ (numberBits 1 (e .configurable) ++ numberBits 7 (length (e .phys) - 1)))
+    numberBits 64 (e .address) ++ (numberBits 16 (e .routeIndexes) ++ (numberBits 1 (e .configurable) ++ numberBits 7 (length (e .phys) - 1)))
 
 unfoldable pub expandersBits : Domain → List ℕ
 expandersBits [] = []
@@ -43,14 +43,14 @@ cardBits d = numberBits 4 2 ++ (numberBits 6 (length d - 1) ++ (numberBits 6 0 +
 abbrev pub cardOf : Domain → List ℕ
 cardOf d = packed (cardBits d)
 
--- how many bits they take: `size-card` (proofs/CardBack)
+-- how many bits they take: `size-card` (proofs/CardRoundTrip)
 abbrev pub presentSize : Bool → ℕ
 presentSize true = 6
 presentSize false = 78
 
 abbrev pub phySize : Phy → ℕ
 phySize (Vacant result) = 9
-phySize (Present f) = presentSize (eqb (f .device) 0)
+phySize (Present f) = presentSize (eqb (f .deviceType) 0)
 
 unfoldable pub physSize : List Phy → ℕ
 physSize [] = 0
@@ -65,9 +65,9 @@ cardSize d = 16 + expandersSize d
 
 -- back: any row of bits has a domain, where bits past the end are 0; types above 3 and attribute 3 are kept
 abbrev pub presentOn : Bool → List ℕ → PhyFields
-presentOn true l = record { device = field 3 (drop 1 l); attribute = field 2 (drop 4 l); address = 0; far = record { 0 = 0 } }
+presentOn true l = record { deviceType = field 3 (drop 1 l); attribute = field 2 (drop 4 l); address = 0; attachedPhy = record { 0 = 0 } }
 presentOn false l =
-    record { device = field 3 (drop 1 l); attribute = field 2 (drop 4 l); address = field 64 (drop 6 l); far = record { 0 = field 8 (drop 70 l) } }
+    record { deviceType = field 3 (drop 1 l); attribute = field 2 (drop 4 l); address = field 64 (drop 6 l); attachedPhy = record { 0 = field 8 (drop 70 l) } }
 
 abbrev pub phyBy : Bool → List ℕ → Phy
 phyBy true l = Vacant (field 8 (drop 1 l))
@@ -81,7 +81,7 @@ physOn zero l = []
 physOn (suc count) l = phyOn l ∷ physOn count (drop (phySize (phyOn l)) l)
 
 abbrev pub unitOn : List ℕ → ExpanderUnit
-unitOn l = record { address = field 64 l; indexes = field 16 (drop 64 l); phys = suc (field 7 (drop 81 l)); configurable = field 1 (drop 80 l) }
+unitOn l = record { address = field 64 l; routeIndexes = field 16 (drop 64 l); phys = suc (field 7 (drop 81 l)); configurable = field 1 (drop 80 l) }
 
 unfoldable pub expanderOn : List ℕ → Expander
 expanderOn l = expanderOf (unitOn l) (physOn (suc (field 7 (drop 81 l))) (drop 88 l))

@@ -46,7 +46,7 @@ physTested i p [] k = k
 physTested i p (φ ∷ φs) k = unless (phyRanged φ) (refusal 6 i p) (physTested i (p + 1) φs k)
 
 abbrev pub unitFields : Expander → ExpanderUnit
-unitFields e = record { address = e .address; indexes = e .indexes; phys = length (e .phys); configurable = e .configurable }
+unitFields e = record { address = e .address; routeIndexes = e .routeIndexes; phys = length (e .phys); configurable = e .configurable }
 
 -- 3, 4 and 6, unit by unit from expander i on, where `seen` are the addresses of the expanders before it, and then what follows
 unfoldable pub unitsTested : Setting → ℕ → List ℕ → Domain → Result Domain → Result Domain

@@ -13,20 +13,20 @@ use Rattle.files.specs.Domain.{Expander, Domain}
 
 -- the fields of an expander's REPORT GENERAL response
 abbrev pub generalOf : Expander → General
-generalOf e = record { indexes = e .indexes; phys = length (e .phys); configurable = e .configurable }
+generalOf e = record { routeIndexes = e .routeIndexes; phys = length (e .phys); configurable = e .configurable }
 
--- the fields of the DISCOVER response of phy p of the expander with address `own`
+-- the fields of the DISCOVER response of phy p of the expander with address `ownAddress`
 abbrev pub discoverOf : ℕ → ℕ → PhyFields → Discover
-discoverOf own p f =
-    record { identifier = record { 0 = p }; device = f .device; own = own; attached = f .address; far = f .far; attribute = f .attribute }
+discoverOf ownAddress p f =
+    record { identifier = record { 0 = p }; deviceType = f .deviceType; ownAddress = ownAddress; attachedAddress = f .address; attachedPhy = f .attachedPhy; attribute = f .attribute }
 
 abbrev pub phyFrame : ℕ → ℕ → Phy → List ℕ
-phyFrame own p (Vacant result) = shortVacant result
-phyFrame own p (Present f) = shortDiscover (discoverOf own p f)
+phyFrame ownAddress p (Vacant result) = shortVacant result
+phyFrame ownAddress p (Present f) = shortDiscover (discoverOf ownAddress p f)
 
 unfoldable pub physFrames : ℕ → ℕ → List Phy → List ℕ
-physFrames own p [] = []
-physFrames own p (φ ∷ φs) = phyFrame own p φ ++ physFrames own (p + 1) φs
+physFrames ownAddress p [] = []
+physFrames ownAddress p (φ ∷ φs) = phyFrame ownAddress p φ ++ physFrames ownAddress (p + 1) φs
 
 -- an expander's address and its REPORT GENERAL response
 unfoldable pub unitHead : Expander → List ℕ
@@ -36,6 +36,6 @@ unfoldable pub unitsOf : Domain → List ℕ
 unitsOf [] = []
 unitsOf (e ∷ d) = unitHead e ++ (physFrames (e .address) 0 (e .phys) ++ unitsOf d)
 
--- the header, then the units: `file-back` (proofs/FileBack) reads it as the domain
+-- the header, then the units: `file-back` (proofs/FileRoundTrip) reads it as the domain
 unfoldable pub fileOf : Domain → List ℕ
 fileOf d = 0x10 ∷ length d ∷ unitsOf d

@@ -2,6 +2,6 @@ pub mod Card
 pub mod CardRead
 pub mod ShortFrames
 pub mod FileOf
-pub mod KeptBytes
+pub mod FileOfFile
 pub mod Calls
-pub mod Walks
+pub mod CardWalks

@@ -21,7 +21,7 @@ ghost use Rattle.files.specs.Domain.{Domain};
 ghost use Rattle.files.specs.File.{unitTested};
 ghost use Rattle.cards.specs.Card.{physOn, unitOn, expanderOn, domainOn};
 ghost use Rattle.cards.specs.CardRead.{resultFine, phyRanged};
-ghost use Rattle.cards.specs.Walks.{afterCheck, PhysStored, RowStored, CardStored};
+ghost use Rattle.cards.specs.CardWalks.{afterCheck, PhysStored, RowStored, CardStored};
 
 // Whether a phy is not vacant with result zero.
 fn is_fine(f: Phy) -> bool

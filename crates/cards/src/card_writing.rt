@@ -35,13 +35,13 @@ fn put_present(card: &mut [u8], at: usize, x: PhyFields)
     ensures { λ _. ⌜ bitsOf (now (card .exit)) ≡ sets (bitsOf (now (card .entry))) at (phyBits (Present x)) ⌝ }
 {
     bits::put_bits(card, at, 1, 1);
-    bits::put_bits(card, at + 1, 3, x.device as u64);
+    bits::put_bits(card, at + 1, 3, x.deviceType as u64);
     bits::put_bits(card, at + 4, 2, x.attribute as u64);
-    if x.device == 0 {
+    if x.deviceType == 0 {
         return;
     }
     bits::put_bits(card, at + 6, 64, x.address);
-    bits::put_bits(card, at + 70, 8, x.far.0 as u64);
+    bits::put_bits(card, at + 70, 8, x.attachedPhy.0 as u64);
 }
 
 // Puts a phy's bits from bit `at` on.
@@ -83,7 +83,7 @@ fn put_head(card: &mut [u8], at: usize, rows: &[u64], i: ExpanderNumber)
     ensures { λ _. ⌜ bitsOf (now (card .exit)) ≡ sets (bitsOf (now (card .entry))) at (headBits (expanderAt (domainIn (now (rows .entry))) (i .0))) ⌝ }
 {
     bits::put_bits(card, at, 64, wiring::expander_address(rows, i));
-    bits::put_bits(card, at + 64, 16, wiring::index_count(rows, i) as u64);
+    bits::put_bits(card, at + 64, 16, wiring::route_indexes(rows, i) as u64);
     bits::put_bits(card, at + 80, 1, wiring::configurable_bit(rows, i) as u64);
     bits::put_bits(card, at + 81, 7, less_one(wiring::phy_count(rows, i)));
 }

@@ -18,32 +18,32 @@ ghost use Rattle.files.specs.Rows.{domainIn};
 ghost use Rattle.cards.specs.FileOf.{discoverOf, phyFrame, physFrames, unitHead, unitsOf, fileOf};
 ghost use Rattle.cards.specs.Calls.{fileFor, MadeDone};
 
-// The fields of the DISCOVER response of phy p, which is not vacant, of the expander with address `own`.
-fn discover_of(own: u64, p: PhyId, x: PhyFields) -> Discover
-    ensures { λ r. ⌜ r ≡ discoverOf own (p .0) x ⌝ }
+// The fields of the DISCOVER response of phy p, which is not vacant, of the expander with address `ownAddress`.
+fn discover_of(ownAddress: u64, p: PhyId, x: PhyFields) -> Discover
+    ensures { λ r. ⌜ r ≡ discoverOf ownAddress (p .0) x ⌝ }
 {
-    let far = x.far;
+    let attached_phy = x.attachedPhy;
     Discover {
         identifier: p,
-        device: x.device,
-        own: own,
-        attached: x.address,
-        far: far,
+        deviceType: x.deviceType,
+        ownAddress: ownAddress,
+        attachedAddress: x.address,
+        attachedPhy: attached_phy,
         attribute: x.attribute,
     }
 }
 
-// Writes the DISCOVER response of phy p of the expander with address `own` into 52 bytes.
-fn put_phy(frame: &mut [u8], own: u64, p: PhyId, f: Phy)
+// Writes the DISCOVER response of phy p of the expander with address `ownAddress` into 52 bytes.
+fn put_phy(frame: &mut [u8], ownAddress: u64, p: PhyId, f: Phy)
     requires { ⌜ length (now frame) ≡ 52 ⌝ }
-    ensures { λ _. ⌜ now (frame .exit) ≡ phyFrame own (p .0) f ⌝ }
+    ensures { λ _. ⌜ now (frame .exit) ≡ phyFrame ownAddress (p .0) f ⌝ }
 {
     match f {
         Phy::Vacant(result) => {
             short_frames::put_vacant(frame, result);
         }
         Phy::Present(x) => {
-            short_frames::put_discover(frame, discover_of(own, p, x));
+            short_frames::put_discover(frame, discover_of(ownAddress, p, x));
         }
     }
 }
@@ -54,7 +54,7 @@ fn put_head(file: &mut [u8], to: usize, rows: &[u64], i: ExpanderNumber)
     ensures { λ _. ⌜ now (file .exit) ≡ sets (now (file .entry)) to (unitHead (expanderAt (domainIn (now (rows .entry))) (i .0))) ⌝ }
 {
     let g = General {
-        indexes: wiring::index_count(rows, i),
+        routeIndexes: wiring::route_indexes(rows, i),
         phys: wiring::phy_count(rows, i),
         configurable: wiring::configurable_bit(rows, i),
     };
@@ -69,14 +69,14 @@ fn put_frames(file: &mut [u8], to: usize, rows: &[u64], i: ExpanderNumber)
     requires { ⌜ (to < 1000000) × (to + 52 * length (expanderAt (domainIn (now rows)) (i .0) .phys) ≤ length (now file)) ⌝ }
     ensures { λ _. ⌜ now (file .exit) ≡ sets (now (file .entry)) to (physFrames (expanderAt (domainIn (now (rows .entry))) (i .0) .address) 0 (expanderAt (domainIn (now (rows .entry))) (i .0) .phys)) ⌝ }
 {
-    let own = wiring::expander_address(rows, i);
+    let own_address = wiring::expander_address(rows, i);
     let n = wiring::phy_count(rows, i);
     let mut p: u8 = 0;
     while p < n {
         let f = wiring::phy_at(rows, i, PhyId(p));
         let a = to + 52 * (p as usize);
         let e = a + 52;
-        put_phy(&mut file[a..e], own, PhyId(p), f);
+        put_phy(&mut file[a..e], own_address, PhyId(p), f);
         p += 1;
     }
 }

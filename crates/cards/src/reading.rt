@@ -20,23 +20,23 @@ pub(crate) fn phy_from(card: &[u8], at: usize) -> Phy
     if head < 128 {
         return Phy::Vacant(bits::byte_from(card, at + 1) as u8);
     }
-    let device = (head / 16 % 8) as u8;
+    let device_type = (head / 16 % 8) as u8;
     let attribute = (head / 4 % 4) as u8;
-    if device == 0 {
+    if device_type == 0 {
         return Phy::Present(PhyFields {
-            device: device,
+            deviceType: device_type,
             attribute: attribute,
             address: 0,
-            far: PhyId(0),
+            attachedPhy: PhyId(0),
         });
     }
     let address = bits::word_from(card, at + 6);
-    let far = bits::byte_from(card, at + 70) as u8;
+    let attached_phy = bits::byte_from(card, at + 70) as u8;
     Phy::Present(PhyFields {
-        device: device,
+        deviceType: device_type,
         attribute: attribute,
         address: address,
-        far: PhyId(far),
+        attachedPhy: PhyId(attached_phy),
     })
 }
 
@@ -45,12 +45,12 @@ pub(crate) fn unit_from(card: &[u8], at: usize) -> ExpanderUnit
     requires { ⌜ at < 1000000 ⌝ }
     ensures { λ r. ⌜ (r ≡ unitOn (drop at (bitsOf (now (card .entry))))) × (r .phys ≤ 128) ⌝ }
 {
-    let indexes = bits::bits_at(card, at + 64, 16) as u16;
+    let route_indexes = bits::bits_at(card, at + 64, 16) as u16;
     let configurable = bits::bits_at(card, at + 80, 1) as u8;
     let phys = bits::bits_at(card, at + 81, 7) as u8 + 1;
     ExpanderUnit {
         address: bits::word_from(card, at),
-        indexes: indexes,
+        routeIndexes: route_indexes,
         phys: phys,
         configurable: configurable,
     }

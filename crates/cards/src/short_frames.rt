@@ -23,8 +23,8 @@ pub(crate) fn put_general(frame: &mut [u8], g: General)
 {
     clear(frame);
     frame[0] = 0x41;
-    frame[6] = (g.indexes / 256 % 256) as u8;
-    frame[7] = (g.indexes % 256) as u8;
+    frame[6] = (g.routeIndexes / 256 % 256) as u8;
+    frame[7] = (g.routeIndexes % 256) as u8;
     frame[9] = g.phys;
     frame[10] = g.configurable;
 }
@@ -49,9 +49,9 @@ pub(crate) fn put_discover(frame: &mut [u8], d: Discover)
     frame[0] = 0x41;
     frame[1] = 0x10;
     frame[9] = d.identifier.0;
-    frame[12] = d.device % 8 * 16;
-    frame[32] = d.far.0;
+    frame[12] = d.deviceType % 8 * 16;
+    frame[32] = d.attachedPhy.0;
     frame[44] = d.attribute % 16;
-    wiring::put_address(&mut frame[16..24], d.own);
-    wiring::put_address(&mut frame[24..32], d.attached);
+    wiring::put_address(&mut frame[16..24], d.ownAddress);
+    wiring::put_address(&mut frame[24..32], d.attachedAddress);
 }

@@ -15,7 +15,7 @@ pub(crate) fn phy_size(f: Phy) -> usize
     match f {
         Phy::Vacant(_) => 9,
         Phy::Present(x) => {
-            if x.device == 0 {
+            if x.deviceType == 0 {
                 return 6;
             }
             78

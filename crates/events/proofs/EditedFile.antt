@@ -30,14 +30,14 @@ use Rattle.files.specs.declared.Phy.the-variants.{Vacant, Present}
 use Rattle.files.specs.Lists.{isIn}
 use Rattle.files.specs.Settings.{within, inRange}
 use Rattle.files.specs.Domain.{Expander, Domain, expanderAt, phyAt}
-use Rattle.files.specs.PhySet.{withPhy, setPhy}
+use Rattle.files.specs.PhyReplaced.{withPhy, setPhy}
 use Rattle.files.specs.File.{Parsed, parsed, placed, sizeAt, frameAt, fieldsOf, ranged, phyOf, phyUnit, phyUnits, unitOf, unitTested, expanderUnit, expanderOf, expanders, headerUnit, domainRead}
-use Rattle.files.specs.Units.{endsAt}
-use Rattle.files.proofs.Members.{is-true, is-false, and-left, and-right}
-use Rattle.files.proofs.Results.{never, good-one, unless-good, good-unless, then-good, good-then}
-use Rattle.files.proofs.Reading.{unitAt, unit-cut, unit-by, size-whole, size-within}
+use Rattle.files.specs.UnitAnswers.{endsAt}
+use Rattle.files.proofs.ListMembers.{is-true, is-false, and-left, and-right}
+use Rattle.files.proofs.CallResults.{never, good-one, unless-good, good-unless, then-good, good-then}
+use Rattle.files.proofs.UnitReading.{unitAt, unit-cut, unit-by, size-whole, size-within}
 use Rattle.files.proofs.Domains.{phy-range}
-use Rattle.tables.specs.Replugging.{pluggable, replug}
+use Rattle.tables.specs.ReplugCall.{pluggable, replug}
 use Rattle.events.specs.declared.Event.{Event}
 use Rattle.events.specs.Events.{named, edited}
 use Rattle.events.specs.EventFile.{typed, frameEdited, fileEdited}
@@ -94,25 +94,25 @@ frame-more file (suc e) q at =
     omega (arith, general-more file (at + 8), phys-more file (byte file (at + 8 + 9)) (pastFrame ReportGeneral file (at + 8)), frame-more file e q n)
 
 -- where the units of phys end
-phy-ends : (file : List ℕ) (own i p at : ℕ) (u : Parsed Phy) → phyUnit file own i p at ≡ good u → u .next ≡ pastFrame DiscoverResponse file at
+phy-ends : (file : List ℕ) (ownAddress i p at : ℕ) (u : Parsed Phy) → phyUnit file ownAddress i p at ≡ good u → u .next ≡ pastFrame DiscoverResponse file at
 unfolding phyUnit
-phy-ends file own i p at u e = go (sizeAt DiscoverResponse file at) refl
+phy-ends file ownAddress i p at u e = go (sizeAt DiscoverResponse file at) refl
   where
     go : (x : Result ℕ) → sizeAt DiscoverResponse file at ≡ x → u .next ≡ pastFrame DiscoverResponse file at
-    go (refused r) f = never _ u (sym (unit-cut DiscoverResponse discoverRead (phyOf own i p) i p file at r f) ∙ e)
+    go (refused r) f = never _ u (sym (unit-cut DiscoverResponse discoverRead (phyOf ownAddress i p) i p file at r f) ∙ e)
     go (good n) f =
-        ends i p (at + n) (discoverRead (take n (drop at file))) (phyOf own i p) u (sym (unit-by DiscoverResponse discoverRead (phyOf own i p) i p file at n _ f refl) ∙ e)
+        ends i p (at + n) (discoverRead (take n (drop at file))) (phyOf ownAddress i p) u (sym (unit-by DiscoverResponse discoverRead (phyOf ownAddress i p) i p file at n _ f refl) ∙ e)
         ∙ past-stated DiscoverResponse file at n f
 
-phys-end : (file : List ℕ) (own i n p at : ℕ) (us : Parsed (List Phy)) → phyUnits file own i n p at ≡ good us → (us .next ≡ pastPhys file n at) × (length (us .value) ≡ n)
+phys-end : (file : List ℕ) (ownAddress i n p at : ℕ) (us : Parsed (List Phy)) → phyUnits file ownAddress i n p at ≡ good us → (us .next ≡ pastPhys file n at) × (length (us .value) ≡ n)
 unfolding phyUnits pastPhys
-phys-end file own i zero p at us e = let z = good-one (parsed [] at) us e in (sym (ap (λ (y : Parsed (List Phy)). y .next) z), sym (ap (λ (y : Parsed (List Phy)). length (y .value)) z))
-phys-end file own i (suc n) p at us e =
-    let u = then-good (phyUnit file own i p at) _ us e in
-    let v = then-good (phyUnits file own i n (p + 1) (u .0 .next)) _ us (u .2) in
+phys-end file ownAddress i zero p at us e = let z = good-one (parsed [] at) us e in (sym (ap (λ (y : Parsed (List Phy)). y .next) z), sym (ap (λ (y : Parsed (List Phy)). length (y .value)) z))
+phys-end file ownAddress i (suc n) p at us e =
+    let u = then-good (phyUnit file ownAddress i p at) _ us e in
+    let v = then-good (phyUnits file ownAddress i n (p + 1) (u .0 .next)) _ us (u .2) in
     let z = good-one (parsed (u .0 .value ∷ v .0 .value) (v .0 .next)) us (v .2) in
-    let r = phys-end file own i n (p + 1) (u .0 .next) (v .0) (v .1) in (
-      sym (ap (λ (y : Parsed (List Phy)). y .next) z) ∙ r .0 ∙ ap (pastPhys file n) (phy-ends file own i p at (u .0) (u .1)),
+    let r = phys-end file ownAddress i n (p + 1) (u .0 .next) (v .0) (v .1) in (
+      sym (ap (λ (y : Parsed (List Phy)). y .next) z) ∙ r .0 ∙ ap (pastPhys file n) (phy-ends file ownAddress i p at (u .0) (u .1)),
       sym (ap (λ (y : Parsed (List Phy)). length (y .value)) z) ∙ ap suc (r .1),
     )
 
@@ -162,7 +162,7 @@ size-alike file file′ long kind at h =
 -- two files of one length that agree outside bytes 12 to 32 of the frame at `lo`
 module _ (file file′ : List ℕ) (lo a : ℕ) (long : length file′ ≡ length file)
     (same : (k : ℕ) → (k < lo + 12) ⊎ (lo + 33 ≤ k) → byte file′ k ≡ byte file k)
-    (unit : (own i p : ℕ) (u : Parsed Phy) → phyUnit file own i p lo ≡ good u → T (pluggable (u .value)) → phyUnit file′ own i p lo ≡ good (parsed (replug a (u .value)) (u .next))) where
+    (unit : (ownAddress i p : ℕ) (u : Parsed Phy) → phyUnit file ownAddress i p lo ≡ good u → T (pluggable (u .value)) → phyUnit file′ ownAddress i p lo ≡ good (parsed (replug a (u .value)) (u .next))) where
   -- bytes from `from` up to `to` are not among them
   abbrev Apart : ℕ → ℕ → Type 0
   Apart from to = (to ≤ lo + 12) ⊎ (lo + 33 ≤ from)
@@ -197,9 +197,9 @@ module _ (file file′ : List ℕ) (lo a : ℕ) (long : length file′ ≡ lengt
             (ap read (part-alike at n (w .1) (λ j l. same-in at (at + n) (at + j) g (omega arith) (omega arith))))
             ∙ k
 
-  phy-alike : (own i p at : ℕ) (u : Parsed Phy) → phyUnit file own i p at ≡ good u → Apart at (u .next) → phyUnit file′ own i p at ≡ good u
+  phy-alike : (ownAddress i p at : ℕ) (u : Parsed Phy) → phyUnit file ownAddress i p at ≡ good u → Apart at (u .next) → phyUnit file′ ownAddress i p at ≡ good u
   unfolding phyUnit
-  phy-alike own i p at = unit-alike DiscoverResponse discoverRead (phyOf own i p) i p at
+  phy-alike ownAddress i p at = unit-alike DiscoverResponse discoverRead (phyOf ownAddress i p) i p at
 
   expander-alike : (most : Setting) (seen : List ℕ) (i at : ℕ) (u : Parsed ExpanderUnit) → expanderUnit most file seen i at ≡ good u → Apart at (u .next)
       → expanderUnit most file′ seen i at ≡ good u
@@ -210,46 +210,46 @@ module _ (file file′ : List ℕ) (lo a : ℕ) (long : length file′ ≡ lengt
       let n : numberAt file′ at 8 ≡ numberAt file at 8 = number-alike file′ file at at 8 (λ j o. same-in at (u .next) (at + j) h (omega arith) (omega arith)) in
       rw n (unit-alike ReportGeneral generalRead (λ g. unitTested most seen i (unitOf (numberAt file at 8) g)) i 0 (at + 8) u e (⊎-elim inl (λ o. inr (omega arith)) h))
 
-  phys-alike : (own i n p at : ℕ) (us : Parsed (List Phy)) → phyUnits file own i n p at ≡ good us → Apart at (us .next) → phyUnits file′ own i n p at ≡ good us
+  phys-alike : (ownAddress i n p at : ℕ) (us : Parsed (List Phy)) → phyUnits file ownAddress i n p at ≡ good us → Apart at (us .next) → phyUnits file′ ownAddress i n p at ≡ good us
   unfolding phyUnits
-  phys-alike own i zero p at us e h = e
-  phys-alike own i (suc n) p at us e h =
-      let u = then-good (phyUnit file own i p at) _ us e in
-      let v = then-good (phyUnits file own i n (p + 1) (u .0 .next)) _ us (u .2) in
+  phys-alike ownAddress i zero p at us e h = e
+  phys-alike ownAddress i (suc n) p at us e h =
+      let u = then-good (phyUnit file ownAddress i p at) _ us e in
+      let v = then-good (phyUnits file ownAddress i n (p + 1) (u .0 .next)) _ us (u .2) in
       let z = ap (λ (y : Parsed (List Phy)). y .next) (good-one (parsed (u .0 .value ∷ v .0 .value) (v .0 .next)) us (v .2)) in
-      let b = phy-ends file own i p at (u .0) (u .1) in
+      let b = phy-ends file ownAddress i p at (u .0) (u .1) in
       let c = past-more file at in
-      let g = phys-end file own i n (p + 1) (u .0 .next) (v .0) (v .1) .0 in
+      let g = phys-end file ownAddress i n (p + 1) (u .0 .next) (v .0) (v .1) .0 in
       let o = phys-more file n (u .0 .next) in
-      good-then (phyUnit file′ own i p at) _ (u .0) us (phy-alike own i p at (u .0) (u .1) (⊎-elim (λ k. inl (omega arith)) inr h))
-      (good-then (phyUnits file′ own i n (p + 1) (u .0 .next)) _ (v .0) us (phys-alike own i n (p + 1) (u .0 .next) (v .0) (v .1) (⊎-elim (λ k. inl (omega arith)) (λ k. inr (omega arith)) h)) (v .2))
+      good-then (phyUnit file′ ownAddress i p at) _ (u .0) us (phy-alike ownAddress i p at (u .0) (u .1) (⊎-elim (λ k. inl (omega arith)) inr h))
+      (good-then (phyUnits file′ ownAddress i n (p + 1) (u .0 .next)) _ (v .0) us (phys-alike ownAddress i n (p + 1) (u .0 .next) (v .0) (v .1) (⊎-elim (λ k. inl (omega arith)) (λ k. inr (omega arith)) h)) (v .2))
 
-  phys-edited : (own i n p at q : ℕ) (us : Parsed (List Phy)) → phyUnits file own i n p at ≡ good us → lo ≡ pastPhys file q at → T (pluggable (getD (us .value) q (Vacant 0)))
-      → phyUnits file′ own i n p at ≡ good (parsed (set (us .value) q (replug a (getD (us .value) q (Vacant 0)))) (us .next))
+  phys-edited : (ownAddress i n p at q : ℕ) (us : Parsed (List Phy)) → phyUnits file ownAddress i n p at ≡ good us → lo ≡ pastPhys file q at → T (pluggable (getD (us .value) q (Vacant 0)))
+      → phyUnits file′ ownAddress i n p at ≡ good (parsed (set (us .value) q (replug a (getD (us .value) q (Vacant 0)))) (us .next))
   unfolding phyUnits pastPhys
-  phys-edited own i zero p at q us e l f = absurd (subst (λ (y : Parsed (List Phy)). T (pluggable (getD (y .value) q (Vacant 0)))) (sym (good-one (parsed [] at) us e)) f)
-  phys-edited own i (suc n) p at zero us e l f =
-      let u = then-good (phyUnit file own i p at) _ us e in
-      let v = then-good (phyUnits file own i n (p + 1) (u .0 .next)) _ us (u .2) in
+  phys-edited ownAddress i zero p at q us e l f = absurd (subst (λ (y : Parsed (List Phy)). T (pluggable (getD (y .value) q (Vacant 0)))) (sym (good-one (parsed [] at) us e)) f)
+  phys-edited ownAddress i (suc n) p at zero us e l f =
+      let u = then-good (phyUnit file ownAddress i p at) _ us e in
+      let v = then-good (phyUnits file ownAddress i n (p + 1) (u .0 .next)) _ us (u .2) in
       let z : parsed (u .0 .value ∷ v .0 .value) (v .0 .next) ≡ us = good-one (parsed (u .0 .value ∷ v .0 .value) (v .0 .next)) us (v .2) in
-      let b = phy-ends file own i p at (u .0) (u .1) in
+      let b = phy-ends file ownAddress i p at (u .0) (u .1) in
       let c = past-more file at in
       let ψ : Phy = replug a (u .0 .value) in
-      let here = unit own i p (u .0) (subst (λ (k : ℕ). phyUnit file own i p k ≡ good (u .0)) (sym l) (u .1)) (subst (λ (y : Parsed (List Phy)). T (pluggable (getD (y .value) 0 (Vacant 0)))) (sym z) f) in
-      subst (λ (y : Parsed (List Phy)). phyUnits file′ own i (suc n) p at ≡ good (parsed (set (y .value) 0 (replug a (getD (y .value) 0 (Vacant 0)))) (y .next))) z
-      (good-then (phyUnit file′ own i p at) _ (parsed ψ (u .0 .next)) (parsed (ψ ∷ v .0 .value) (v .0 .next)) (subst (λ (k : ℕ). phyUnit file′ own i p k ≡ good (parsed ψ (u .0 .next))) l here)
-      (good-then (phyUnits file′ own i n (p + 1) (u .0 .next)) _ (v .0) (parsed (ψ ∷ v .0 .value) (v .0 .next)) (phys-alike own i n (p + 1) (u .0 .next) (v .0) (v .1) (inr (omega arith))) refl))
-  phys-edited own i (suc n) p at (suc q) us e l f =
-      let u = then-good (phyUnit file own i p at) _ us e in
-      let v = then-good (phyUnits file own i n (p + 1) (u .0 .next)) _ us (u .2) in
+      let here = unit ownAddress i p (u .0) (subst (λ (k : ℕ). phyUnit file ownAddress i p k ≡ good (u .0)) (sym l) (u .1)) (subst (λ (y : Parsed (List Phy)). T (pluggable (getD (y .value) 0 (Vacant 0)))) (sym z) f) in
+      subst (λ (y : Parsed (List Phy)). phyUnits file′ ownAddress i (suc n) p at ≡ good (parsed (set (y .value) 0 (replug a (getD (y .value) 0 (Vacant 0)))) (y .next))) z
+      (good-then (phyUnit file′ ownAddress i p at) _ (parsed ψ (u .0 .next)) (parsed (ψ ∷ v .0 .value) (v .0 .next)) (subst (λ (k : ℕ). phyUnit file′ ownAddress i p k ≡ good (parsed ψ (u .0 .next))) l here)
+      (good-then (phyUnits file′ ownAddress i n (p + 1) (u .0 .next)) _ (v .0) (parsed (ψ ∷ v .0 .value) (v .0 .next)) (phys-alike ownAddress i n (p + 1) (u .0 .next) (v .0) (v .1) (inr (omega arith))) refl))
+  phys-edited ownAddress i (suc n) p at (suc q) us e l f =
+      let u = then-good (phyUnit file ownAddress i p at) _ us e in
+      let v = then-good (phyUnits file ownAddress i n (p + 1) (u .0 .next)) _ us (u .2) in
       let z : parsed (u .0 .value ∷ v .0 .value) (v .0 .next) ≡ us = good-one (parsed (u .0 .value ∷ v .0 .value) (v .0 .next)) us (v .2) in
-      let b = phy-ends file own i p at (u .0) (u .1) in
+      let b = phy-ends file ownAddress i p at (u .0) (u .1) in
       let o = phys-more file q (pastFrame DiscoverResponse file at) in
       let w : List Phy = set (v .0 .value) q (replug a (getD (v .0 .value) q (Vacant 0))) in
-      let r = phys-edited own i n (p + 1) (u .0 .next) q (v .0) (v .1) (l ∙ ap (pastPhys file q) (sym b)) (subst (λ (y : Parsed (List Phy)). T (pluggable (getD (y .value) (suc q) (Vacant 0)))) (sym z) f) in
-      subst (λ (y : Parsed (List Phy)). phyUnits file′ own i (suc n) p at ≡ good (parsed (set (y .value) (suc q) (replug a (getD (y .value) (suc q) (Vacant 0)))) (y .next))) z
-      (good-then (phyUnit file′ own i p at) _ (u .0) (parsed (u .0 .value ∷ w) (v .0 .next)) (phy-alike own i p at (u .0) (u .1) (inl (omega arith)))
-      (good-then (phyUnits file′ own i n (p + 1) (u .0 .next)) _ (parsed w (v .0 .next)) (parsed (u .0 .value ∷ w) (v .0 .next)) r refl))
+      let r = phys-edited ownAddress i n (p + 1) (u .0 .next) q (v .0) (v .1) (l ∙ ap (pastPhys file q) (sym b)) (subst (λ (y : Parsed (List Phy)). T (pluggable (getD (y .value) (suc q) (Vacant 0)))) (sym z) f) in
+      subst (λ (y : Parsed (List Phy)). phyUnits file′ ownAddress i (suc n) p at ≡ good (parsed (set (y .value) (suc q) (replug a (getD (y .value) (suc q) (Vacant 0)))) (y .next))) z
+      (good-then (phyUnit file′ ownAddress i p at) _ (u .0) (parsed (u .0 .value ∷ w) (v .0 .next)) (phy-alike ownAddress i p at (u .0) (u .1) (inl (omega arith)))
+      (good-then (phyUnits file′ ownAddress i n (p + 1) (u .0 .next)) _ (parsed w (v .0 .next)) (parsed (u .0 .value ∷ w) (v .0 .next)) r refl))
 
   expanders-alike : (most : Setting) (n i at : ℕ) (seen : List ℕ) (d : Domain) → expanders most file n i at seen ≡ good d → lo + 33 ≤ at → expanders most file′ n i at seen ≡ good d
   unfolding expanders
@@ -404,28 +404,28 @@ module _ (a at : ℕ) (file : List ℕ) (room : at + 52 ≤ length file) where
 
 -- what an event makes of the fields of a frame; whatever stood as attached address and phy stays where the drive is pulled
 abbrev refield : Bool → ℕ → Discover → Discover
-refield true a f = record { identifier = f .identifier; device = 0; own = f .own; attached = f .attached; far = f .far; attribute = f .attribute }
-refield false a f = record { identifier = f .identifier; device = 1; own = f .own; attached = a; far = record { 0 = 0 }; attribute = f .attribute }
+refield true a f = record { identifier = f .identifier; deviceType = 0; ownAddress = f .ownAddress; attachedAddress = f .attachedAddress; attachedPhy = f .attachedPhy; attribute = f .attribute }
+refield false a f = record { identifier = f .identifier; deviceType = 1; ownAddress = f .ownAddress; attachedAddress = a; attachedPhy = record { 0 = 0 }; attribute = f .attribute }
 
-phyOf-edited : (own i p a : ℕ) (f : Discover) (φ : Phy) (b : Bool) → eqb a 0 ≡ b → phyOf own i p (fields f) ≡ good φ → phyOf own i p (fields (refield b a f)) ≡ good (replug a φ)
-phyOf-edited own i p a f φ b c h =
-    let five = unless-good (eqb (f .identifier .0) p && eqb (f .own) own) (refusal 5 i p) _ φ h in
-    let g : PhyFields = fieldsOf (eqb (f .device) 0) f in
+phyOf-edited : (ownAddress i p a : ℕ) (f : Discover) (φ : Phy) (b : Bool) → eqb a 0 ≡ b → phyOf ownAddress i p (fields f) ≡ good φ → phyOf ownAddress i p (fields (refield b a f)) ≡ good (replug a φ)
+phyOf-edited ownAddress i p a f φ b c h =
+    let five = unless-good (eqb (f .identifier .0) p && eqb (f .ownAddress) ownAddress) (refusal 5 i p) _ φ h in
+    let g : PhyFields = fieldsOf (eqb (f .deviceType) 0) f in
     let six = unless-good (ranged g) (refusal 6 i p) (good (Present g)) φ (five .1) in
-    let attribute : g .attribute ≡ f .attribute = of (eqb (f .device) 0) in
-    let two : T (leb (f .attribute) 2) = subst (λ (k : ℕ). T (leb k 2)) attribute (and-left (leb (g .attribute) 2) _ (and-right (leb (g .device) 3) _ (six .0))) in
-    subst (λ (y : Phy). phyOf own i p (fields (refield b a f)) ≡ good (replug a y)) (good-one (Present g) φ (six .1))
-    (go b c (is-true (eqb (f .identifier .0) p && eqb (f .own) own) (five .0)) (is-true (leb (f .attribute) 2) two) ∙ ap (λ (k : ℕ). good (Present (record { device = cond (eqb a 0) 0 1; attribute = k; address = a; far = record { 0 = 0 } }))) (sym attribute))
+    let attribute : g .attribute ≡ f .attribute = of (eqb (f .deviceType) 0) in
+    let two : T (leb (f .attribute) 2) = subst (λ (k : ℕ). T (leb k 2)) attribute (and-left (leb (g .attribute) 2) _ (and-right (leb (g .deviceType) 3) _ (six .0))) in
+    subst (λ (y : Phy). phyOf ownAddress i p (fields (refield b a f)) ≡ good (replug a y)) (good-one (Present g) φ (six .1))
+    (go b c (is-true (eqb (f .identifier .0) p && eqb (f .ownAddress) ownAddress) (five .0)) (is-true (leb (f .attribute) 2) two) ∙ ap (λ (k : ℕ). good (Present (record { deviceType = cond (eqb a 0) 0 1; attribute = k; address = a; attachedPhy = record { 0 = 0 } }))) (sym attribute))
   where
     of : (t : Bool) → fieldsOf t f .attribute ≡ f .attribute
     of true = refl
     of false = refl
 
-    go : (b : Bool) → eqb a 0 ≡ b → (eqb (f .identifier .0) p && eqb (f .own) own) ≡ true → leb (f .attribute) 2 ≡ true
-        → phyOf own i p (fields (refield b a f)) ≡ good (Present (record { device = cond (eqb a 0) 0 1; attribute = f .attribute; address = a; far = record { 0 = 0 } }))
+    go : (b : Bool) → eqb a 0 ≡ b → (eqb (f .identifier .0) p && eqb (f .ownAddress) ownAddress) ≡ true → leb (f .attribute) 2 ≡ true
+        → phyOf ownAddress i p (fields (refield b a f)) ≡ good (Present (record { deviceType = cond (eqb a 0) 0 1; attribute = f .attribute; address = a; attachedPhy = record { 0 = 0 } }))
     go true c x y =
         let z : a ≡ 0 = eqb-true a 0 c in
-        rw (x, y, c) (ap (λ (k : ℕ). good (Present (record { device = 0; attribute = f .attribute; address = k; far = record { 0 = 0 } }))) (sym z))
+        rw (x, y, c) (ap (λ (k : ℕ). good (Present (record { deviceType = 0; attribute = f .attribute; address = k; attachedPhy = record { 0 = 0 } }))) (sym z))
     go false c x y = rw (x, y, c) refl
 
 -- a frame is read by its length, its first four bytes and its fields
@@ -497,7 +497,7 @@ module _ (a at n : ℕ) (file : List ℕ) (room : at + n ≤ length file) (least
   plug-far c = frame-byte (frameEdited a at file) 32 (omega arith) ∙ edit-far a at file short c fits
 
   abbrev discoverOf : ℕ → ℕ → ℕ → ℕ → ℕ → ℕ → Discover
-  discoverOf identifier device own attached far attribute = record { identifier = record { 0 = identifier }; device = device; own = own; attached = attached; far = record { 0 = far }; attribute = attribute }
+  discoverOf identifier deviceType ownAddress attachedAddress attachedPhy attribute = record { identifier = record { 0 = identifier }; deviceType = deviceType; ownAddress = ownAddress; attachedAddress = attachedAddress; attachedPhy = record { 0 = attachedPhy }; attribute = attribute }
 
   fields-are : (b : Bool) → eqb a 0 ≡ b → discoverFields edit ≡ refield b a (discoverFields before)
   fields-are true c =
@@ -534,13 +534,13 @@ module _ (a at n : ℕ) (file : List ℕ) (room : at + n ≤ length file) (least
       )
 
 -- the unit of a phy to which an event can happen
-unit-edited : (a at : ℕ) (file : List ℕ) → a < 256 ^ 8 → (own i p : ℕ) (u : Parsed Phy) → phyUnit file own i p at ≡ good u → T (pluggable (u .value))
-    → phyUnit (frameEdited a at file) own i p at ≡ good (parsed (replug a (u .value)) (u .next))
+unit-edited : (a at : ℕ) (file : List ℕ) → a < 256 ^ 8 → (ownAddress i p : ℕ) (u : Parsed Phy) → phyUnit file ownAddress i p at ≡ good u → T (pluggable (u .value))
+    → phyUnit (frameEdited a at file) ownAddress i p at ≡ good (parsed (replug a (u .value)) (u .next))
 unfolding phyUnit
-unit-edited a at file fits own i p u e t = go (sizeAt DiscoverResponse file at) refl
+unit-edited a at file fits ownAddress i p u e t = go (sizeAt DiscoverResponse file at) refl
   where
     test : Discovered → Result Phy
-    test = phyOf own i p
+    test = phyOf ownAddress i p
 
     there : (n : ℕ) → sizeAt DiscoverResponse file at ≡ good n → at + n ≤ length file → 52 ≤ n → (D : Discovered) → discoverRead (take n (drop at file)) ≡ good D
         → then (test D) (endsAt (at + n)) ≡ good u → (b : Bool) → eqb (byte (take n (drop at file)) 2) 0 ≡ b
@@ -550,7 +550,7 @@ unit-edited a at file fits own i p u e t = go (sizeAt DiscoverResponse file at) 
         let f : Discover = discoverFields (take n (drop at file)) in
         let x = then-good (test D) (endsAt (at + n)) u k in
         let z = good-one (parsed (x .0) (at + n)) u (x .2) in
-        let y = phyOf-edited own i p a f (x .0) (eqb a 0) refl (ap test (sym (r .0)) ∙ x .1) in
+        let y = phyOf-edited ownAddress i p a f (x .0) (eqb a 0) refl (ap test (sym (r .0)) ∙ x .1) in
         let s = size-alike file (frameEdited a at file) (edit-length a at file (omega arith)) DiscoverResponse at (edit-outside a at file (omega arith) (at + 3) (λ w. omega arith) (inl (omega arith))) ∙ q in
         unit-by DiscoverResponse discoverRead test i p (frameEdited a at file) at n (good (fields (refield (eqb a 0) a f))) s (r .1)
         ∙ good-then (test (fields (refield (eqb a 0) a f))) (endsAt (at + n)) (replug a (x .0)) (parsed (replug a (x .0)) (at + n)) y refl

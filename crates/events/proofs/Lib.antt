@@ -1,13 +1,13 @@
-pub mod Plugging
+pub mod PluggedAddress
 pub mod FrameOffsets
 pub mod EditedFile
-pub mod Refilled
-pub mod Happening
-pub mod Touching
-pub mod Retested
-pub mod OwnEvents
-pub mod Applying
-mod Pair
-pub mod OneWord
-pub mod Moving
-mod MovingRigs
+pub mod TouchedTablesRefilled
+pub mod EventLists
+pub mod TablesTouched
+pub mod CausesAfterEvent
+pub mod EventsByOwnLists
+pub mod EventOutcomes
+mod PairEvents
+pub mod OneWordChanged
+pub mod WordsMoved
+mod WordsMovedRigs

@@ -1,5 +1,5 @@
 pub mod Events
 pub mod EventFile
 pub mod Calls
-pub mod Paper9
-pub mod Moving
+pub mod EventLists
+pub mod WordsMoved

@@ -11,7 +11,7 @@ ghost use Rattle.frames.specs.Bytes.{byte};
 ghost use Rattle.frames.specs.Refusals.{good};
 ghost use Rattle.files.specs.File.{domainRead};
 ghost use Rattle.files.specs.Rows.{domainIn};
-ghost use Rattle.wiring.specs.Addresses.{IndexRoom};
+ghost use Rattle.wiring.specs.AddressIndex.{IndexRoom};
 ghost use Rattle.wiring.specs.Checks.{FileRoom};
 ghost use Rattle.tables.specs.Entries.{entries, roomOf};
 ghost use Rattle.events.specs.Calls.{eventCall, EventDone};

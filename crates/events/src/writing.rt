@@ -9,11 +9,11 @@ ghost use Rattle.frames.specs.Bytes.{bytesOf};
 ghost use Rattle.events.specs.EventFile.{typed, frameEdited};
 
 // Byte 12 of a DISCOVER response with this attached device type.
-fn with_type(device: u8, b: u8) -> u8
-    requires { ⌜ device < 8 ⌝ }
-    ensures { λ r. ⌜ r ≡ typed device b ⌝ }
+fn with_type(deviceType: u8, b: u8) -> u8
+    requires { ⌜ deviceType < 8 ⌝ }
+    ensures { λ r. ⌜ r ≡ typed deviceType b ⌝ }
 {
-    b / 128 * 128 + (device * 16 + b % 16)
+    b / 128 * 128 + (deviceType * 16 + b % 16)
 }
 
 // The attached device type that an event with address a sets: 1, or 0 for a pull.

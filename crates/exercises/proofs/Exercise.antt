@@ -11,37 +11,37 @@ use lib.Dec.{T, eqb, ltb, lt→ltb, leb→le}
 use borrow.Author.Tests.{eq-eqb, ne-eqb}
 use Rattle.files.specs.declared.Phy.{Phy}
 use Rattle.files.specs.declared.Phy.the-variants.{Vacant}
-use Rattle.wiring.specs.Frames.{good}
+use Rattle.wiring.specs.FrameDefinitions.{good}
 use Rattle.files.specs.Lists.{keep, In, isIn}
 use Rattle.files.specs.Settings.{widest}
-use Rattle.files.specs.Domain.{Domain, expanderAt, phyAt, typeOf, addressOf, farOf, attributeOf, routes, attached, toEnd, toExpander, numberOf}
-use Rattle.files.specs.Read.{ReadPhy, ReadExpander, Read, Bytes, FitsPhy, FitsExpander, FitsDomain}
+use Rattle.files.specs.Domain.{Domain, expanderAt, phyAt, typeOf, addressOf, attachedPhyOf, attributeOf, isTable, isSubtractive, attached, toEnd, toExpander, numberOf}
+use Rattle.files.specs.ReadDomain.{ReadPhy, ReadExpander, Read, Bytes, FitsPhy, FitsExpander, FitsDomain}
 use Rattle.files.specs.File.{domainRead}
 use Rattle.files.specs.Rows.{rowsOf, domainIn}
-use Rattle.wiring.specs.Causes.{Place, place, phyPlaces, placesFrom, farPhy}
+use Rattle.wiring.specs.PhyCauses.{Place, place, phyPlaces, placesFrom, farPhy}
 use Rattle.wiring.specs.Graph.{self, ring}
 use Rattle.wiring.specs.Neighbours.{neighbours}
-use Rattle.wiring.specs.Devices.{LoopIn, ChainIn, To}
-use Rattle.wiring.specs.Tested.{Linked}
-use Rattle.files.proofs.Members.{or-left, or-right, isIn-of, eq→eqb, pigeonhole, getD-in, in-map}
-use Rattle.wiring.proofs.Wires.{Plain, Wired, adj-to, to-adj}
+use Rattle.wiring.specs.Devices.{LoopIn, ChainIn, AttachedTo}
+use Rattle.wiring.specs.WiringCauses.{Linked}
+use Rattle.files.proofs.ListMembers.{or-left, or-right, isIn-of, eq→eqb, pigeonhole, getD-in, in-map}
+use Rattle.wiring.proofs.WiredPhys.{Plain, Wired, adj-to, to-adj}
 use Rattle.files.proofs.Domains.{in-range}
-use Rattle.files.proofs.Back.{domain-back}
-use Rattle.wiring.proofs.Accepted.{read-expander}
+use Rattle.files.proofs.RowsRoundTrip.{domain-back}
+use Rattle.wiring.proofs.WiredAndLinked.{read-expander}
 use Rattle.wiring.proofs.LongChains.{never-long}
 use Rattle.tables.specs.Levels.{down}
 use Rattle.tables.specs.Tables.{word, gives, give, giveAll, levelList, table, tablePlaces, tables}
-use Rattle.tables.specs.Judge.{judged}
-use Rattle.tables.specs.Tested.{Routable}
-use Rattle.tables.proofs.Listed.{held-self}
-use Rattle.tables.proofs.Tables.{table-is}
-use Rattle.tables.proofs.Given.{accepted-iff, judged-file}
+use Rattle.tables.specs.JudgingCall.{judged}
+use Rattle.tables.specs.TableCauses.{Routable}
+use Rattle.tables.proofs.LevelListMembers.{held-self}
+use Rattle.tables.proofs.TableLengths.{table-is}
+use Rattle.tables.proofs.AcceptedDomains.{accepted-iff, judged-file}
 use Rattle.cards.specs.FileOf.{fileOf}
 use Rattle.cards.proofs.Conversions.{file-back}
 use Rattle.exercises.specs.Rig.{trimmed, drive, toward, firstOf, secondOf, made, noRig, Kind, Rig}
-use Rattle.exercises.proofs.Trimmed.{trimmed-few, trimmed-whole, trimmed-in}
+use Rattle.exercises.proofs.TrimmedWords.{trimmed-few, trimmed-whole, trimmed-in}
 use Rattle.exercises.proofs.FileBytes.{file-bytes}
-use Rattle.exercises.proofs.Limits.{keep-none, list-is, gives-none, rig-possible}
+use Rattle.exercises.proofs.RigLimits.{keep-none, list-is, gives-none, rig-possible}
 
 -- all that the maker asks of its words
 pub record Makable (a b : ℕ) (ws : List ℕ) : Type 0 where
@@ -50,7 +50,7 @@ pub record Makable (a b : ℕ) (ws : List ℕ) : Type 0 where
   pub other : a ≢ b
   pub noFirst : ¬ (In a ws)
   pub noSecond : ¬ (In b ws)
-  pub indexes : length ws ≤ 65535
+  pub routeIndexes : length ws ≤ 65535
   pub phys : length (trimmed ws) ≤ 127
 
 pub makable : (a b : ℕ) (ws : List ℕ) → ¬ (T (noRig a b ws)) → Makable a b ws
@@ -72,7 +72,7 @@ makable a b ws n =
       other = λ z. n3 (or-left (eqb a b) c4 (eq→eqb a b z));
       noFirst = λ h. n4 (or-left (isIn a ws) c5 (isIn-of a ws h));
       noSecond = λ h. n5 (or-left (isIn b ws) c6 (isIn-of b ws h));
-      indexes = by-cases (decLt 65535 (length ws)) (λ h. absurd (n6 (or-left (ltb 65535 (length ws)) _ (lt→ltb 65535 (length ws) h)))) (λ h. omega arith);
+      routeIndexes = by-cases (decLt 65535 (length ws)) (λ h. absurd (n6 (or-left (ltb 65535 (length ws)) _ (lt→ltb 65535 (length ws) h)))) (λ h. omega arith);
       phys = by-cases (decLt 127 (length (trimmed ws)))
           (λ h. absurd (n6 (or-right (ltb 65535 (length ws)) (ltb 127 (length (trimmed ws))) (lt→ltb 127 (length (trimmed ws)) h)))) (λ h. omega arith);
     }
@@ -90,14 +90,14 @@ drive-type s = go (eqb s 0)
 
 drive-read : (s : ℕ) → ReadPhy (drive s)
 drive-read s = record {
-  device = let t = drive-type s in omega arith;
+  deviceType = let t = drive-type s in omega arith;
   attribute = omega arith;
   borne = λ n z. n (rw (eq-eqb s 0 z) refl);
   bare = λ e. by-cases (ℕ-discrete s 0) (λ z. (z, refl)) (λ n. let o : _≡_ {A = ℕ} (cond (eqb s 0) 0 1) 1 = rw (ne-eqb s 0 n) refl in absurd (omega arith));
 }
 
 toward-read : (s k : ℕ) → s ≢ 0 → k ≤ 2 → ReadPhy (toward s k)
-toward-read s k n h = record { device = omega arith; attribute = h; borne = λ _. n; bare = λ e. absurd (omega arith) }
+toward-read s k n h = record { deviceType = omega arith; attribute = h; borne = λ _. n; bare = λ e. absurd (omega arith) }
 
 -- what stands at a place of the made domain
 data View (a b : ℕ) (ws : List ℕ) (i p : ℕ) (φ : Phy) : Type 0 where
@@ -162,7 +162,7 @@ module _ (a b : ℕ) (ws : List ℕ) (m : Makable a b ws) (x : a < 2 ^ 64) (y : 
   fits-first : FitsExpander (firstOf a b (length ws))
   fits-first = record {
     address = x;
-    indexes = omega (arith, m .indexes);
+    routeIndexes = omega (arith, m .routeIndexes);
     count = omega arith;
     phys = λ φ. ⊎-elim (λ e. subst FitsPhy (sym e) (y, omega arith)) (λ z. absurd z);
   }
@@ -170,7 +170,7 @@ module _ (a b : ℕ) (ws : List ℕ) (m : Makable a b ws) (x : a < 2 ^ 64) (y : 
   fits-second : FitsExpander (secondOf a b (trimmed ws))
   fits-second = record {
     address = y;
-    indexes = omega arith;
+    routeIndexes = omega arith;
     count = omega (arith, m .phys, length-map (trimmed ws) drive);
     phys = λ φ. ⊎-elim (λ e. subst FitsPhy (sym e) (x, omega arith))
         (λ h. let r = in-map drive (trimmed ws) φ h in
@@ -233,21 +233,21 @@ module _ (a b : ℕ) (ws : List ℕ) (m : Makable a b ws) (x : a < 2 ^ 64) (y : 
       → ((i ≡ 0) × (p ≡ 0) × (phyAt dom i p ≡ toward b 2)) ⊎ ((i ≡ 1) × (p ≡ 0) × (phyAt dom i p ≡ toward a 1))
   leads-at i p t = leading i p (phyAt dom i p) (view a b ws i p) t
 
-  routed : (i p : ℕ) → T (toExpander (phyAt dom i p)) → T (routes 1 (phyAt dom i p)) ⊎ T (routes 2 (phyAt dom i p))
+  routed : (i p : ℕ) → T (toExpander (phyAt dom i p)) → T (isSubtractive (phyAt dom i p)) ⊎ T (isTable (phyAt dom i p))
   routed i p t =
-      ⊎-elim (λ r. inr (subst (λ φ. T (routes 2 φ)) (sym (r .2)) tt)) (λ r. inl (subst (λ φ. T (routes 1 φ)) (sym (r .2)) tt)) (leads-at i p t)
+      ⊎-elim (λ r. inr (subst (λ φ. T (isTable φ)) (sym (r .2)) tt)) (λ r. inl (subst (λ φ. T (isSubtractive φ)) (sym (r .2)) tt)) (leads-at i p t)
 
-  to-first : To dom 1 0 0
+  to-first : AttachedTo dom 1 0 0
   to-first = record { expander = subst (λ φ. T (toExpander φ)) (sym second-phy) tt; address = ap addressOf second-phy ∙ sym first-address }
 
-  to-second : To dom 0 0 1
+  to-second : AttachedTo dom 0 0 1
   to-second = record { expander = subst (λ φ. T (toExpander φ)) (sym first-phy) tt; address = ap addressOf first-phy ∙ sym second-address }
 
-  answered : (i p : ℕ) → T (toExpander (phyAt dom i p)) → To dom (numberOf dom (addressOf (phyAt dom i p))) (farOf (phyAt dom i p)) i
+  answered : (i p : ℕ) → T (toExpander (phyAt dom i p)) → AttachedTo dom (numberOf dom (addressOf (phyAt dom i p))) (attachedPhyOf (phyAt dom i p)) i
   answered i p t =
       ⊎-elim (λ r. rw (r .2, number-b, r .0) to-first) (λ r. rw (r .2, number-a, r .0) to-second) (leads-at i p t)
 
-  named-back : (i p : ℕ) → T (toExpander (phyAt dom i p)) → farOf (farPhy dom (phyAt dom i p)) ≡ p
+  named-back : (i p : ℕ) → T (toExpander (phyAt dom i p)) → attachedPhyOf (farPhy dom (phyAt dom i p)) ≡ p
   named-back i p t =
       ⊎-elim (λ r. rw (r .2, number-b, second-phy) (sym (r .1))) (λ r. rw (r .2, number-a, first-phy) (sym (r .1))) (leads-at i p t)
 
@@ -285,23 +285,23 @@ module _ (a b : ℕ) (ws : List ℕ) (m : Makable a b ws) (x : a < 2 ^ 64) (y : 
       kind-is i p (phyAt dom i p) (view a b ws i p) t ∙ ap (kindAt i) e ∙ sym (kind-is i q (phyAt dom i q) (view a b ws i q) u)
 
   -- the one subtractive phy
-  subtractive : (i p : ℕ) (φ : Phy) → View a b ws i p φ → T (routes 1 φ) → φ ≡ toward a 1
-  subtractive i p φ (nothing e) t = absurd (subst (λ χ. T (routes 1 χ)) e t)
-  subtractive i p φ (forth j k e) t = absurd (subst (λ χ. T (routes 1 χ)) e t)
+  subtractive : (i p : ℕ) (φ : Phy) → View a b ws i p φ → T (isSubtractive φ) → φ ≡ toward a 1
+  subtractive i p φ (nothing e) t = absurd (subst (λ χ. T (isSubtractive χ)) e t)
+  subtractive i p φ (forth j k e) t = absurd (subst (λ χ. T (isSubtractive χ)) e t)
   subtractive i p φ (back j k e) t = e
-  subtractive i p φ (drives s j h e) t = absurd (subst (λ χ. T (routes 1 χ)) e t)
+  subtractive i p φ (drives s j h e) t = absurd (subst (λ χ. T (isSubtractive χ)) e t)
 
   -- the one table phy
-  tabled : (i p : ℕ) (φ : Phy) → View a b ws i p φ → T (routes 2 φ) → (i ≡ 0) × (p ≡ 0)
-  tabled i p φ (nothing e) t = absurd (subst (λ χ. T (routes 2 χ)) e t)
+  tabled : (i p : ℕ) (φ : Phy) → View a b ws i p φ → T (isTable φ) → (i ≡ 0) × (p ≡ 0)
+  tabled i p φ (nothing e) t = absurd (subst (λ χ. T (isTable χ)) e t)
   tabled i p φ (forth j k e) t = (j, k)
-  tabled i p φ (back j k e) t = absurd (subst (λ χ. T (routes 2 χ)) e t)
-  tabled i p φ (drives s j h e) t = absurd (subst (λ χ. T (routes 2 χ)) e t)
+  tabled i p φ (back j k e) t = absurd (subst (λ χ. T (isTable χ)) e t)
+  tabled i p φ (drives s j h e) t = absurd (subst (λ χ. T (isTable χ)) e t)
 
-  tabled-at : (i p : ℕ) → T (routes 2 (phyAt dom i p)) → (i ≡ 0) × (p ≡ 0)
+  tabled-at : (i p : ℕ) → T (isTable (phyAt dom i p)) → (i ≡ 0) × (p ≡ 0)
   tabled-at i p t = tabled i p (phyAt dom i p) (view a b ws i p) t
 
-  configured : (i p : ℕ) → T (routes 2 (phyAt dom i p)) → expanderAt dom i .configurable ≢ 0
+  configured : (i p : ℕ) → T (isTable (phyAt dom i p)) → expanderAt dom i .configurable ≢ 0
   unfolding made
   configured i p t z =
       let e : expanderAt dom i .configurable ≡ 1 = ap (λ (v : ℕ). expanderAt dom v .configurable) (tabled-at i p t .0) in omega arith
@@ -377,12 +377,12 @@ module _ (a b : ℕ) (ws : List ℕ) (m : Makable a b ws) (x : a < 2 ^ 64) (y : 
   leads-down : T (down dom (phyAt dom 0 0))
   leads-down =
       let e : farPhy dom (phyAt dom 0 0) ≡ toward a 1 = ap (farPhy dom) first-phy ∙ ap (λ (n : ℕ). phyAt dom n 0) number-b ∙ second-phy in
-      subst (λ φ. T (toExpander φ && (routes 2 φ && not (routes 2 (farPhy dom (phyAt dom 0 0)))))) (sym first-phy)
-      (subst (λ ψ. T (not (routes 2 ψ))) (sym e) tt)
+      subst (λ φ. T (toExpander φ && (isTable φ && not (isTable (farPhy dom (phyAt dom 0 0)))))) (sym first-phy)
+      (subst (λ ψ. T (not (isTable ψ))) (sym e) tt)
 
   pub made-kind : Kind a b ws dom
   unfolding made
-  made-kind = record { two = refl; first = refl; second = refl; onePhy = refl; tablePhy = tt; leads = tt; toSecond = refl; indexes = refl }
+  made-kind = record { two = refl; first = refl; second = refl; onePhy = refl; tablePhy = tt; leads = tt; toSecond = refl; routeIndexes = refl }
 
   -- the drives give their words, one after the other
   word-drive : (s : ℕ) → word (drive s) ≡ s
@@ -408,12 +408,12 @@ module _ (a b : ℕ) (ws : List ℕ) (m : Makable a b ws) (x : a < 2 ^ 64) (y : 
       list-is a b ws dom made-kind made-wires made-links leads-down ∙ ap (giveAll dom 0 []) second-phys
       ∙ ap (λ (k : List ℕ). giveAll dom 0 k (map drive (trimmed ws))) quiet ∙ give-drives (trimmed ws) []
 
-  first-indexes : expanderAt dom 0 .indexes ≡ length ws
+  first-route-indexes : expanderAt dom 0 .routeIndexes ≡ length ws
   unfolding made
-  first-indexes = refl
+  first-route-indexes = refl
 
-  fits : length (levelList dom 0 0) ≤ expanderAt dom 0 .indexes
-  fits = omega (arith, ap length made-list, trimmed-few ws, first-indexes)
+  fits : length (levelList dom 0 0) ≤ expanderAt dom 0 .routeIndexes
+  fits = omega (arith, ap length made-list, trimmed-few ws, first-route-indexes)
 
   made-routable : Routable 64 dom
   made-routable = record {
@@ -423,7 +423,7 @@ module _ (a b : ℕ) (ws : List ℕ) (m : Makable a b ws) (x : a < 2 ^ 64) (y : 
   }
 
   pub made-table : table dom 0 0 ≡ ws
-  made-table = table-is dom 0 0 fits ∙ rw (made-list, first-indexes) (trimmed-whole ws)
+  made-table = table-is dom 0 0 fits ∙ rw (made-list, first-route-indexes) (trimmed-whole ws)
 
   pub made-accepted : judged widest (fileOf dom) ≡ good dom
   made-accepted = judged-file widest (fileOf dom) dom .1 (made-read, accepted-iff widest dom read 64 .1 (made-wires, made-routable))
@@ -445,8 +445,8 @@ module _ (a b : ℕ) (ws : List ℕ) (m : Makable a b ws) (x : a < 2 ^ 64) (y : 
   made-places : tablePlaces dom ≡ place 0 0 ∷ []
   unfolding tablePlaces placesFrom phyPlaces keep made
   made-places =
-      let n : keep (λ q. routes 2 (phyAt dom (q .expander) (q .phy))) (phyPlaces 1 0 (suc (length (map drive (trimmed ws)))) ++ []) ≡ [] =
-      keep-none (λ q. routes 2 (phyAt dom (q .expander) (q .phy))) (phyPlaces 1 0 (suc (length (map drive (trimmed ws)))) ++ [])
+      let n : keep (λ q. isTable (phyAt dom (q .expander) (q .phy))) (phyPlaces 1 0 (suc (length (map drive (trimmed ws)))) ++ []) ≡ [] =
+      keep-none (λ q. isTable (phyAt dom (q .expander) (q .phy))) (phyPlaces 1 0 (suc (length (map drive (trimmed ws)))) ++ [])
       (λ q h t. let e = in-second 0 (suc (length (map drive (trimmed ws)))) q h in let z = tabled-at (q .expander) (q .phy) t .0 in omega arith) in
       rw n refl
     where

@@ -14,7 +14,7 @@ use Rattle.files.specs.declared.Phy.the-variants.{Vacant, Present}
 use Rattle.files.specs.declared.Setting.{Setting}
 use Rattle.files.specs.Lists.{In}
 use Rattle.files.specs.Domain.{Expander, Domain}
-use Rattle.files.specs.Read.{ReadExpander, Read, Bytes, FitsPhy, FitsExpander, FitsDomain}
+use Rattle.files.specs.ReadDomain.{ReadExpander, Read, Bytes, FitsPhy, FitsExpander, FitsDomain}
 use Rattle.cards.specs.FileOf.{phyFrame, physFrames, unitHead, unitsOf, fileOf}
 
 -- bytes as a record, whose list antt finds by itself
@@ -56,20 +56,20 @@ head-bytes : (most : Setting) (e : Expander) → ReadExpander most e → FitsExp
 unfolding unitHead shortGeneral
 head-bytes most e g h =
     join (number-bytes 8 (e .address))
-    (more (omega arith) (join (zeros 5) (join (number-bytes 2 (e .indexes)) (zero-byte (more {x = length (e .phys)} (h .count) (more {x = e .configurable} (omega (arith, g .configurable)) (zeros 17)))))))
+    (more (omega arith) (join (zeros 5) (join (number-bytes 2 (e .routeIndexes)) (zero-byte (more {x = length (e .phys)} (h .count) (more {x = e .configurable} (omega (arith, g .configurable)) (zeros 17)))))))
 
-phy-bytes : (own p : ℕ) (φ : Phy) → p < 256 → FitsPhy φ → Full (phyFrame own p φ)
+phy-bytes : (ownAddress p : ℕ) (φ : Phy) → p < 256 → FitsPhy φ → Full (phyFrame ownAddress p φ)
 unfolding shortVacant shortDiscover
-phy-bytes own p (Vacant r) h f = more (omega arith) (more (omega arith) (more f (zeros 49)))
-phy-bytes own p (Present f) h k =
+phy-bytes ownAddress p (Vacant r) h f = more (omega arith) (more (omega arith) (more f (zeros 49)))
+phy-bytes ownAddress p (Present f) h k =
     let tail = more (k .1) (join (zeros 11) (more {x = f .attribute % 16} (omega arith) (zeros 7))) in
-    let low = zero-byte (zero-byte (zero-byte (join (number-bytes 8 own) (join (number-bytes 8 (f .address)) tail)))) in
-    more (omega arith) (more (omega arith) (join (zeros 7) (more h (zero-byte (zero-byte (more {x = f .device % 8 * 16} (omega arith) low))))))
+    let low = zero-byte (zero-byte (zero-byte (join (number-bytes 8 ownAddress) (join (number-bytes 8 (f .address)) tail)))) in
+    more (omega arith) (more (omega arith) (join (zeros 7) (more h (zero-byte (zero-byte (more {x = f .deviceType % 8 * 16} (omega arith) low))))))
 
-phys-bytes : (own : ℕ) (φs : List Phy) (p : ℕ) → p + length φs ≤ 256 → ((φ : Phy) → In φ φs → FitsPhy φ) → Full (physFrames own p φs)
+phys-bytes : (ownAddress : ℕ) (φs : List Phy) (p : ℕ) → p + length φs ≤ 256 → ((φ : Phy) → In φ φs → FitsPhy φ) → Full (physFrames ownAddress p φs)
 unfolding physFrames
-phys-bytes own [] p h f = none
-phys-bytes own (φ ∷ φs) p h f = join (phy-bytes own p φ (omega arith) (f φ (inl refl))) (phys-bytes own φs (p + 1) (omega arith) (λ ψ k. f ψ (inr k)))
+phys-bytes ownAddress [] p h f = none
+phys-bytes ownAddress (φ ∷ φs) p h f = join (phy-bytes ownAddress p φ (omega arith) (f φ (inl refl))) (phys-bytes ownAddress φs (p + 1) (omega arith) (λ ψ k. f ψ (inr k)))
 
 units-bytes : (most : Setting) (d : Domain) → ((e : Expander) → In e d → ReadExpander most e) → ((e : Expander) → In e d → FitsExpander e) → Full (unitsOf d)
 unfolding unitsOf

@@ -1,9 +1,9 @@
-pub mod Trimmed
+pub mod TrimmedWords
 pub mod NoRig
 pub mod RowPuts
 pub mod FileBytes
-pub mod Limits
+pub mod RigLimits
 pub mod Exercise
-pub mod Promises
-pub mod Exactly
-mod Worked
+pub mod MakeOutcomes
+pub mod ExerciseRefusals
+mod WorkedExercise

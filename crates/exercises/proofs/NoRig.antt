@@ -36,9 +36,9 @@ module _ (a b : ℕ) (ws : List ℕ) where
           no-word-2 e = sym (rw (ne-eqb a 0 n1, ne-eqb b 0 n2, ne-eqb a b n3, n4, e) refl)
 
           module _ (n5 : isIn b ws ≡ false) where
-            pub no-indexes : 65535 < length ws → true ≡ noRig a b ws
+            pub no-route-indexes : 65535 < length ws → true ≡ noRig a b ws
             unfolding noRig
-            no-indexes h = sym (rw (ne-eqb a 0 n1, ne-eqb b 0 n2, ne-eqb a b n3, n4, n5, lt-ltb 65535 (length ws) h) refl)
+            no-route-indexes h = sym (rw (ne-eqb a 0 n1, ne-eqb b 0 n2, ne-eqb a b n3, n4, n5, lt-ltb 65535 (length ws) h) refl)
 
             pub no-phys : (t : ℕ) → length ws ≤ 65535 → t ≡ length (trimmed ws) → ltb 127 t ≡ noRig a b ws
             unfolding noRig

@@ -2,7 +2,7 @@
 use Prim.Native.Nat.{ℕ}
 use mathlib.Core.Bool.{not}
 use mathlib.Core.List.{List}
-use Rattle.wiring.specs.Frames.{Result, unless, refusal}
+use Rattle.wiring.specs.FrameDefinitions.{Result, unless, refusal}
 use Rattle.cards.specs.Calls.{fileFor}
 use Rattle.exercises.specs.Rig.{made, noRig}
 

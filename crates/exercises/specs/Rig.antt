@@ -5,15 +5,15 @@ use mathlib.Core.Bool.{Bool, cond, _||_}
 use mathlib.Core.List.{List, [], _∷_, map}
 use lib.ListN.{length}
 use lib.Dec.{T, eqb, ltb}
-use Rattle.wiring.specs.Frames.{good}
+use Rattle.wiring.specs.FrameDefinitions.{good}
 use Rattle.files.specs.declared.Phy.{Phy}
 use Rattle.files.specs.declared.Phy.the-variants.{Present}
 use Rattle.files.specs.Lists.{isIn}
 use Rattle.files.specs.Settings.{widest}
-use Rattle.files.specs.Domain.{Expander, Domain, expanderAt, phyAt, addressOf, routes, toExpander}
-use Rattle.files.specs.Read.{Bytes}
+use Rattle.files.specs.Domain.{Expander, Domain, expanderAt, phyAt, addressOf, isTable, toExpander}
+use Rattle.files.specs.ReadDomain.{Bytes}
 use Rattle.tables.specs.Tables.{table}
-use Rattle.tables.specs.Judge.{judged}
+use Rattle.tables.specs.JudgingCall.{judged}
 
 -- the words up to the last non-zero one
 abbrev pub trimCons : ℕ → List ℕ → List ℕ
@@ -26,19 +26,19 @@ trimmed (w ∷ ws) = trimCons w (trimmed ws)
 
 -- a direct phy: the word's drive, with attached phy 0, or nothing for a zero word
 abbrev pub drive : ℕ → Phy
-drive s = Present (record { device = cond (eqb s 0) 0 1; attribute = 0; address = s; far = record { 0 = 0 } })
+drive s = Present (record { deviceType = cond (eqb s 0) 0 1; attribute = 0; address = s; attachedPhy = record { 0 = 0 } })
 
 -- a phy to phy 0 of the expander with this address, which is attached as type 2
 abbrev pub toward : ℕ → ℕ → Phy
-toward s attribute = Present (record { device = 2; attribute = attribute; address = s; far = record { 0 = 0 } })
+toward s attribute = Present (record { deviceType = 2; attribute = attribute; address = s; attachedPhy = record { 0 = 0 } })
 
 -- the first expander: one phy, a table phy to the second; the configurable bit is 1
 abbrev pub firstOf : ℕ → ℕ → ℕ → Expander
-firstOf a b indexes = record { address = a; indexes = indexes; configurable = 1; phys = toward b 2 ∷ [] }
+firstOf a b routeIndexes = record { address = a; routeIndexes = routeIndexes; configurable = 1; phys = toward b 2 ∷ [] }
 
 -- the second: R 0 and bit 0, phy 0 subtractive to the first, then a direct phy for each word
 abbrev pub secondOf : ℕ → ℕ → List ℕ → Expander
-secondOf a b ws = record { address = b; indexes = 0; configurable = 0; phys = toward a 1 ∷ map drive ws }
+secondOf a b ws = record { address = b; routeIndexes = 0; configurable = 0; phys = toward a 1 ∷ map drive ws }
 
 -- the domain that is made: R is the number of words
 unfoldable pub made : ℕ → ℕ → List ℕ → Domain
@@ -57,10 +57,10 @@ pub record Kind (a b : ℕ) (ws : List ℕ) (d : Domain) : Type 0 where
   pub first : expanderAt d 0 .address ≡ a
   pub second : expanderAt d 1 .address ≡ b
   pub onePhy : length (expanderAt d 0 .phys) ≡ 1
-  pub tablePhy : T (routes 2 (phyAt d 0 0))
+  pub tablePhy : T (isTable (phyAt d 0 0))
   pub leads : T (toExpander (phyAt d 0 0))
   pub toSecond : addressOf (phyAt d 0 0) ≡ b
-  pub indexes : expanderAt d 0 .indexes ≡ length ws
+  pub routeIndexes : expanderAt d 0 .routeIndexes ≡ length ws
 
 -- a file of that kind, accepted under the setting 64, 128, 64, has precisely those words as its table
 pub record Rig (a b : ℕ) (ws : List ℕ) : Type 0 where

@@ -17,17 +17,17 @@ fn drive(word: u64) -> Phy
 {
     if word == 0 {
         return Phy::Present(PhyFields {
-            device: 0,
+            deviceType: 0,
             attribute: 0,
             address: 0,
-            far: PhyId(0),
+            attachedPhy: PhyId(0),
         });
     }
     Phy::Present(PhyFields {
-        device: 1,
+        deviceType: 1,
         attribute: 0,
         address: word,
-        far: PhyId(0),
+        attachedPhy: PhyId(0),
     })
 }
 
@@ -36,10 +36,10 @@ fn toward(address: u64, attribute: u8) -> Phy
     ensures { λ r. ⌜ r ≡ toward address attribute ⌝ }
 {
     Phy::Present(PhyFields {
-        device: 2,
+        deviceType: 2,
         attribute: attribute,
         address: address,
-        far: PhyId(0),
+        attachedPhy: PhyId(0),
     })
 }
 
@@ -61,7 +61,7 @@ fn put_drives(row: &mut [u64], words: &[u64])
 // Writes the row of an expander: its first phy, then a phy for each of the words.
 fn put_row(row: &mut [u64], unit: ExpanderUnit, link: Phy, words: &[u64])
     requires { ⌜ ((length (now row) ≡ 258) × (length (now words) ≤ 127)) × (unit .phys ≡ suc (length (now words))) ⌝ }
-    ensures { λ _. ⌜ now (row .exit) ≡ rowOf (record { address = unit .address; indexes = unit .indexes; configurable = unit .configurable; phys = link ∷ map drive (now (words .entry)) }) ⌝ }
+    ensures { λ _. ⌜ now (row .exit) ≡ rowOf (record { address = unit .address; routeIndexes = unit .routeIndexes; configurable = unit .configurable; phys = link ∷ map drive (now (words .entry)) }) ⌝ }
 {
     let head = wiring::head_word(unit);
     wiring::clear(row);
@@ -73,19 +73,19 @@ fn put_row(row: &mut [u64], unit: ExpanderUnit, link: Phy, words: &[u64])
 }
 
 // Writes the rows of the two expanders, with addresses a and b: R, and the words that have a phy.
-pub(crate) fn put_rig(rows: &mut [u64], a: u64, b: u64, indexes: u16, words: &[u64])
+pub(crate) fn put_rig(rows: &mut [u64], a: u64, b: u64, routeIndexes: u16, words: &[u64])
     requires { ⌜ (length (now rows) ≡ 516) × (length (now words) ≤ 127) ⌝ }
-    ensures { λ _. ⌜ now (rows .exit) ≡ rowsOf (firstOf a b indexes ∷ secondOf a b (now (words .entry)) ∷ []) ⌝ }
+    ensures { λ _. ⌜ now (rows .exit) ≡ rowsOf (firstOf a b routeIndexes ∷ secondOf a b (now (words .entry)) ∷ []) ⌝ }
 {
     let first = ExpanderUnit {
         address: a,
-        indexes: indexes,
+        routeIndexes: routeIndexes,
         phys: 1,
         configurable: 1,
     };
     let second = ExpanderUnit {
         address: b,
-        indexes: 0,
+        routeIndexes: 0,
         phys: words.len() as u8 + 1,
         configurable: 0,
     };

@@ -5,7 +5,7 @@ use mathlib.Core.Bool.{Bool, false, cond}
 use native.Mathlib.Omega.{arith}
 use lib.Dec.{leb}
 use borrow.Author.Tests.{le-leb, lt-leb}
-use Rattle.tracing.specs.Tables.{inRange}
+use Rattle.tracing.specs.TableDefinitions.{inRange}
 use Rattle.exports.specs.Packing.{settingOf}
 
 -- by whether there is a bit above the 24

@@ -3,7 +3,7 @@ use Prim.Native.Nat.{ℕ, _+_, _*_, _/_, _%_, _^_}
 use mathlib.Core.Bool.{cond, not}
 use mathlib.Core.List.{List}
 use lib.Dec.{eqb, leb}
-use Rattle.tracing.specs.Tables.{Result, refused, good, GeneralSas2, short, long, Discovered, vacant, fields, General, LongGeneral, Discover, Route, Setting, Counted, Entry}
+use Rattle.tracing.specs.TableDefinitions.{Result, refused, good, GeneralSas2, short, long, Discovered, vacant, fields, General, LongGeneral, Discover, Route, Setting, Counted, Entry}
 pub use Rattle.tracing.specs.Packing.{packRefusal, packed, packEnd, endPacked}
 use Rattle.forms.specs.Calls.{FormCounts}
 use Rattle.tracing.specs.Steps.{Step, here, endDevice, bad, lost, onward}
@@ -80,11 +80,11 @@ routeAddress (good q) = q .address
 
 -- R, number of phys, configurable bit
 abbrev pub general : General → ℕ
-general g = g .indexes * 65536 + g .phys * 256 + g .configurable
+general g = g .routeIndexes * 65536 + g .phys * 256 + g .configurable
 
 -- of a long frame: bit 34, TABLE TO TABLE SUPPORTED, CONFIGURES OTHERS
 abbrev pub packLong : LongGeneral → ℕ
-packLong l = 2 ^ 34 + l .«table_to_table» * 2 ^ 33 + l .«configures_others» * 2 ^ 32
+packLong l = 2 ^ 34 + l .tableToTable * 2 ^ 33 + l .configuresOthers * 2 ^ 32
 
 -- R, number of phys, configurable bit, and the fields of a long frame above them
 abbrev pub generalSas2 : GeneralSas2 → ℕ
@@ -93,7 +93,7 @@ generalSas2 (long g l) = packLong l + general g
 
 -- identifier, type, attribute, attached phy
 abbrev pub packFields : Discover → ℕ
-packFields d = d .identifier .0 * 2 ^ 32 + d .device * 2 ^ 24 + d .attribute * 2 ^ 16 + d .far .0
+packFields d = d .identifier .0 * 2 ^ 32 + d .deviceType * 2 ^ 24 + d .attribute * 2 ^ 16 + d .attachedPhy .0
 
 -- bit 62 and the function result of a vacant phy; else the fields
 abbrev pub discovered : Discovered → ℕ
@@ -104,9 +104,9 @@ discovered (fields d) = packFields d
 abbrev pub ownAddress : Result Discovered → ℕ
 ownAddress (refused r) = 0
 ownAddress (good (vacant result)) = 0
-ownAddress (good (fields d)) = d .own
+ownAddress (good (fields d)) = d .ownAddress
 
 abbrev pub attachedAddress : Result Discovered → ℕ
 attachedAddress (refused r) = 0
 attachedAddress (good (vacant result)) = 0
-attachedAddress (good (fields d)) = d .attached
+attachedAddress (good (fields d)) = d .attachedAddress

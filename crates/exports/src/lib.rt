@@ -26,13 +26,13 @@ use tracing::Wiring;
 use tracing::WordPlace;
 ghost use mathlib.Core.Path.{_≡_};
 ghost use lib.ListN.{length};
-ghost use Rattle.tracing.specs.Tables.{then, generalRead, generalReadSas2, discoverRead, routeWritten, routeRead, bufferAfter};
-ghost use Rattle.tracing.specs.Tables.{entries, roomOf};
-ghost use Rattle.tracing.specs.Tables.{wiringCall, bitsSet, newAfter, judged, expandersIn, tableCall, countsIn, tablesAfter, wordPlace};
+ghost use Rattle.tracing.specs.TableDefinitions.{then, generalRead, generalReadSas2, discoverRead, routeWritten, routeRead, bufferAfter};
+ghost use Rattle.tracing.specs.TableDefinitions.{entries, roomOf};
+ghost use Rattle.tracing.specs.TableDefinitions.{wiringCall, bitsSet, newAfter, judged, expandersIn, tableCall, countsIn, tablesAfter, wordPlace};
 ghost use Rattle.tracing.specs.Reasons.{stepCall};
 ghost use Rattle.tracing.specs.Trace.{request, traceCall, report, bytesAfter};
-ghost use Rattle.tracing.specs.Many.{requestCount, listAfter};
-ghost use Rattle.forms.specs.Formed.{formCall, formTables, formTrace, formList};
+ghost use Rattle.tracing.specs.RequestLists.{requestCount, listAfter};
+ghost use Rattle.forms.specs.FormCalls.{formCall, formTables, formTrace, formList};
 ghost use Rattle.forms.specs.Calls.{formCounts, formAfter, requestsIn};
 ghost use Rattle.frames.specs.Refusals.{lengthOf};
 ghost use Rattle.cards.specs.Calls.{cardCall, fileCall};
@@ -373,7 +373,7 @@ pub extern "C" fn metzurgo_discover_own(frame: &[u8]) -> u64
     match answer {
         DiscoverRead::Refused(_) => 0,
         DiscoverRead::Vacant(_) => 0,
-        DiscoverRead::Read(d) => d.own,
+        DiscoverRead::Read(d) => d.ownAddress,
     }
 }
 
@@ -386,7 +386,7 @@ pub extern "C" fn metzurgo_discover_attached(frame: &[u8]) -> u64
     match answer {
         DiscoverRead::Refused(_) => 0,
         DiscoverRead::Vacant(_) => 0,
-        DiscoverRead::Read(d) => d.attached,
+        DiscoverRead::Read(d) => d.attachedAddress,
     }
 }
 
@@ -505,12 +505,12 @@ pub extern "C" fn metzurgo_shelf_size() -> u64
 pub extern "C" fn metzurgo_shelf_fresh(
     shelf: &mut Shelf,
     phys: u8,
-    indexes: u16,
+    routeIndexes: u16,
     kinds: &[u8],
 ) -> u64
-    ensures { λ r. ⌜ ShelfDone (made (now (shelf .entry)) phys indexes (now (kinds .entry))) r (now (shelf .exit)) ⌝ }
+    ensures { λ r. ⌜ ShelfDone (made (now (shelf .entry)) phys routeIndexes (now (kinds .entry))) r (now (shelf .exit)) ⌝ }
 {
-    let answer = shelves::fresh(shelf, phys, indexes, kinds);
+    let answer = shelves::fresh(shelf, phys, routeIndexes, kinds);
     packing::shelf_answer(answer)
 }
 

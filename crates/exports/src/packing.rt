@@ -118,14 +118,14 @@ pub(crate) fn step(r: Reason, s: Step) -> u64
 pub(crate) fn report(g: General) -> u64
     ensures { λ n. ⌜ (n ≡ general g) × (n < 2 ^ 32) ⌝ }
 {
-    (g.indexes as u64) * 65536 + (g.phys as u64) * 256 + (g.configurable as u64)
+    (g.routeIndexes as u64) * 65536 + (g.phys as u64) * 256 + (g.configurable as u64)
 }
 
 // The fields of a long REPORT GENERAL response, above those.
 pub(crate) fn long_report(l: LongGeneral) -> u64
     ensures { λ n. ⌜ (n ≡ packLong l) × (n < 2 ^ 63) ⌝ }
 {
-    17179869184 + (l.table_to_table as u64) * 8589934592 + (l.configures_others as u64) * 4294967296
+    17179869184 + (l.tableToTable as u64) * 8589934592 + (l.configuresOthers as u64) * 4294967296
 }
 
 // The fields of a DISCOVER response, without its addresses.
@@ -133,9 +133,9 @@ pub(crate) fn discover(d: Discover) -> u64
     ensures { λ n. ⌜ n ≡ packFields d ⌝ }
 {
     (d.identifier.0 as u64) * 4294967296
-        + (d.device as u64) * 16777216
+        + (d.deviceType as u64) * 16777216
         + (d.attribute as u64) * 65536
-        + (d.far.0 as u64)
+        + (d.attachedPhy.0 as u64)
 }
 
 // A CONFIGURE ROUTE INFORMATION request, without its address.

@@ -10,8 +10,8 @@ use lib.ListN.{length, List·getD-eq-default}
 use lib.Dec.{T, eqb, eqb→eq, not-T, T-not, leb→le, le→leb}
 use Rattle.files.specs.declared.Phy.{Phy}
 use Rattle.files.specs.declared.Phy.the-variants.{Vacant}
-use Rattle.files.specs.Domain.{Expander, Domain, noExpander, expanderAt, phyAt, typeOf, attributeOf, routes, attached, toEnd, toExpander, numberOf}
-use Rattle.files.proofs.Members.{by-test, was-true, eq→eqb}
+use Rattle.files.specs.Domain.{Expander, Domain, noExpander, expanderAt, phyAt, typeOf, attributeOf, hasAttribute, attached, toEnd, toExpander, numberOf}
+use Rattle.files.proofs.ListMembers.{by-test, was-true, eq→eqb}
 
 -- types and attributes
 pub type-attached : (φ : Phy) → typeOf φ ≢ 0 → T (attached φ)
@@ -37,8 +37,8 @@ attached-cases φ t =
 pub end-no-expander : (φ : Phy) → T (toEnd φ) → T (toExpander φ) → ⊥
 end-no-expander φ t u = let e = eqb→eq (typeOf φ) 1 t in let f = leb→le 2 (typeOf φ) u in omega arith
 
-pub routes-one : (a b : ℕ) (φ : Phy) → T (routes a φ) → T (routes b φ) → a ≡ b
-routes-one a b φ t u = sym (eqb→eq (attributeOf φ) a t) ∙ eqb→eq (attributeOf φ) b u
+pub attribute-one : (a b : ℕ) (φ : Phy) → T (hasAttribute a φ) → T (hasAttribute b φ) → a ≡ b
+attribute-one a b φ t u = sym (eqb→eq (attributeOf φ) a t) ∙ eqb→eq (attributeOf φ) b u
 
 -- the number of an address
 pub numberOf-is : (d : Domain) (s : ℕ) → numberOf d s < length d → expanderAt d (numberOf d s) .address ≡ s
@@ -64,5 +64,5 @@ phy-range d test i p t n =
 pub in-range : (d : Domain) (i p : ℕ) → T (attached (phyAt d i p)) → (i < length d) × (p < length (expanderAt d i .phys))
 in-range d i p t = let h = phy-range d attached i p t (λ u. u) in (expander-range d i p h, h)
 
-pub routes-range : (d : Domain) (k i p : ℕ) → T (routes k (phyAt d i p)) → k ≤ 2 → p < length (expanderAt d i .phys)
-routes-range d k i p t h = phy-range d (routes k) i p t (λ u. let e = eqb→eq 3 k u in omega arith)
+pub attribute-range : (d : Domain) (k i p : ℕ) → T (hasAttribute k (phyAt d i p)) → k ≤ 2 → p < length (expanderAt d i .phys)
+attribute-range d k i p t h = phy-range d (hasAttribute k) i p t (λ u. let e = eqb→eq 3 k u in omega arith)

@@ -13,13 +13,13 @@ use Rattle.files.specs.declared.Setting.{Setting}
 use Rattle.files.specs.declared.DomainRead.{DomainRead}
 use Rattle.files.specs.declared.DomainRead.the-variants.{Refused, Expanders}
 use Rattle.files.specs.Domain.{Domain}
-use Rattle.files.specs.Read.{Bytes}
+use Rattle.files.specs.ReadDomain.{Bytes}
 use Rattle.files.specs.File.{domainRead}
 use Rattle.files.specs.Rows.{rowsOf, readAnswer, rowsFor, rowsRead, countOf, rowsAfter, rowsHold, RowsRead}
-use Rattle.files.specs.Fill.{domainGot, pasted}
-use Rattle.files.proofs.Results.{never}
-use Rattle.files.proofs.Read.{read-good, read-fits, read-again}
-use Rattle.files.proofs.Back.{length-rowsOf, domain-back}
+use Rattle.files.specs.SecondReading.{domainGot, pasted}
+use Rattle.files.proofs.CallResults.{never}
+use Rattle.files.proofs.ReadDomain.{read-good, read-fits, read-again}
+use Rattle.files.proofs.RowsRoundTrip.{length-rowsOf, domain-back}
 
 promise : (setting : Setting) (file : List ℕ) (answer : DomainRead) (ws ws′ : List ℕ) (y : Result Domain) → rowsRead setting file (length ws) ≡ y
     → readAnswer answer ≡ then y countOf → ws′ ≡ rowsAfter y ws → rowsHold y ws′ → RowsRead setting file answer ws ws′

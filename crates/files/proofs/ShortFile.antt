@@ -24,11 +24,11 @@ use Rattle.files.specs.declared.Phy.{Phy}
 use Rattle.files.specs.Domain.{Domain}
 use Rattle.files.specs.Settings.{inRange}
 use Rattle.files.specs.File.{Parsed, parsed, placed, sizeAt, phyOf, phyUnit, phyUnits, unitOf, unitTested, expanderUnit, expanderOf, expanders, headerUnit, domainRead}
-use Rattle.files.specs.Units.{endsAt}
+use Rattle.files.specs.UnitAnswers.{endsAt}
 use Rattle.files.specs.ShortFile.{orStay, shortPhys, shortExpanders, shortFile}
-use Rattle.files.proofs.Members.{by-test}
-use Rattle.files.proofs.Results.{never, good-one, unless-good, then-good}
-use Rattle.files.proofs.Reading.{size-whole, size-within, unitAt, unit-cut, unit-by}
+use Rattle.files.proofs.ListMembers.{by-test}
+use Rattle.files.proofs.CallResults.{never, good-one, unless-good, then-good}
+use Rattle.files.proofs.UnitReading.{size-whole, size-within, unitAt, unit-cut, unit-by}
 
 -- the size of a frame depends on the bytes from its offset on
 size-same : (kind : Response) (file other : List ℕ) (a b : ℕ) → drop b other ≡ drop a file → sizeAt kind other b ≡ sizeAt kind file a
@@ -134,7 +134,7 @@ record ShortenedPhys (file other : List ℕ) (rest : ℕ → List ℕ) (us : Par
   within : next ≤ length other
   before : us .next ≤ length file
 
-module _ (file other : List ℕ) (own i : ℕ) (rest : ℕ → List ℕ) where
+module _ (file other : List ℕ) (ownAddress i : ℕ) (rest : ℕ → List ℕ) where
   abbrev PhysAlike : Result (Parsed (List Phy)) → Result (Parsed (List Phy)) → Type 0
   PhysAlike (refused r) y = y ≡ refused r
   PhysAlike (good us) y = ShortenedPhys file other rest us y
@@ -146,33 +146,33 @@ module _ (file other : List ℕ) (own i : ℕ) (rest : ℕ → List ℕ) where
 
   abbrev PhysRead : ℕ → ℕ → ℕ → ℕ → Type 0
   PhysRead count p a b =
-      a ≤ length file → b ≤ length other → drop b other ≡ shortPhys file own i count p a rest
-      → PhysAlike (phyUnits file own i count p a) (phyUnits other own i count p b)
+      a ≤ length file → b ≤ length other → drop b other ≡ shortPhys file ownAddress i count p a rest
+      → PhysAlike (phyUnits file ownAddress i count p a) (phyUnits other ownAddress i count p b)
 
-  phys-step : (count p a b : ℕ) → ((m n : ℕ) → PhysRead count (p + 1) m n) → (x : Result (Parsed Phy)) → phyUnit file own i p a ≡ x
-      → drop b other ≡ orStay (drop a file) x (λ u. shortFrame Discover (drop a file) ++ shortPhys file own i count (p + 1) (u .next) rest)
-      → PhysAlike (then x (λ u. then (phyUnits file own i count (p + 1) (u .next)) (λ us. good (parsed (u .value ∷ us .value) (us .next)))))
-      (phyUnits other own i (suc count) p b)
+  phys-step : (count p a b : ℕ) → ((m n : ℕ) → PhysRead count (p + 1) m n) → (x : Result (Parsed Phy)) → phyUnit file ownAddress i p a ≡ x
+      → drop b other ≡ orStay (drop a file) x (λ u. shortFrame Discover (drop a file) ++ shortPhys file ownAddress i count (p + 1) (u .next) rest)
+      → PhysAlike (then x (λ u. then (phyUnits file ownAddress i count (p + 1) (u .next)) (λ us. good (parsed (u .value ∷ us .value) (us .next)))))
+      (phyUnits other ownAddress i (suc count) p b)
   unfolding phyUnits phyUnit
-  phys-step count p a b more (refused r) e d = rw (unit-stays Discover discoverRead (phyOf own i p) i p file other a b r d e)
+  phys-step count p a b more (refused r) e d = rw (unit-stays Discover discoverRead (phyOf ownAddress i p) i p file other a b r d e)
   phys-step count p a b more (good u) e d =
-      let c = unit-shortened Discover discoverRead (phyOf own i p) i p file other a b u (shortPhys file own i count (p + 1) (u .next) rest) short-discover d e in
+      let c = unit-shortened Discover discoverRead (phyOf ownAddress i p) i p file other a b u (shortPhys file ownAddress i count (p + 1) (u .next) rest) short-discover d e in
       rw (c .value)
-      (one-more (u .value) (phyUnits file own i count (p + 1) (u .next)) (phyUnits other own i count (p + 1) (b + 52))
+      (one-more (u .value) (phyUnits file ownAddress i count (p + 1) (u .next)) (phyUnits other ownAddress i count (p + 1) (b + 52))
       (more (u .next) (b + 52) (c .before) (c .within) (c .rest)))
 
   phys-read : (count p a b : ℕ) → PhysRead count p a b
   unfolding phyUnits shortPhys
   phys-read zero p a b h k d = record { next = b; value = refl; left = d; within = k; before = h }
-  phys-read (suc count) p a b h k d = phys-step count p a b (λ m n. phys-read count (p + 1) m n) (phyUnit file own i p a) refl d
+  phys-read (suc count) p a b h k d = phys-step count p a b (λ m n. phys-read count (p + 1) m n) (phyUnit file ownAddress i p a) refl d
 
 -- what follows the phys
-after-phys : (file other : List ℕ) (own i : ℕ) (rest : ℕ → List ℕ) (x y : Result (Parsed (List Phy))) (f g : Parsed (List Phy) → Result Domain)
-    → PhysAlike file other own i rest x y
+after-phys : (file other : List ℕ) (ownAddress i : ℕ) (rest : ℕ → List ℕ) (x y : Result (Parsed (List Phy))) (f g : Parsed (List Phy) → Result Domain)
+    → PhysAlike file other ownAddress i rest x y
     → ((us : Parsed (List Phy)) (n : ℕ) → drop n other ≡ rest (us .next) → n ≤ length other → us .next ≤ length file → g (parsed (us .value) n) ≡ f us)
     → then y g ≡ then x f
-after-phys file other own i rest (refused r) y f g h same = rw h
-after-phys file other own i rest (good us) y f g h same = rw (h .value) (same us (h .next) (h .left) (h .within) (h .before))
+after-phys file other ownAddress i rest (refused r) y f g h same = rw h
+after-phys file other ownAddress i rest (good us) y f g h same = rw (h .value) (same us (h .next) (h .left) (h .within) (h .before))
 
 -- the address before an expander's frame, and the bytes of the frame
 byte-from : (file : List ℕ) (a j : ℕ) → byte file (a + j) ≡ byte (drop a file) j
@@ -181,7 +181,7 @@ byte-from file a j = sym (getD-drop a file j 0)
 module _ (most : Setting) (file other : List ℕ) where
   module _ (seen : List ℕ) (i a b : ℕ) where
     abbrev tested : ℕ → General → Result ExpanderUnit
-    tested own g = unitTested most seen i (unitOf own g)
+    tested ownAddress g = unitTested most seen i (unitOf ownAddress g)
 
     expander-stays : (r : Refusal) → drop b other ≡ drop a file → expanderUnit most file seen i a ≡ refused r → expanderUnit most other seen i b ≡ refused r
     unfolding expanderUnit
@@ -238,13 +238,13 @@ module _ (most : Setting) (file other : List ℕ) where
   unfolding expanders
   expander-step count i a b seen more (refused r) e d = rw (expander-stays seen i a b r d e)
   expander-step count i a b seen more (good u) e d =
-      let own = u .value .address in
-      let rest : ℕ → List ℕ = λ next. shortExpanders most file count (i + 1) next (seen ++ (own ∷ [])) in
-      let c = expander-shortened seen i a b u (shortPhys file own i (u .value .phys) 0 (u .next) rest) d e in
+      let ownAddress = u .value .address in
+      let rest : ℕ → List ℕ = λ next. shortExpanders most file count (i + 1) next (seen ++ (ownAddress ∷ [])) in
+      let c = expander-shortened seen i a b u (shortPhys file ownAddress i (u .value .phys) 0 (u .next) rest) d e in
       rw (c .value)
-      (after-phys file other own i rest (phyUnits file own i (u .value .phys) 0 (u .next)) (phyUnits other own i (u .value .phys) 0 (b + 8 + 28)) _ _
-      (phys-read file other own i rest (u .value .phys) 0 (u .next) (b + 8 + 28) (c .before) (c .within) (c .rest))
-      (λ us n left within before. ap (λ x. then x (λ d. good (expanderOf (u .value) (us .value) ∷ d))) (more (us .next) n (seen ++ (own ∷ [])) before within left)))
+      (after-phys file other ownAddress i rest (phyUnits file ownAddress i (u .value .phys) 0 (u .next)) (phyUnits other ownAddress i (u .value .phys) 0 (b + 8 + 28)) _ _
+      (phys-read file other ownAddress i rest (u .value .phys) 0 (u .next) (b + 8 + 28) (c .before) (c .within) (c .rest))
+      (λ us n left within before. ap (λ x. then x (λ d. good (expanderOf (u .value) (us .value) ∷ d))) (more (us .next) n (seen ++ (ownAddress ∷ [])) before within left)))
 
   rest-read : (count i a b : ℕ) (seen : List ℕ) → RestRead count i a b seen
   unfolding expanders shortExpanders
@@ -296,22 +296,22 @@ module _ {A B : Type 0} (kind : Response) (read : List ℕ → Result A) (test :
       go (refused q) f = never (refusal (q .number) i p) u (sym (unit-cut kind read test i p file a q f) ∙ e)
       go (good n) f = let w = size-whole kind file a n f in short-length kind (drop a file) n (w .size) (w .bytes)
 
-phys-bytes : (file : List ℕ) (own i : ℕ) (rest : ℕ → List ℕ) (count p a : ℕ) (us : Parsed (List Phy)) → phyUnits file own i count p a ≡ good us
-    → length (shortPhys file own i count p a rest) ≡ 52 * length (us .value) + length (rest (us .next))
+phys-bytes : (file : List ℕ) (ownAddress i : ℕ) (rest : ℕ → List ℕ) (count p a : ℕ) (us : Parsed (List Phy)) → phyUnits file ownAddress i count p a ≡ good us
+    → length (shortPhys file ownAddress i count p a rest) ≡ 52 * length (us .value) + length (rest (us .next))
 unfolding phyUnits shortPhys phyUnit
-phys-bytes file own i rest zero p a us e = rw (← good-one (parsed [] a) us e) (omega arith)
-phys-bytes file own i rest (suc count) p a us e =
-    let one = then-good (unitAt Discover discoverRead (phyOf own i p) i p file a) _ us e in
+phys-bytes file ownAddress i rest zero p a us e = rw (← good-one (parsed [] a) us e) (omega arith)
+phys-bytes file ownAddress i rest (suc count) p a us e =
+    let one = then-good (unitAt Discover discoverRead (phyOf ownAddress i p) i p file a) _ us e in
     let u = one .0 in
-    let more = then-good (phyUnits file own i count (p + 1) (u .next)) _ us (one .2) in
+    let more = then-good (phyUnits file ownAddress i count (p + 1) (u .next)) _ us (one .2) in
     let tail = more .0 in
     let q = good-one (parsed (u .value ∷ tail .value) (tail .next)) us (more .2) in
-    let l = frame-short Discover discoverRead (phyOf own i p) i p file a u (one .1) in
-    let h = phys-bytes file own i rest count (p + 1) (u .next) tail (more .1) in
+    let l = frame-short Discover discoverRead (phyOf ownAddress i p) i p file a u (one .1) in
+    let h = phys-bytes file ownAddress i rest count (p + 1) (u .next) tail (more .1) in
     let v : length (us .value) ≡ suc (length (tail .value)) = sym (ap (λ (w : Parsed (List Phy)). length (w .value)) q) in
     let n : length (rest (us .next)) ≡ length (rest (tail .next)) = sym (ap (λ (w : Parsed (List Phy)). length (rest (w .next))) q) in
-    ap (λ x. length (orStay (drop a file) x (λ w. shortFrame Discover (drop a file) ++ shortPhys file own i count (p + 1) (w .next) rest))) (one .1)
-    ∙ length-append (shortFrame Discover (drop a file)) (shortPhys file own i count (p + 1) (u .next) rest) ∙ omega arith
+    ap (λ x. length (orStay (drop a file) x (λ w. shortFrame Discover (drop a file) ++ shortPhys file ownAddress i count (p + 1) (w .next) rest))) (one .1)
+    ∙ length-append (shortFrame Discover (drop a file)) (shortPhys file ownAddress i count (p + 1) (u .next) rest) ∙ omega arith
 
 rest-bytes : (most : Setting) (file : List ℕ) (count i a : ℕ) (seen : List ℕ) (d : Domain) → expanders most file count i a seen ≡ good d
     → length (shortExpanders most file count i a seen) ≡ shortBytes d
@@ -322,8 +322,8 @@ rest-bytes most file zero i a seen d e =
     let h = eqb→eq a (length file) (u .0) in
     rw (← good-one [] d (u .1)) (omega arith)
 rest-bytes most file (suc count) i a seen d e =
-    let own = numberAt file a 8 in
-    let one = then-good (unitAt ReportGeneral generalRead (λ g. unitTested most seen i (unitOf own g)) i 0 file (a + 8)) _ d e in
+    let ownAddress = numberAt file a 8 in
+    let one = then-good (unitAt ReportGeneral generalRead (λ g. unitTested most seen i (unitOf ownAddress g)) i 0 file (a + 8)) _ d e in
     let u = one .0 in
     let s = u .value .address in
     let phys = then-good (phyUnits file s i (u .value .phys) 0 (u .next)) _ d (one .2) in
@@ -332,7 +332,7 @@ rest-bytes most file (suc count) i a seen d e =
     let more = then-good (expanders most file count (i + 1) (φs .next) (seen ++ (s ∷ []))) _ d (phys .2) in
     let tail = more .0 in
     let q = good-one (expanderOf (u .value) (φs .value) ∷ tail) d (more .2) in
-    let l = frame-short ReportGeneral generalRead (λ g. unitTested most seen i (unitOf own g)) i 0 file (a + 8) u (one .1) in
+    let l = frame-short ReportGeneral generalRead (λ g. unitTested most seen i (unitOf ownAddress g)) i 0 file (a + 8) u (one .1) in
     let h = phys-bytes file s i rest (u .value .phys) 0 (u .next) φs (phys .1) in
     let k = rest-bytes most file count (i + 1) (φs .next) (seen ++ (s ∷ [])) tail (more .1) in
     let b = address-there most file [] seen i a 0 u (one .1) in

@@ -10,7 +10,7 @@ use Rattle.files.specs.declared.Phy.the-variants.{Vacant, Present}
 -- SAS address, route indexes R, configurable bit, phys
 pub record Expander : Type 0 where
   pub address : ℕ
-  pub indexes : ℕ
+  pub routeIndexes : ℕ
   pub configurable : ℕ
   pub phys : List Phy
 
@@ -19,7 +19,7 @@ Domain = List Expander
 
 -- past the end: an expander without phys, and a vacant phy
 abbrev pub noExpander : Expander
-noExpander = record { address = 0; indexes = 0; configurable = 0; phys = [] }
+noExpander = record { address = 0; routeIndexes = 0; configurable = 0; phys = [] }
 
 abbrev pub expanderAt : Domain → ℕ → Expander
 expanderAt d i = getD d i noExpander
@@ -30,7 +30,7 @@ phyAt d i p = getD (expanderAt d i .phys) p (Vacant 0)
 -- the attached device type; a vacant phy has nothing attached
 abbrev pub typeOf : Phy → ℕ
 typeOf (Vacant r) = 0
-typeOf (Present f) = f .device
+typeOf (Present f) = f .deviceType
 
 -- the attached address
 abbrev pub addressOf : Phy → ℕ
@@ -38,9 +38,9 @@ addressOf (Vacant r) = 0
 addressOf (Present f) = f .address
 
 -- the attached phy identifier
-abbrev pub farOf : Phy → ℕ
-farOf (Vacant r) = 0
-farOf (Present f) = f .far .0
+abbrev pub attachedPhyOf : Phy → ℕ
+attachedPhyOf (Vacant r) = 0
+attachedPhyOf (Present f) = f .attachedPhy .0
 
 -- the routing attribute: 0 direct, 1 subtractive, 2 table; 3 stands for none where the phy is vacant
 abbrev pub attributeOf : Phy → ℕ
@@ -48,8 +48,18 @@ attributeOf (Vacant r) = 3
 attributeOf (Present f) = f .attribute
 
 -- a non-vacant phy with routing attribute k
-abbrev pub routes : ℕ → Phy → Bool
-routes k φ = eqb (attributeOf φ) k
+abbrev pub hasAttribute : ℕ → Phy → Bool
+hasAttribute k φ = eqb (attributeOf φ) k
+
+-- and by name
+abbrev pub isTable : Phy → Bool
+isTable φ = hasAttribute 2 φ
+
+abbrev pub isSubtractive : Phy → Bool
+isSubtractive φ = hasAttribute 1 φ
+
+abbrev pub isDirect : Phy → Bool
+isDirect φ = hasAttribute 0 φ
 
 -- "attached": not vacant, and its type is not 0
 abbrev pub attached : Phy → Bool

@@ -53,39 +53,39 @@ module _ {A : Type 0} where
 
 -- the fields of a phy that is not vacant; where nothing is attached (true), the attached address and phy are ignored, and are 0
 abbrev pub fieldsOf : Bool → Discover → PhyFields
-fieldsOf true f = record { device = f .device; attribute = f .attribute; address = 0; far = record { 0 = 0 } }
-fieldsOf false f = record { device = f .device; attribute = f .attribute; address = f .attached; far = f .far }
+fieldsOf true f = record { deviceType = f .deviceType; attribute = f .attribute; address = 0; attachedPhy = record { 0 = 0 } }
+fieldsOf false f = record { deviceType = f .deviceType; attribute = f .attribute; address = f .attachedAddress; attachedPhy = f .attachedPhy }
 
 -- what cause 6 leaves of a phy's fields: type up to 3, attribute up to 2, and not attached with address zero
 abbrev pub ranged : PhyFields → Bool
-ranged f = leb (f .device) 3 && (leb (f .attribute) 2 && (eqb (f .device) 0 || not (eqb (f .address) 0)))
+ranged f = leb (f .deviceType) 3 && (leb (f .attribute) 2 && (eqb (f .deviceType) 0 || not (eqb (f .address) 0)))
 
 -- 5: phy identifier or own address differs from position; then 6
 abbrev pub phyOf : ℕ → ℕ → ℕ → Discovered → Result Phy
-phyOf own i p (vacant result) = good (Vacant result)
-phyOf own i p (fields f) =
-    unless (eqb (f .identifier .0) p && eqb (f .own) own) (refusal 5 i p)
-    (unless (ranged (fieldsOf (eqb (f .device) 0) f)) (refusal 6 i p)
-    (good (Present (fieldsOf (eqb (f .device) 0) f))))
+phyOf ownAddress i p (vacant result) = good (Vacant result)
+phyOf ownAddress i p (fields f) =
+    unless (eqb (f .identifier .0) p && eqb (f .ownAddress) ownAddress) (refusal 5 i p)
+    (unless (ranged (fieldsOf (eqb (f .deviceType) 0) f)) (refusal 6 i p)
+    (good (Present (fieldsOf (eqb (f .deviceType) 0) f))))
 
--- the unit of phy p of expander i, whose address is `own`, at offset `at`
+-- the unit of phy p of expander i, whose address is `ownAddress`, at offset `at`
 unfoldable pub phyUnit : List ℕ → ℕ → ℕ → ℕ → ℕ → Result (Parsed Phy)
-phyUnit file own i p at =
+phyUnit file ownAddress i p at =
     then (placed i p (frameAt DiscoverResponse discoverRead file at)) (λ f.
-    then (phyOf own i p (f .value)) (λ φ.
+    then (phyOf ownAddress i p (f .value)) (λ φ.
     good (parsed φ (f .next))))
 
 -- the units of the last `count` phys of expander i, from phy p on
 unfoldable pub phyUnits : List ℕ → ℕ → ℕ → ℕ → ℕ → ℕ → Result (Parsed (List Phy))
-phyUnits file own i zero p at = good (parsed [] at)
-phyUnits file own i (suc count) p at =
-    then (phyUnit file own i p at) (λ u.
-    then (phyUnits file own i count (p + 1) (u .next)) (λ us.
+phyUnits file ownAddress i zero p at = good (parsed [] at)
+phyUnits file ownAddress i (suc count) p at =
+    then (phyUnit file ownAddress i p at) (λ u.
+    then (phyUnits file ownAddress i count (p + 1) (u .next)) (λ us.
     good (parsed (u .value ∷ us .value) (us .next))))
 
 -- an expander's fields: its address, and those of its REPORT GENERAL response
 abbrev pub unitOf : ℕ → General → ExpanderUnit
-unitOf own g = record { address = own; indexes = g .indexes; phys = g .phys; configurable = g .configurable }
+unitOf ownAddress g = record { address = ownAddress; routeIndexes = g .routeIndexes; phys = g .phys; configurable = g .configurable }
 
 -- 3 and 4, of an expander's fields, where `seen` are the addresses of the expanders before it: phy count outside its range; address
 -- zero or already used
@@ -103,7 +103,7 @@ expanderUnit most file seen i at =
     good (parsed u (g .next))))
 
 abbrev pub expanderOf : ExpanderUnit → List Phy → Expander
-expanderOf u φs = record { address = u .address; indexes = u .indexes; configurable = u .configurable; phys = φs }
+expanderOf u φs = record { address = u .address; routeIndexes = u .routeIndexes; configurable = u .configurable; phys = φs }
 
 -- the last `count` expanders, from expander i on; then bytes after the last unit
 unfoldable pub expanders : Setting → List ℕ → ℕ → ℕ → ℕ → List ℕ → Result Domain

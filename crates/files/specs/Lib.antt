@@ -3,8 +3,8 @@ pub mod Domain
 pub mod Settings
 pub mod File
 pub mod ShortFile
-pub mod Read
-pub mod Units
+pub mod ReadDomain
+pub mod UnitAnswers
 pub mod Rows
-pub mod Fill
-pub mod PhySet
+pub mod SecondReading
+pub mod PhyReplaced

@@ -18,7 +18,7 @@ use Rattle.files.specs.File.{domainRead}
 -- a phy's second word: bit 0 is 0 where it is vacant, and the result follows; else it is 1, and type, attribute and attached phy follow
 abbrev pub phyWord : Phy → ℕ
 phyWord (Vacant result) = 2 * result
-phyWord (Present f) = 1 + 2 * f .device + 8 * f .attribute + 32 * f .far .0
+phyWord (Present f) = 1 + 2 * f .deviceType + 8 * f .attribute + 32 * f .attachedPhy .0
 
 abbrev pub phyWords : List Phy → List ℕ
 phyWords [] = []
@@ -26,11 +26,11 @@ phyWords (φ ∷ φs) = addressOf φ ∷ phyWord φ ∷ phyWords φs
 
 -- an expander's second word: R, number of phys, configurable bit
 abbrev pub headWord : ℕ → ℕ → ℕ → ℕ
-headWord indexes phys configurable = indexes + 65536 * phys + 16777216 * configurable
+headWord routeIndexes phys configurable = routeIndexes + 65536 * phys + 16777216 * configurable
 
 unfoldable pub rowOf : Expander → List ℕ
 rowOf e =
-    e .address ∷ headWord (e .indexes) (length (e .phys)) (e .configurable)
+    e .address ∷ headWord (e .routeIndexes) (length (e .phys)) (e .configurable)
     ∷ (phyWords (e .phys) ++ replicate (256 - length (phyWords (e .phys))) 0)
 
 unfoldable pub rowsOf : Domain → List ℕ
@@ -41,11 +41,11 @@ rowsOf (e ∷ d) = rowOf e ++ rowsOf d
 abbrev pub phyIn : ℕ → ℕ → Phy
 phyIn address w =
     cond (eqb (w % 2) 0) (Vacant (w / 2 % 256))
-    (Present (record { device = w / 2 % 4; attribute = w / 8 % 4; address = address; far = record { 0 = w / 32 % 256 } }))
+    (Present (record { deviceType = w / 2 % 4; attribute = w / 8 % 4; address = address; attachedPhy = record { 0 = w / 32 % 256 } }))
 
 -- the phy that the two words of phy p of expander i hold, whether the expander has so many phys or not; words past the end are 0
-unfoldable pub phyHeld : List ℕ → ℕ → ℕ → Phy
-phyHeld ws i p = phyIn (getD ws (258 * i + 2 + 2 * p) 0) (getD ws (258 * i + 2 + 2 * p + 1) 0)
+unfoldable pub phyInRow : List ℕ → ℕ → ℕ → Phy
+phyInRow ws i p = phyIn (getD ws (258 * i + 2 + 2 * p) 0) (getD ws (258 * i + 2 + 2 * p + 1) 0)
 
 unfoldable pub physIn : ℕ → List ℕ → List Phy
 physIn zero ws = []
@@ -55,7 +55,7 @@ unfoldable pub rowIn : List ℕ → Expander
 rowIn ws =
     record {
       address = getD ws 0 0;
-      indexes = getD ws 1 0 % 65536;
+      routeIndexes = getD ws 1 0 % 65536;
       configurable = getD ws 1 0 / 16777216 % 2;
       phys = physIn (min 128 (getD ws 1 0 / 65536 % 256)) (drop 2 ws);
     }
@@ -69,7 +69,7 @@ domainIn ws = rowsIn (min 64 (length ws / 258)) ws
 
 -- w is the second word of expander i's row, or 0 where there is no such expander
 pub record HeadIn (d : Domain) (i w : ℕ) : Type 0 where
-  pub indexes : w % 65536 ≡ expanderAt d i .indexes
+  pub routeIndexes : w % 65536 ≡ expanderAt d i .routeIndexes
   pub phys : min 128 (w / 65536 % 256) ≡ length (expanderAt d i .phys)
   pub configurable : w / 16777216 % 2 ≡ expanderAt d i .configurable
 

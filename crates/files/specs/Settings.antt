@@ -12,7 +12,7 @@ within most n = leb 1 n && leb n most
 unfoldable pub inRange : Setting → Bool
 inRange setting = within 64 (setting .expanders) && (within 128 (setting .phys) && within 64 (setting .chain))
 
--- a setting in its range, in numbers: `range-iff` (proofs/Ranges)
+-- a setting in its range, in numbers: `range-iff` (proofs/SettingRanges)
 pub record InRange (setting : Setting) : Type 0 where
   pub expanders : (1 ≤ setting .expanders) × (setting .expanders ≤ 64)
   pub phys : (1 ≤ setting .phys) × (setting .phys ≤ 128)

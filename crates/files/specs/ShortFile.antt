@@ -17,10 +17,10 @@ module _ {A : Type 0} where
 
 -- from offset `at` on: the units of the last `count` phys of expander i, from phy p on, then `rest`, which starts after them
 unfoldable pub shortPhys : List ℕ → ℕ → ℕ → ℕ → ℕ → ℕ → (ℕ → List ℕ) → List ℕ
-shortPhys file own i zero p at rest = rest at
-shortPhys file own i (suc count) p at rest =
-    orStay (drop at file) (phyUnit file own i p at) (λ u.
-    shortFrame Discover (drop at file) ++ shortPhys file own i count (p + 1) (u .next) rest)
+shortPhys file ownAddress i zero p at rest = rest at
+shortPhys file ownAddress i (suc count) p at rest =
+    orStay (drop at file) (phyUnit file ownAddress i p at) (λ u.
+    shortFrame Discover (drop at file) ++ shortPhys file ownAddress i count (p + 1) (u .next) rest)
 
 -- from offset `at` on: the units of the last `count` expanders, from expander i on, and bytes after the last unit
 unfoldable pub shortExpanders : Setting → List ℕ → ℕ → ℕ → ℕ → List ℕ → List ℕ

@@ -14,16 +14,22 @@ ghost use mathlib.Core.List.{[]};
 ghost use Rattle.frames.specs.Refusals.{then};
 ghost use Rattle.files.specs.File.{phyUnits, expanders, domainRead};
 ghost use Rattle.files.specs.Rows.{readAnswer, countOf};
-ghost use Rattle.files.specs.Units.{expanderAnswer, physAnswer, physNext, expanderChecked};
+ghost use Rattle.files.specs.UnitAnswers.{expanderAnswer, physAnswer, physNext, expanderChecked};
 
-// The n phys of expander i, whose address is `own`, from offset `at` on; yields the place after them.
-pub(crate) fn check_phys(file: &[u8], own: u64, i: ExpanderNumber, n: u8, at: usize) -> PhysCheck
-    ensures { λ r. ⌜ physAnswer r ≡ physNext (phyUnits (now (file .entry)) own (i .0) n 0 at) ⌝ }
+// The n phys of expander i, whose address is `ownAddress`, from offset `at` on; yields the place after them.
+pub(crate) fn check_phys(
+    file: &[u8],
+    ownAddress: u64,
+    i: ExpanderNumber,
+    n: u8,
+    at: usize,
+) -> PhysCheck
+    ensures { λ r. ⌜ physAnswer r ≡ physNext (phyUnits (now (file .entry)) ownAddress (i .0) n 0 at) ⌝ }
 {
     let mut p: u8 = 0;
     let mut next = at;
     while p < n {
-        let unit = units::phy_unit(file, own, i, PhyId(p), next);
+        let unit = units::phy_unit(file, ownAddress, i, PhyId(p), next);
         match unit {
             PhyRead::Refused(r) => {
                 return PhysCheck::Refused(r);

@@ -19,18 +19,18 @@ pub use settings::widest;
 pub use units::is_ranged;
 pub use units::is_within;
 pub use units::test_unit;
+pub use view::attached_phy;
 pub use view::byte_at;
 pub use view::configurable_bit;
 pub use view::expander_address;
 pub use view::expander_count;
-pub use view::index_count;
 pub use view::phy_address;
 pub use view::phy_at;
 pub use view::phy_attribute;
-pub use view::phy_below;
 pub use view::phy_count;
-pub use view::phy_far;
+pub use view::phy_in_row;
 pub use view::phy_type;
+pub use view::route_indexes;
 pub use view::word_at;
 
 // A course's setting: the most expanders of a domain, the most phys of an expander, and the longest chain
@@ -44,10 +44,10 @@ pub struct Setting {
 // The fields of a phy that is not vacant: attached device type, routing attribute, attached
 // address, attached phy identifier.
 pub struct PhyFields {
-    pub device: u8,
+    pub deviceType: u8,
     pub attribute: u8,
     pub address: u64,
-    pub far: PhyId,
+    pub attachedPhy: PhyId,
 }
 
 // A vacant phy keeps its function result.
@@ -59,7 +59,7 @@ pub enum Phy {
 // The fields of an expander's unit: address, route indexes R, number of phys, configurable bit.
 pub struct ExpanderUnit {
     pub address: u64,
-    pub indexes: u16,
+    pub routeIndexes: u16,
     pub phys: u8,
     pub configurable: u8,
 }

@@ -9,7 +9,7 @@ ghost use mathlib.Core.Path.{_≡_};
 ghost use Rattle.frames.specs.Refusals.{refused, refusal};
 ghost use Rattle.frames.specs.Sizes.{sizeAnswer};
 ghost use Rattle.files.specs.Rows.{readAnswer};
-ghost use Rattle.files.specs.Units.{phyAnswer, expanderAnswer};
+ghost use Rattle.files.specs.UnitAnswers.{phyAnswer, expanderAnswer};
 
 // Number k of a frame's size, without a place.
 pub(crate) fn size_refused(k: u8) -> SizeRead

@@ -15,10 +15,10 @@ ghost use mathlib.Core.Path.{_≡_};
 ghost use Prim.Native.Nat.{_*_, _≤_};
 ghost use Rattle.frames.specs.Bytes.{byte};
 ghost use lib.ListN.{length, replicate};
-ghost use Rattle.files.specs.Units.{phyAnswer};
+ghost use Rattle.files.specs.UnitAnswers.{phyAnswer};
 ghost use Rattle.files.specs.Rows.{phyWord, headWord, RowsRead};
-ghost use Rattle.files.specs.PhySet.{PhySet};
-ghost use Rattle.files.specs.Fill.{phyGot, nextGot, physGot, domainGot, pasted, PhysPut, RowPut};
+ghost use Rattle.files.specs.PhyReplaced.{PhySet};
+ghost use Rattle.files.specs.SecondReading.{phyGot, nextGot, physGot, domainGot, pasted, PhysPut, RowPut};
 
 // The phy of a unit: vacant where the unit is refused.
 fn phy_got(unit: PhyRead) -> Phy
@@ -47,17 +47,17 @@ pub fn phy_word(phy: Phy) -> u64
     match phy {
         Phy::Vacant(result) => 2 * (result as u64),
         Phy::Present(f) => 1
-            + 2 * (f.device as u64)
+            + 2 * (f.deviceType as u64)
             + 8 * (f.attribute as u64)
-            + 32 * (f.far.0 as u64),
+            + 32 * (f.attachedPhy.0 as u64),
     }
 }
 
 // An expander's second word: R, number of phys, configurable bit.
 pub fn head_word(u: ExpanderUnit) -> u64
-    ensures { λ r. ⌜ r ≡ headWord (u .indexes) (u .phys) (u .configurable) ⌝ }
+    ensures { λ r. ⌜ r ≡ headWord (u .routeIndexes) (u .phys) (u .configurable) ⌝ }
 {
-    (u.indexes as u64) + 65536 * (u.phys as u64) + 16777216 * (u.configurable as u64)
+    (u.routeIndexes as u64) + 65536 * (u.phys as u64) + 16777216 * (u.configurable as u64)
 }
 
 // Zeros in every word.
@@ -72,14 +72,21 @@ pub fn clear(row: &mut [u64])
 }
 
 // Writes the words of expander i's n phys, and yields the place after them.
-fn put_phys(row: &mut [u64], file: &[u8], own: u64, i: ExpanderNumber, n: u8, at: usize) -> usize
+fn put_phys(
+    row: &mut [u64],
+    file: &[u8],
+    ownAddress: u64,
+    i: ExpanderNumber,
+    n: u8,
+    at: usize,
+) -> usize
     requires { ⌜ (n ≤ 128) × (length (now row) ≡ 258) ⌝ }
-    ensures { λ r. ⌜ PhysPut (physGot (now (file .entry)) own (i .0) n 0 at) r (now (row .entry)) (now (row .exit)) ⌝ }
+    ensures { λ r. ⌜ PhysPut (physGot (now (file .entry)) ownAddress (i .0) n 0 at) r (now (row .entry)) (now (row .exit)) ⌝ }
 {
     let mut p: u8 = 0;
     let mut next = at;
     while p < n {
-        let unit = units::phy_unit(file, own, i, PhyId(p), next);
+        let unit = units::phy_unit(file, ownAddress, i, PhyId(p), next);
         let phy = phy_got(unit);
         let k = 2 + 2 * (p as usize);
         row[k] = view::phy_address(phy);

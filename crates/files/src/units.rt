@@ -25,7 +25,7 @@ ghost use Rattle.frames.specs.Discovery.{fields};
 ghost use Rattle.files.specs.Lists.{isIn};
 ghost use Rattle.files.specs.Settings.{within};
 ghost use Rattle.files.specs.File.{sizeAt, fieldsOf, ranged, phyOf, phyUnit, unitTested, expanderUnit};
-ghost use Rattle.files.specs.Units.{phyAnswer, expanderAnswer, endsAt};
+ghost use Rattle.files.specs.UnitAnswers.{phyAnswer, expanderAnswer, endsAt};
 
 // Whether a file has n bytes from offset `at` on.
 fn has_bytes(file: &[u8], at: usize, n: usize) -> bool
@@ -57,10 +57,10 @@ fn size_at(kind: Response, file: &[u8], from: usize) -> SizeRead
 }
 
 // Whether cause 5 does not hold: the phy identifier is p, and the own address is this expander's.
-fn is_placed(f: Discover, own: u64, p: PhyId) -> bool
-    ensures { λ r. ⌜ r ≡ (eqb (f .identifier .0) (p .0) && eqb (f .own) own) ⌝ }
+fn is_placed(f: Discover, ownAddress: u64, p: PhyId) -> bool
+    ensures { λ r. ⌜ r ≡ (eqb (f .identifier .0) (p .0) && eqb (f .ownAddress) ownAddress) ⌝ }
 {
-    (f.identifier.0 == p.0) & (f.own == own)
+    (f.identifier.0 == p.0) & (f.ownAddress == ownAddress)
 }
 
 // Whether cause 6 does not hold of a phy's fields: type up to 3, attribute up to 2, and not attached with
@@ -68,35 +68,35 @@ fn is_placed(f: Discover, own: u64, p: PhyId) -> bool
 pub fn is_ranged(f: PhyFields) -> bool
     ensures { λ r. ⌜ r ≡ ranged f ⌝ }
 {
-    (f.device <= 3) & ((f.attribute <= 2) & ((f.device == 0) | (f.address != 0)))
+    (f.deviceType <= 3) & ((f.attribute <= 2) & ((f.deviceType == 0) | (f.address != 0)))
 }
 
 // The fields of a phy; where nothing is attached, with address 0 and phy 0.
 fn fields_of(f: Discover) -> PhyFields
-    ensures { λ r. ⌜ r ≡ fieldsOf (eqb (f .device) 0) f ⌝ }
+    ensures { λ r. ⌜ r ≡ fieldsOf (eqb (f .deviceType) 0) f ⌝ }
 {
-    if f.device == 0 {
+    if f.deviceType == 0 {
         return PhyFields {
-            device: f.device,
+            deviceType: f.deviceType,
             attribute: f.attribute,
             address: 0,
-            far: PhyId(0),
+            attachedPhy: PhyId(0),
         };
     }
-    let far = f.far;
+    let attached_phy = f.attachedPhy;
     PhyFields {
-        device: f.device,
+        deviceType: f.deviceType,
         attribute: f.attribute,
-        address: f.attached,
-        far: far,
+        address: f.attachedAddress,
+        attachedPhy: attached_phy,
     }
 }
 
 // Causes 5 and 6 of a phy that is not vacant; `next` is the place after its unit.
-fn phy_of(f: Discover, own: u64, i: ExpanderNumber, p: PhyId, next: usize) -> PhyRead
-    ensures { λ r. ⌜ phyAnswer r ≡ then (phyOf own (i .0) (p .0) (fields f)) (endsAt next) ⌝ }
+fn phy_of(f: Discover, ownAddress: u64, i: ExpanderNumber, p: PhyId, next: usize) -> PhyRead
+    ensures { λ r. ⌜ phyAnswer r ≡ then (phyOf ownAddress (i .0) (p .0) (fields f)) (endsAt next) ⌝ }
 {
-    if !is_placed(f, own, p) {
+    if !is_placed(f, ownAddress, p) {
         return refusals::phy_refused(5, i, p);
     }
     let phy = fields_of(f);
@@ -106,9 +106,15 @@ fn phy_of(f: Discover, own: u64, i: ExpanderNumber, p: PhyId, next: usize) -> Ph
     PhyRead::Read(Phy::Present(phy), next)
 }
 
-// The unit of phy p of expander i, whose address is `own`, at offset `at`: causes 1, 2, 5 and 6.
-pub(crate) fn phy_unit(file: &[u8], own: u64, i: ExpanderNumber, p: PhyId, at: usize) -> PhyRead
-    ensures { λ r. ⌜ phyAnswer r ≡ phyUnit (now (file .entry)) own (i .0) (p .0) at ⌝ }
+// The unit of phy p of expander i, whose address is `ownAddress`, at offset `at`: causes 1, 2, 5 and 6.
+pub(crate) fn phy_unit(
+    file: &[u8],
+    ownAddress: u64,
+    i: ExpanderNumber,
+    p: PhyId,
+    at: usize,
+) -> PhyRead
+    ensures { λ r. ⌜ phyAnswer r ≡ phyUnit (now (file .entry)) ownAddress (i .0) (p .0) at ⌝ }
 {
     let size = size_at(Response::Discover, file, at);
     match size {
@@ -119,7 +125,7 @@ pub(crate) fn phy_unit(file: &[u8], own: u64, i: ExpanderNumber, p: PhyId, at: u
             match frame {
                 DiscoverRead::Refused(r) => refusals::phy_refused(r.number, i, p),
                 DiscoverRead::Vacant(result) => PhyRead::Read(Phy::Vacant(result), next),
-                DiscoverRead::Read(f) => phy_of(f, own, i, p, next),
+                DiscoverRead::Read(f) => phy_of(f, ownAddress, i, p, next),
             }
         }
     }
@@ -140,10 +146,10 @@ pub(crate) fn is_in(seen: &[u64], a: u64) -> bool
 }
 
 // Whether the address is not zero and not among those seen.
-fn is_free(seen: &[u64], own: u64) -> bool
-    ensures { λ r. ⌜ r ≡ (not (eqb own 0) && not (isIn own (now (seen .entry)))) ⌝ }
+fn is_free(seen: &[u64], ownAddress: u64) -> bool
+    ensures { λ r. ⌜ r ≡ (not (eqb ownAddress 0) && not (isIn ownAddress (now (seen .entry)))) ⌝ }
 {
-    (own != 0) & !is_in(seen, own)
+    (ownAddress != 0) & !is_in(seen, ownAddress)
 }
 
 // Whether n is 1 to `most`.
@@ -186,7 +192,7 @@ pub(crate) fn expander_unit(
     if !has_bytes(file, at, 8) {
         return refusals::expander_refused(1, i);
     }
-    let own = frames::address_at(file, at);
+    let own_address = frames::address_at(file, at);
     let from = at + 8;
     let size = size_at(Response::ReportGeneral, file, from);
     match size {
@@ -198,8 +204,8 @@ pub(crate) fn expander_unit(
                 GeneralRead::Refused(r) => refusals::expander_refused(r.number, i),
                 GeneralRead::Read(g) => {
                     let u = ExpanderUnit {
-                        address: own,
-                        indexes: g.indexes,
+                        address: own_address,
+                        routeIndexes: g.routeIndexes,
                         phys: g.phys,
                         configurable: g.configurable,
                     };

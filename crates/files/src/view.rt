@@ -6,8 +6,8 @@ use frames::PhyId;
 ghost use mathlib.Core.Path.{_≡_};
 ghost use Prim.Native.Nat.{_≤_, _<_};
 ghost use lib.ListN.{length, getD};
-ghost use Rattle.files.specs.Domain.{expanderAt, phyAt, typeOf, attributeOf, addressOf, farOf};
-ghost use Rattle.files.specs.Rows.{phyIn, phyHeld, domainIn, HeadIn};
+ghost use Rattle.files.specs.Domain.{expanderAt, phyAt, typeOf, attributeOf, addressOf, attachedPhyOf};
+ghost use Rattle.files.specs.Rows.{phyIn, phyInRow, domainIn, HeadIn};
 
 // The attached device type; 0 where the phy is vacant.
 pub fn phy_type(f: Phy) -> u8
@@ -15,7 +15,7 @@ pub fn phy_type(f: Phy) -> u8
 {
     match f {
         Phy::Vacant(_) => 0,
-        Phy::Present(x) => x.device,
+        Phy::Present(x) => x.deviceType,
     }
 }
 
@@ -40,12 +40,12 @@ pub fn phy_address(f: Phy) -> u64
 }
 
 // The attached phy identifier; 0 where the phy is vacant.
-pub fn phy_far(f: Phy) -> PhyId
-    ensures { λ r. ⌜ r .0 ≡ farOf f ⌝ }
+pub fn attached_phy(f: Phy) -> PhyId
+    ensures { λ r. ⌜ r .0 ≡ attachedPhyOf f ⌝ }
 {
     match f {
         Phy::Vacant(_) => PhyId(0),
-        Phy::Present(x) => x.far,
+        Phy::Present(x) => x.attachedPhy,
     }
 }
 
@@ -108,8 +108,8 @@ pub fn configurable_bit(rows: &[u64], i: ExpanderNumber) -> u8
 }
 
 // How many route indexes each phy of expander i has; 0 where there is no such expander.
-pub fn index_count(rows: &[u64], i: ExpanderNumber) -> u16
-    ensures { λ r. ⌜ r ≡ expanderAt (domainIn (now (rows .entry))) (i .0) .indexes ⌝ }
+pub fn route_indexes(rows: &[u64], i: ExpanderNumber) -> u16
+    ensures { λ r. ⌜ r ≡ expanderAt (domainIn (now (rows .entry))) (i .0) .routeIndexes ⌝ }
 {
     (head_word(rows, i) % 65536) as u16
 }
@@ -133,17 +133,17 @@ fn phy_from(address: u64, w: u64) -> Phy
         return Phy::Vacant((w / 2 % 256) as u8);
     }
     Phy::Present(PhyFields {
-        device: (w / 2 % 4) as u8,
+        deviceType: (w / 2 % 4) as u8,
         attribute: (w / 8 % 4) as u8,
         address: address,
-        far: PhyId((w / 32 % 256) as u8),
+        attachedPhy: PhyId((w / 32 % 256) as u8),
     })
 }
 
 // The phy that the two words of phy p of expander i hold: phy p of expander i, where there is such a phy. The
 // number of phys is not looked at.
-pub fn phy_below(rows: &[u64], i: ExpanderNumber, p: PhyId) -> Phy
-    ensures { λ r. ⌜ r ≡ phyHeld (now (rows .entry)) (i .0) (p .0) ⌝ }
+pub fn phy_in_row(rows: &[u64], i: ExpanderNumber, p: PhyId) -> Phy
+    ensures { λ r. ⌜ r ≡ phyInRow (now (rows .entry)) (i .0) (p .0) ⌝ }
 {
     let k = 258 * (i.0 as usize) + 2 + 2 * (p.0 as usize);
     phy_from(word_at(rows, k), word_at(rows, k + 1))
@@ -154,7 +154,7 @@ pub fn phy_at(rows: &[u64], i: ExpanderNumber, p: PhyId) -> Phy
     ensures { λ r. ⌜ r ≡ phyAt (domainIn (now (rows .entry))) (i .0) (p .0) ⌝ }
 {
     if p.0 < phy_count(rows, i) {
-        return phy_below(rows, i, p);
+        return phy_in_row(rows, i, p);
     }
     Phy::Vacant(0)
 }

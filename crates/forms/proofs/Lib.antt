@@ -1,13 +1,13 @@
-pub mod Held
-pub mod Tested
-pub mod Compared
-pub mod Written
-pub mod Legal
-pub mod Matched
-pub mod Promised
-pub mod Normals
-pub mod Traces
-pub mod Backs
-pub mod Exact
-pub mod Excess
-mod Pair
+pub mod FormRows
+pub mod BadPlaces
+pub mod WordsCompared
+pub mod FormWords
+pub mod FormDomains
+pub mod RightWords
+pub mod FormCallOutcomes
+pub mod NormalDomains
+pub mod NormalTraces
+pub mod FormRoundTrip
+pub mod AcceptedForms
+pub mod TooManyWords
+mod PairForm

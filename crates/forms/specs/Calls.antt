@@ -5,7 +5,7 @@ use mathlib.Core.List.{List, _++_}
 use lib.ListN.{length, drop}
 use Rattle.frames.specs.Refusals.{Result, refused, good, then}
 use Rattle.files.specs.Domain.{Domain}
-use Rattle.tracing.specs.Many.{requestCount}
+use Rattle.tracing.specs.RequestLists.{requestCount}
 use Rattle.forms.specs.declared.FormMade.{FormMade}
 use Rattle.forms.specs.declared.FormMade.the-variants.{Refused, Counts}
 use Rattle.forms.specs.Form.{formOf}

@@ -11,19 +11,19 @@ use Rattle.files.specs.Domain.{Expander, Domain, addressOf, numberOf}
 
 -- an expander's second word, from the top: R (16 bits), phy count (8), zeros
 abbrev pub headField : ℕ → ℕ → ℕ
-headField indexes phys = 1099511627776 * (phys + 256 * indexes)
+headField routeIndexes phys = 1099511627776 * (phys + 256 * routeIndexes)
 
 -- a phy's second word, from the top: vacant bit, type (2 bits), attribute (2), attached expander (6), attached phy (8), zeros
 abbrev pub phyField : ℕ → ℕ → ℕ → ℕ → ℕ → ℕ
-phyField vacant type attribute expander far = 35184372088832 * (far + 256 * (expander + 64 * (attribute + 4 * (type + 4 * vacant))))
+phyField vacant type attribute expander attachedPhy = 35184372088832 * (attachedPhy + 256 * (expander + 64 * (attribute + 4 * (type + 4 * vacant))))
 
 -- the number of the attached expander; 0 where the phy is attached to none
 abbrev pub attachedNumber : Domain → PhyFields → ℕ
-attachedNumber d f = cond (leb 2 (f .device)) (numberOf d (f .address)) 0
+attachedNumber d f = cond (leb 2 (f .deviceType)) (numberOf d (f .address)) 0
 
 abbrev pub formPhy : Domain → Phy → ℕ
 formPhy d (Vacant result) = phyField 1 0 0 0 0
-formPhy d (Present f) = phyField 0 (f .device) (f .attribute) (attachedNumber d f) (f .far .0)
+formPhy d (Present f) = phyField 0 (f .deviceType) (f .attribute) (attachedNumber d f) (f .attachedPhy .0)
 
 -- for each phy its attached address, and a word with its other fields
 abbrev pub formPhys : Domain → List Phy → List ℕ
@@ -33,7 +33,7 @@ formPhys d (φ ∷ φs) = addressOf φ ∷ formPhy d φ ∷ formPhys d φs
 -- for each expander its address, a word with R and phy count, and its phys
 unfoldable pub formExpanders : Domain → Domain → List ℕ
 formExpanders d [] = []
-formExpanders d (e ∷ es) = e .address ∷ headField (e .indexes) (length (e .phys)) ∷ (formPhys d (e .phys) ++ formExpanders d es)
+formExpanders d (e ∷ es) = e .address ∷ headField (e .routeIndexes) (length (e .phys)) ∷ (formPhys d (e .phys) ++ formExpanders d es)
 
 -- the form of a domain
 unfoldable pub formOf : Domain → List ℕ
@@ -42,8 +42,8 @@ formOf d = formExpanders d d
 -- back: any words are a domain, of at most 64 expanders with at most 128 phys each. Words past the end are 0. What a form leaves out
 -- (configurable bits and the results of vacant phys) is 1; where nothing is attached, address and attached phy are 0
 abbrev pub fieldsBack : Bool → ℕ → ℕ → PhyFields
-fieldsBack true address v = record { device = v / 65536 % 4; attribute = v / 16384 % 4; address = 0; far = record { 0 = 0 } }
-fieldsBack false address v = record { device = v / 65536 % 4; attribute = v / 16384 % 4; address = address; far = record { 0 = v % 256 } }
+fieldsBack true address v = record { deviceType = v / 65536 % 4; attribute = v / 16384 % 4; address = 0; attachedPhy = record { 0 = 0 } }
+fieldsBack false address v = record { deviceType = v / 65536 % 4; attribute = v / 16384 % 4; address = address; attachedPhy = record { 0 = v % 256 } }
 
 abbrev pub phyBy : Bool → ℕ → ℕ → Phy
 phyBy true address v = Vacant 1
@@ -64,7 +64,7 @@ unfoldable pub expanderBack : List ℕ → Expander
 expanderBack ws =
     record {
       address = getD ws 0 0;
-      indexes = getD ws 1 0 / 281474976710656 % 65536;
+      routeIndexes = getD ws 1 0 / 281474976710656 % 65536;
       configurable = 1;
       phys = physBack (countIn ws) (drop 2 ws);
     }

@@ -1,5 +1,5 @@
 pub mod Form
-pub mod Formed
+pub mod FormCalls
 pub mod Calls
-pub mod Opened
-pub mod Normal
+pub mod FormRows
+pub mod NormalDomain

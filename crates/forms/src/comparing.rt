@@ -11,21 +11,21 @@ ghost use Prim.Native.Nat.{_≤_, _<_};
 ghost use Rattle.files.specs.Domain.{expanderAt};
 ghost use Rattle.files.specs.declared.Phy.the-variants.{Present};
 ghost use Rattle.files.specs.Rows.{domainIn};
-ghost use Rattle.forms.specs.Opened.{SmallPhy, rightField, rightPhys, rightExpanders};
+ghost use Rattle.forms.specs.FormRows.{SmallPhy, rightField, rightPhys, rightExpanders};
 
 // Whether v is the second word of a phy with these fields.
 fn is_right_present(rows: &[u64], x: PhyFields, v: u64) -> bool
     requires { ⌜ SmallPhy (Present x) ⌝ }
     ensures { λ r. ⌜ r ≡ rightField (domainIn (now (rows .entry))) (Present x) v ⌝ }
 {
-    if x.device < 2 {
-        return v == writing::pack(x.device, x.attribute, 0, x.far.0);
+    if x.deviceType < 2 {
+        return v == writing::pack(x.deviceType, x.attribute, 0, x.attachedPhy.0);
     }
     let n = (v / 9007199254740992 % 64) as u8;
     if wiring::expander_address(rows, ExpanderNumber(n)) != x.address {
         return false;
     }
-    v == writing::pack(x.device, x.attribute, n, x.far.0)
+    v == writing::pack(x.deviceType, x.attribute, n, x.attachedPhy.0)
 }
 
 // Whether v is the second word of a phy.
@@ -74,7 +74,7 @@ pub(crate) fn are_right(rows: &[u64], ws: &[u64]) -> bool
         if reading::word_at(ws, at) != wiring::expander_address(rows, x) {
             return false;
         }
-        if reading::word_at(ws, at + 1) != writing::head_field(wiring::index_count(rows, x), m) {
+        if reading::word_at(ws, at + 1) != writing::head_field(wiring::route_indexes(rows, x), m) {
             return false;
         }
         if !are_right_phys(rows, x, ws, at + 2) {

@@ -1,16 +1,16 @@
 // The compact form of an accepted domain: decode once, trace many.
 mod comparing;
+mod form_opening;
+mod list_calls;
 mod making;
-mod many_calls;
-mod opening;
 mod reading;
 mod table_calls;
 mod testing;
 mod trace_calls;
 mod writing;
 
+pub use list_calls::form_list;
 pub use making::make_form;
-pub use many_calls::form_list;
 pub use table_calls::form_tables;
 pub use trace_calls::form_trace;
 use wiring::Refusal;

@@ -10,8 +10,8 @@ ghost use Rattle.frames.specs.Bytes.{byte};
 ghost use Rattle.frames.specs.Refusals.{then};
 ghost use Rattle.files.specs.Rows.{domainIn};
 ghost use Rattle.wiring.specs.Checks.{FileRoom};
-ghost use Rattle.tables.specs.Prepared.{judgedIn};
-ghost use Rattle.forms.specs.Formed.{formFor, formCall};
+ghost use Rattle.tables.specs.PreparedLists.{judgedIn};
+ghost use Rattle.forms.specs.FormCalls.{formFor, formCall};
 ghost use Rattle.forms.specs.Calls.{FormDone};
 
 // Causes 7 to 12, 23 and 14 of the domain in rows, then 16, then its form.

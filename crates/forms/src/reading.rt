@@ -9,7 +9,7 @@ ghost use lib.ListN.{length, getD, take, drop};
 ghost use lib.Seq.{sets};
 ghost use Rattle.files.specs.Rows.{phyWords, domainIn};
 ghost use Rattle.forms.specs.Form.{phyBack, physBack, countIn, expanderBack, formIn};
-ghost use Rattle.forms.specs.Opened.{RowHolds};
+ghost use Rattle.forms.specs.FormRows.{RowHolds};
 
 // The word at k, 0 past the end.
 pub(crate) fn word_at(ws: &[u64], k: usize) -> u64
@@ -28,22 +28,22 @@ fn phy_back(address: u64, v: u64) -> Phy
     if v / 262144 % 2 == 1 {
         return Phy::Vacant(1);
     }
-    let device = (v / 65536 % 4) as u8;
+    let device_type = (v / 65536 % 4) as u8;
     let attribute = (v / 16384 % 4) as u8;
-    if device == 0 {
+    if device_type == 0 {
         return Phy::Present(PhyFields {
-            device: device,
+            deviceType: device_type,
             attribute: attribute,
             address: 0,
-            far: PhyId(0),
+            attachedPhy: PhyId(0),
         });
     }
-    let far = (v % 256) as u8;
+    let attached_phy = (v % 256) as u8;
     Phy::Present(PhyFields {
-        device: device,
+        deviceType: device_type,
         attribute: attribute,
         address: address,
-        far: PhyId(far),
+        attachedPhy: PhyId(attached_phy),
     })
 }
 
@@ -101,7 +101,7 @@ fn put_row(row: &mut [u64], ws: &[u64], at: usize) -> usize
     let r = (word_at(ws, at + 1) / 281474976710656 % 65536) as u16;
     let u = ExpanderUnit {
         address: word_at(ws, at),
-        indexes: r,
+        routeIndexes: r,
         phys: n,
         configurable: 1,
     };

@@ -1,5 +1,5 @@
 // Tables over a form.
-use crate::opening;
+use crate::form_opening;
 use crate::reading;
 use tables::TablesGiven;
 use wiring::Setting;
@@ -7,10 +7,10 @@ ghost use Prim.Native.Nat.{_≤_};
 ghost use mathlib.Core.Path.{_≡_};
 ghost use lib.ListN.{length};
 ghost use Rattle.tables.specs.Entries.{entries, roomOf};
-ghost use Rattle.tables.specs.Judge.{TablesDone};
+ghost use Rattle.tables.specs.JudgingCall.{TablesDone};
 ghost use Rattle.forms.specs.Form.{formIn};
-ghost use Rattle.forms.specs.Formed.{formTables};
-ghost use Rattle.forms.specs.Opened.{FormRoom};
+ghost use Rattle.forms.specs.FormCalls.{formTables};
+ghost use Rattle.forms.specs.FormRows.{FormRoom};
 
 // The tables of a form, with room for the rows of its n expanders and for who has which address.
 fn tables_in(
@@ -30,13 +30,13 @@ fn tables_in(
     if !wiring::is_in_range(setting) {
         return TablesGiven::Refused(wiring::refused(22));
     }
-    if !opening::open_form(setting, form, rows, n) {
+    if !form_opening::open_form(setting, form, rows, n) {
         return TablesGiven::Refused(wiring::refused(1));
     }
     let e = 258 * (n as usize);
     let chain = setting.chain;
     let answer = tables::give_rows(&rows[..e], first, low, words, bits, chain);
-    opening::as_tables(answer)
+    form_opening::as_tables(answer)
 }
 
 // The tables of a form of few expanders: at most 2, or at most 8.

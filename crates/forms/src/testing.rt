@@ -7,7 +7,7 @@ ghost use mathlib.Core.Path.{_≡_};
 ghost use Rattle.files.specs.Lists.{any};
 ghost use Rattle.files.specs.Domain.{expanderAt};
 ghost use Rattle.files.specs.Rows.{domainIn};
-ghost use Rattle.forms.specs.Formed.{badPhy, badUnit, unread};
+ghost use Rattle.forms.specs.FormCalls.{badPhy, badUnit, unread};
 
 // Whether 6 holds of a phy.
 fn is_bad_phy(f: Phy) -> bool

@@ -1,5 +1,5 @@
 // Traces over a form.
-use crate::opening;
+use crate::form_opening;
 use crate::reading;
 use tracing::TraceAnswer;
 use wiring::ExpanderNumber;
@@ -11,8 +11,8 @@ ghost use lib.ListN.{length};
 ghost use Rattle.tables.specs.Entries.{entries};
 ghost use Rattle.tracing.specs.Trace.{request, TraceDone};
 ghost use Rattle.forms.specs.Form.{formIn};
-ghost use Rattle.forms.specs.Formed.{formTrace};
-ghost use Rattle.forms.specs.Opened.{FormRoom};
+ghost use Rattle.forms.specs.FormCalls.{formTrace};
+ghost use Rattle.forms.specs.FormRows.{FormRoom};
 
 // A trace over a form, with room for the rows of its n expanders and for who has which address.
 fn trace_in(
@@ -37,7 +37,7 @@ fn trace_in(
     if !wiring::is_in_range(setting) {
         return TraceAnswer::Refused(wiring::refused(22));
     }
-    if !opening::open_form(setting, form, rows, n) {
+    if !form_opening::open_form(setting, form, rows, n) {
         return TraceAnswer::Refused(wiring::refused(1));
     }
     let e = 258 * (n as usize);
@@ -54,7 +54,7 @@ fn trace_in(
         passed,
         chain,
     );
-    opening::as_trace(answer)
+    form_opening::as_trace(answer)
 }
 
 // A trace over a form of few expanders: at most 2, or at most 8.

@@ -9,24 +9,24 @@ ghost use lib.ListN.{length, drop};
 ghost use lib.Seq.{sets};
 ghost use Rattle.files.specs.Domain.{expanderAt, phyAt};
 ghost use Rattle.files.specs.Rows.{domainIn};
-ghost use Rattle.wiring.specs.Addresses.{IndexedFirst};
+ghost use Rattle.wiring.specs.AddressIndex.{IndexedFirst};
 ghost use Rattle.forms.specs.Form.{headField, phyField, formPhy, formPhys, formOf};
 
 // The second word of a phy that is not vacant.
-pub(crate) fn pack(device: u8, attribute: u8, expander: u8, far: u8) -> u64
-    requires { ⌜ (device < 4) × ((attribute < 4) × (expander ≤ 64)) ⌝ }
-    ensures { λ r. ⌜ r ≡ phyField 0 device attribute expander far ⌝ }
+pub(crate) fn pack(deviceType: u8, attribute: u8, expander: u8, attachedPhy: u8) -> u64
+    requires { ⌜ (deviceType < 4) × ((attribute < 4) × (expander ≤ 64)) ⌝ }
+    ensures { λ r. ⌜ r ≡ phyField 0 deviceType attribute expander attachedPhy ⌝ }
 {
-    let low = (far as u64) + 256 * (expander as u64);
-    let high = (attribute as u64) + 4 * (device as u64);
+    let low = (attachedPhy as u64) + 256 * (expander as u64);
+    let high = (attribute as u64) + 4 * (deviceType as u64);
     35184372088832 * (low + 16384 * high)
 }
 
 // An expander's second word.
-pub(crate) fn head_field(indexes: u16, phys: u8) -> u64
-    ensures { λ r. ⌜ r ≡ headField indexes phys ⌝ }
+pub(crate) fn head_field(routeIndexes: u16, phys: u8) -> u64
+    ensures { λ r. ⌜ r ≡ headField routeIndexes phys ⌝ }
 {
-    1099511627776 * ((phys as u64) + 256 * (indexes as u64))
+    1099511627776 * ((phys as u64) + 256 * (routeIndexes as u64))
 }
 
 // The second word of phy p of expander i. `first` has who has which address.
@@ -37,11 +37,11 @@ fn form_phy(rows: &[u64], first: &[u16], i: ExpanderNumber, p: PhyId) -> u64
     match wiring::phy_at(rows, i, p) {
         Phy::Vacant(_) => 9223372036854775808,
         Phy::Present(x) => {
-            if x.device < 2 {
-                return pack(x.device, x.attribute, 0, x.far.0);
+            if x.deviceType < 2 {
+                return pack(x.deviceType, x.attribute, 0, x.attachedPhy.0);
             }
-            let n = wiring::far_number(rows, first, i, p);
-            pack(x.device, x.attribute, n.0, x.far.0)
+            let n = wiring::attached_expander(rows, first, i, p);
+            pack(x.deviceType, x.attribute, n.0, x.attachedPhy.0)
         }
     }
 }
@@ -89,7 +89,7 @@ pub(crate) fn put_form(rows: &[u64], first: &[u16], words: &mut [u64])
     while i < n {
         let x = ExpanderNumber(i);
         words[to] = wiring::expander_address(rows, x);
-        words[to + 1] = head_field(wiring::index_count(rows, x), wiring::phy_count(rows, x));
+        words[to + 1] = head_field(wiring::route_indexes(rows, x), wiring::phy_count(rows, x));
         to = put_phys(rows, first, x, words, to + 2);
         i += 1;
     }

@@ -91,16 +91,16 @@ discover-alike : (s t : List ℕ) → Alike 52 s t → discoverIn s ≡ discover
 unfolding discoverFixed
 discover-alike s t h =
     let a : (k : ℕ) → k < 52 → 4 ≤ k → byte s k ≡ byte t k = λ k l m. h k l (λ e. omega arith) in
-    let own = number-alike s t 16 16 8 (λ j l. a (16 + j) (omega arith) (omega arith)) in
-    let far = number-alike s t 24 24 8 (λ j l. a (24 + j) (omega arith) (omega arith)) in
+    let ownAddress = number-alike s t 16 16 8 (λ j l. a (16 + j) (omega arith) (omega arith)) in
+    let attachedAddress = number-alike s t 24 24 8 (λ j l. a (24 + j) (omega arith) (omega arith)) in
     rw (
       h 0 (omega arith) (λ e. omega arith),
       h 1 (omega arith) (λ e. omega arith),
       h 2 (omega arith) (λ e. omega arith),
       a 9 (omega arith) (omega arith),
       a 12 (omega arith) (omega arith),
-      own,
-      far,
+      ownAddress,
+      attachedAddress,
       a 32 (omega arith) (omega arith),
       a 44 (omega arith) (omega arith),
     )

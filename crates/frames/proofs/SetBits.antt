@@ -12,7 +12,7 @@ use lib.Seq.{set-append-left}
 use Rattle.frames.specs.Bits.{numberBits, bitsOf, withBit}
 use Rattle.frames.proofs.PackedBits.{pow-suc, length-numberBits}
 use Rattle.frames.proofs.NumberBits.{bit-set, low-lt}
-use Rattle.frames.proofs.Packing.{set-past}
+use Rattle.frames.proofs.PackedRows.{set-past}
 
 -- the weight of a bit in its byte
 pub weighed : (r : ℕ) → ((1 * 2 ^ (7 - r)) % 2 ^ 64 ≡ 2 ^ (7 - r)) × ((0 < (1 * 2 ^ (7 - r)) % 2 ^ 64) × ((1 * 2 ^ (7 - r)) % 2 ^ 64 ≤ 128))

@@ -57,7 +57,7 @@ pub enum SizeRead {
 // The fields of a REPORT GENERAL response: how many route indexes each phy has (R), how many phys
 // there are, and the configurable bit.
 pub struct General {
-    pub indexes: u16,
+    pub routeIndexes: u16,
     pub phys: u8,
     pub configurable: u8,
 }
@@ -71,8 +71,8 @@ pub enum GeneralRead {
 // The fields that the SAS-2 reader shows of a long REPORT GENERAL response: TABLE TO TABLE SUPPORTED and
 // CONFIGURES OTHERS, a bit each.
 pub struct LongGeneral {
-    pub table_to_table: u8,
-    pub configures_others: u8,
+    pub tableToTable: u8,
+    pub configuresOthers: u8,
 }
 
 // What the SAS-2 reader of a REPORT GENERAL response answers: a short frame has no more fields.
@@ -86,10 +86,10 @@ pub enum GeneralReadSas2 {
 // address, attached phy identifier, routing attribute.
 pub struct Discover {
     pub identifier: PhyId,
-    pub device: u8,
-    pub own: u64,
-    pub attached: u64,
-    pub far: PhyId,
+    pub deviceType: u8,
+    pub ownAddress: u64,
+    pub attachedAddress: u64,
+    pub attachedPhy: PhyId,
     pub attribute: u8,
 }
 

@@ -10,14 +10,14 @@ use lib.ListN.{length, getD, drop, length-drop, drop-of-length-le}
 use lib.Seq.{drop-drop}
 use lib.Dec.{leb}
 use borrow.Author.Tests.{le-leb, lt-leb}
-use Rattle.tables.specs.Wiring.{Domain}
-use Rattle.tables.specs.Filling.{Put}
+use Rattle.tables.specs.WiringDefinitions.{Domain}
+use Rattle.tables.specs.GrowingLists.{WordsPut}
 use Rattle.listing.specs.declared.Cursor.{Cursor}
 use Rattle.listing.specs.Text.{lineOf}
 use Rattle.listing.specs.Lines.{Entry, wordLines, textOf, fitting, entriesFrom, linesFrom, cursorAt, cursorAfter, chunkFrom, chunksFrom, ChunkPut}
 use Rattle.listing.proofs.Cursors.{entries-after}
-use Rattle.listing.proofs.Puts.{Going, go-start, go-turn, go-end, put-within}
-use Rattle.listing.proofs.Numbers.{line-short}
+use Rattle.listing.proofs.BytesPut.{Going, go-start, go-turn, go-end, put-within}
+use Rattle.listing.proofs.Digits.{line-short}
 use Rattle.files.proofs.OneMore.{drop-next}
 
 module _ (end : ℕ) where
@@ -115,7 +115,7 @@ module _ (ws : List ℕ) where
   module _ {es₀ : List Entry} {w₀ : ℕ} {out₀ : List ℕ} {es : List Entry} {w : ℕ} {out : List ℕ} {end : ℕ} (g : Putting es₀ w₀ out₀ es w out end) where
     -- one line more
     pub putting-line : {out' : List ℕ} {end' : ℕ} (e : Entry) (es' : List Entry) → es ≡ e ∷ es' → w < length ws → end ≤ 65456
-        → end + 80 ≤ length out → Put out out' end end' (lineOf (e .expander) (e .phy) (e .index) (getD ws w 0))
+        → end + 80 ≤ length out → WordsPut out out' end end' (lineOf (e .expander) (e .phy) (e .index) (getD ws w 0))
         → Putting es₀ w₀ out₀ es' (w + 1) out' end'
     putting-line {out'} {end'} e es' q h f room u =
         let l : List ℕ = lineOf (e .expander) (e .phy) (e .index) (getD ws w 0) in

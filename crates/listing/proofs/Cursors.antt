@@ -10,9 +10,9 @@ use native.Mathlib.Omega.{arith}
 use lib.ListN.{length, drop, List·getD-eq-default}
 use lib.Dec.{ltb}
 use borrow.Author.Tests.{ltb-false}
-use Rattle.tables.specs.Wiring.{Phy, Vacant, Domain, Expander, noExpander, expanderAt, routes, Place, place, phyPlaces, placesFrom}
+use Rattle.tables.specs.WiringDefinitions.{Phy, Vacant, Domain, Expander, noExpander, expanderAt, isTable, Place, place, phyPlaces, placesFrom}
 use Rattle.tables.specs.Tables.{size}
-use Rattle.tables.proofs.Puts.{phys-next, phys-last, from-next, from-last, size-by}
+use Rattle.tables.proofs.TablesPut.{phys-next, phys-last, from-next, from-last, size-by}
 use Rattle.listing.specs.declared.Cursor.{Cursor}
 use Rattle.listing.specs.Lines.{Entry, entry, tableEntries, placeEntries, placesAfter, entriesOn, entriesFrom, cursor, nextPlace, cursorAt, cursorAfter}
 
@@ -26,7 +26,7 @@ module _ (d : Domain) where
 
   -- past the last phy there is no entry
   size-past : (i p : ℕ) → phys i ≤ p → size d (place i p) ≡ 0
-  size-past i p h = size-by d i p {b = false} (ap (λ (φ : Phy). routes 2 φ) (List·getD-eq-default (expanderAt d i .phys) (Vacant 0) h))
+  size-past i p h = size-by d i p {b = false} (ap (λ (φ : Phy). isTable φ) (List·getD-eq-default (expanderAt d i .phys) (Vacant 0) h))
 
   -- the phy of a cursor has an entry there
   pub entry-here : (i p k : ℕ) → k < size d (place i p) → entriesOn d i p k ≡ entry i p k ∷ entriesOn d i p (k + 1)

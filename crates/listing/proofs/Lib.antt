@@ -1,6 +1,6 @@
-pub mod Tables
-pub mod Puts
-pub mod Numbers
+pub mod TableLemmas
+pub mod BytesPut
+pub mod Digits
 pub mod Cursors
 pub mod Chunks
 pub mod Listing

@@ -5,17 +5,17 @@ use mathlib.Core.Bool.{Bool, true, false, cond}
 use mathlib.Core.List.{List, [], _∷_, _++_, flatMap, append-assoc}
 use native.Mathlib.Omega.{arith}
 use lib.ListN.{length, getD, take, drop, length-append}
-use Rattle.tables.specs.Wiring.{Result, good, then, Expanders, keep, Domain, expanderAt, phyAt, routes, Place, places, domainIn, RowsRead, Setting, IndexRoom}
-use Rattle.tables.proofs.Wiring.{good-one, then-good, read-good, opened}
+use Rattle.tables.specs.WiringDefinitions.{Result, good, then, Expanders, keep, Domain, expanderAt, phyAt, isTable, Place, places, domainIn, RowsRead, Setting, IndexRoom}
+use Rattle.tables.proofs.WiringLemmas.{good-one, then-good, read-good, opened}
 use Rattle.tables.specs.Tables.{table, tablePlaces, tables, size, needed}
-use Rattle.tables.specs.Filling.{withTables}
+use Rattle.tables.specs.GrowingLists.{withTables}
 use Rattle.tables.specs.Entries.{Entries, roomOf}
-use Rattle.tables.specs.Judge.{judged, tablesFor, tableCall, Counted, countsIn, tablesAfter}
-use Rattle.tables.specs.Prepared.{judgedIn, OwnDone}
+use Rattle.tables.specs.JudgingCall.{judged, tablesFor, tableCall, Counted, countsIn, tablesAfter}
+use Rattle.tables.specs.PreparedLists.{judgedIn, OwnDone}
 use Rattle.tables.specs.declared.TablesGiven.the-variants.{Counts}
-use Rattle.tables.proofs.Tables.{table-length, tables-length}
-use Rattle.tables.proofs.Given.{judged-file, tableCall-iff}
-use Rattle.tables.proofs.Lawful.{judged-own, call-done}
+use Rattle.tables.proofs.TableLengths.{table-length, tables-length}
+use Rattle.tables.proofs.AcceptedDomains.{judged-file, tableCall-iff}
+use Rattle.tables.proofs.LevelListsByOwn.{judged-own, call-done}
 use Rattle.listing.specs.Text.{lineOf, totalsOf}
 use Rattle.listing.specs.Lines.{Entry, tableEntries, placeEntries, wordLines, linesFrom, cursor, tableLines, textOf, chunksFrom, entryLines, listingOf}
 use Rattle.listing.proofs.Chunks.{all-chunks}
@@ -62,12 +62,12 @@ module _ (d : Domain) where
       ≡ flatMap (λ q. tableLines (q .expander) (q .phy) 0 (table d (q .expander) (q .phy))) (withTables d qs)
   unfolding wordLines placeEntries tableEntries size keep flatMap
   place-lines [] rest = refl
-  place-lines (q ∷ qs) rest = go (routes 2 (phyAt d (q .expander) (q .phy))) (place-lines qs rest)
+  place-lines (q ∷ qs) rest = go (isTable (phyAt d (q .expander) (q .phy))) (place-lines qs rest)
     where
       go : (b : Bool)
           → wordLines (placeEntries d qs) (flatMap (λ q. table d (q .expander) (q .phy)) (withTables d qs) ++ rest)
           ≡ flatMap (λ q. tableLines (q .expander) (q .phy) 0 (table d (q .expander) (q .phy))) (withTables d qs)
-          → wordLines (tableEntries (q .expander) (q .phy) 0 (cond b (expanderAt d (q .expander) .indexes) 0) ++ placeEntries d qs)
+          → wordLines (tableEntries (q .expander) (q .phy) 0 (cond b (expanderAt d (q .expander) .routeIndexes) 0) ++ placeEntries d qs)
           (flatMap (λ q. table d (q .expander) (q .phy)) (cond b (q ∷ withTables d qs) (withTables d qs)) ++ rest)
           ≡ flatMap (λ q. tableLines (q .expander) (q .phy) 0 (table d (q .expander) (q .phy))) (cond b (q ∷ withTables d qs) (withTables d qs))
       go true h =

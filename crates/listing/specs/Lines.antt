@@ -6,9 +6,9 @@ use mathlib.Core.List.{List, [], _∷_, _++_, flatMap}
 use lib.ListN.{length, drop}
 use lib.Dec.{leb, ltb}
 use Rattle.io.specs.Counts.{Counts}
-use Rattle.tables.specs.Wiring.{Domain, expanderAt, Place, place, phyPlaces, placesFrom}
+use Rattle.tables.specs.WiringDefinitions.{Domain, expanderAt, Place, place, phyPlaces, placesFrom}
 use Rattle.tables.specs.Tables.{table, tablePlaces, size, needed}
-use Rattle.tables.specs.Filling.{Put}
+use Rattle.tables.specs.GrowingLists.{WordsPut}
 use Rattle.listing.specs.declared.Cursor.{Cursor}
 use Rattle.listing.specs.Text.{lineOf, totalsOf}
 
@@ -92,7 +92,7 @@ chunksFrom d ws c (suc n) = textOf (chunkFrom d ws c) ++ chunksFrom d ws (cursor
 
 -- a chunk of lines was put: its text, which lies within the buffer, and the cursor after its lines
 pub record ChunkPut (d : Domain) (ws : List ℕ) (from : Cursor) (before after : List ℕ) (next : Cursor) (end : ℕ) : Type 0 where
-  pub text : Put before after 0 end (textOf (chunkFrom d ws from))
+  pub text : WordsPut before after 0 end (textOf (chunkFrom d ws from))
   pub counts : Counts end after
   pub place : next ≡ cursorAfter d from (length (chunkFrom d ws from))
 

@@ -6,7 +6,7 @@ use tables::RouteIndex;
 ghost use mathlib.Core.Path.{_≡_};
 ghost use Prim.Native.Nat.{_+_, _<_, _^_};
 ghost use lib.ListN.{length};
-ghost use Rattle.tables.specs.Wiring.{place, domainIn};
+ghost use Rattle.tables.specs.WiringDefinitions.{place, domainIn};
 ghost use Rattle.tables.specs.Tables.{size};
 ghost use Rattle.listing.specs.Lines.{cursor, nextPlace};
 

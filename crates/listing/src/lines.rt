@@ -9,8 +9,8 @@ use tables::RouteIndex;
 ghost use mathlib.Core.Path.{_≡_};
 ghost use Prim.Native.Nat.{_+_, _≤_};
 ghost use lib.ListN.{length};
-ghost use Rattle.tables.specs.Wiring.{domainIn};
-ghost use Rattle.tables.specs.Filling.{Put};
+ghost use Rattle.tables.specs.WiringDefinitions.{domainIn};
+ghost use Rattle.tables.specs.GrowingLists.{WordsPut};
 ghost use Rattle.listing.specs.Text.{lineOf};
 ghost use Rattle.listing.specs.Lines.{cursor, ChunkPut};
 
@@ -29,7 +29,7 @@ pub fn start() -> Cursor
 // The line of a table word at a cursor, and the place after it.
 fn put_line_at(out: &mut [u8], to: usize, at: Cursor, w: u64) -> usize
     requires { ⌜ to + 80 ≤ length (now out) ⌝ }
-    ensures { λ r. ⌜ Put (now (out .entry)) (now (out .exit)) to r (lineOf (at .expander .0) (at .phy .0) (at .index .0) w) ⌝ }
+    ensures { λ r. ⌜ WordsPut (now (out .entry)) (now (out .exit)) to r (lineOf (at .expander .0) (at .phy .0) (at .index .0) w) ⌝ }
 {
     let i = ExpanderNumber(at.expander.0);
     let p = PhyId(at.phy.0);

@@ -7,13 +7,13 @@ ghost use mathlib.Core.List.{[], _∷_};
 ghost use Prim.Native.Nat.{_+_, _≤_, _<_};
 ghost use lib.ListN.{length};
 ghost use Rattle.io.specs.Counts.{Counts};
-ghost use Rattle.tables.specs.Filling.{Put};
+ghost use Rattle.tables.specs.GrowingLists.{WordsPut};
 ghost use Rattle.listing.specs.Text.{decimalOf, hexOf, fieldOf, entryOf, lineOf, refusedOf, totalsOf, tooLong};
 
 // One byte.
 fn put_byte(out: &mut [u8], at: usize, b: u8) -> usize
     requires { ⌜ at < length (now out) ⌝ }
-    ensures { λ r. ⌜ Put (now (out .entry)) (now (out .exit)) at r (b ∷ []) ⌝ }
+    ensures { λ r. ⌜ WordsPut (now (out .entry)) (now (out .exit)) at r (b ∷ []) ⌝ }
 {
     out[at] = b;
     at + 1
@@ -22,7 +22,7 @@ fn put_byte(out: &mut [u8], at: usize, b: u8) -> usize
 // All bytes of a text.
 fn put_bytes(out: &mut [u8], at: usize, text: &[u8]) -> usize
     requires { ⌜ at + length (now text) ≤ length (now out) ⌝ }
-    ensures { λ r. ⌜ Put (now (out .entry)) (now (out .exit)) at r (now (text .entry)) ⌝ }
+    ensures { λ r. ⌜ WordsPut (now (out .entry)) (now (out .exit)) at r (now (text .entry)) ⌝ }
 {
     let mut to = at;
     let mut i: usize = 0;
@@ -36,7 +36,7 @@ fn put_bytes(out: &mut [u8], at: usize, text: &[u8]) -> usize
 // A number in decimal digits.
 fn put_decimal(out: &mut [u8], at: usize, n: u64) -> usize
     requires { ⌜ at + 20 ≤ length (now out) ⌝ }
-    ensures { λ r. ⌜ Put (now (out .entry)) (now (out .exit)) at r (decimalOf n) ⌝ }
+    ensures { λ r. ⌜ WordsPut (now (out .entry)) (now (out .exit)) at r (decimalOf n) ⌝ }
 {
     let mut digits = [0u8; 20];
     let k = io::decimal(n, &mut digits);
@@ -46,7 +46,7 @@ fn put_decimal(out: &mut [u8], at: usize, n: u64) -> usize
 // A word in 16 hexadecimal digits.
 fn put_hex(out: &mut [u8], at: usize, w: u64) -> usize
     requires { ⌜ at + 16 ≤ length (now out) ⌝ }
-    ensures { λ r. ⌜ Put (now (out .entry)) (now (out .exit)) at r (hexOf w) ⌝ }
+    ensures { λ r. ⌜ WordsPut (now (out .entry)) (now (out .exit)) at r (hexOf w) ⌝ }
 {
     let mut digits = [0u8; 16];
     let k = io::hex(w, 16, &mut digits);
@@ -56,7 +56,7 @@ fn put_hex(out: &mut [u8], at: usize, w: u64) -> usize
 // A number and the byte after it.
 fn put_field(out: &mut [u8], at: usize, n: u64, after: u8) -> usize
     requires { ⌜ at + 21 ≤ length (now out) ⌝ }
-    ensures { λ r. ⌜ Put (now (out .entry)) (now (out .exit)) at r (fieldOf n after) ⌝ }
+    ensures { λ r. ⌜ WordsPut (now (out .entry)) (now (out .exit)) at r (fieldOf n after) ⌝ }
 {
     let to = put_decimal(out, at, n);
     put_byte(out, to, after)
@@ -65,7 +65,7 @@ fn put_field(out: &mut [u8], at: usize, n: u64, after: u8) -> usize
 // An entry and a newline.
 fn put_entry(out: &mut [u8], at: usize, w: u64) -> usize
     requires { ⌜ at + 17 ≤ length (now out) ⌝ }
-    ensures { λ r. ⌜ Put (now (out .entry)) (now (out .exit)) at r (entryOf w) ⌝ }
+    ensures { λ r. ⌜ WordsPut (now (out .entry)) (now (out .exit)) at r (entryOf w) ⌝ }
 {
     let to = put_hex(out, at, w);
     put_byte(out, to, b'\n')
@@ -81,7 +81,7 @@ pub(crate) fn put_line(
     w: u64,
 ) -> usize
     requires { ⌜ at + 80 ≤ length (now out) ⌝ }
-    ensures { λ r. ⌜ Put (now (out .entry)) (now (out .exit)) at r (lineOf (i .0) (p .0) (k .0) w) ⌝ }
+    ensures { λ r. ⌜ WordsPut (now (out .entry)) (now (out .exit)) at r (lineOf (i .0) (p .0) (k .0) w) ⌝ }
 {
     let a = put_field(out, at, i.0 as u64, b' ');
     let b = put_field(out, a, p.0 as u64, b' ');
@@ -92,7 +92,7 @@ pub(crate) fn put_line(
 // The refusal line.
 pub fn refused(out: &mut [u8; 80], refusal: Refusal) -> usize
     ensures { λ r. ⌜ Counts r (now (out .exit)) ⌝ }
-    ensures { λ r. ⌜ Put (now (out .entry)) (now (out .exit)) 0 r
+    ensures { λ r. ⌜ WordsPut (now (out .entry)) (now (out .exit)) 0 r
         (refusedOf (refusal .number) (refusal .expander .0) (refusal .phy .0)) ⌝ }
 {
     let word = [b'r', b'e', b'f', b'u', b's', b'e', b'd', b' '];
@@ -105,7 +105,7 @@ pub fn refused(out: &mut [u8; 80], refusal: Refusal) -> usize
 // The line of totals.
 pub fn totals(out: &mut [u8; 80], tables: u64, entries: u64) -> usize
     ensures { λ r. ⌜ Counts r (now (out .exit)) ⌝ }
-    ensures { λ r. ⌜ Put (now (out .entry)) (now (out .exit)) 0 r (totalsOf tables entries) ⌝ }
+    ensures { λ r. ⌜ WordsPut (now (out .entry)) (now (out .exit)) 0 r (totalsOf tables entries) ⌝ }
 {
     let first = [b't', b'a', b'b', b'l', b'e', b's', b' '];
     let second = [b'e', b'n', b't', b'r', b'i', b'e', b's', b' '];
@@ -118,7 +118,7 @@ pub fn totals(out: &mut [u8; 80], tables: u64, entries: u64) -> usize
 // The line for an input that is too long.
 pub fn too_long(out: &mut [u8; 80]) -> usize
     ensures { λ r. ⌜ Counts r (now (out .exit)) ⌝ }
-    ensures { λ r. ⌜ Put (now (out .entry)) (now (out .exit)) 0 r tooLong ⌝ }
+    ensures { λ r. ⌜ WordsPut (now (out .entry)) (now (out .exit)) 0 r tooLong ⌝ }
 {
     let line = [b't', b'o', b'o', b' ', b'l', b'o', b'n', b'g', b'\n'];
     put_bytes(out, 0, &line)

@@ -22,12 +22,12 @@ use Rattle.files.specs.declared.Phy.the-variants.{Vacant}
 use Rattle.files.specs.Settings.{within, inRange}
 use Rattle.files.specs.Domain.{Expander, Domain, expanderAt}
 use Rattle.files.specs.File.{Parsed, parsed, sizeAt, phyOf, phyUnit, phyUnits, unitOf, unitTested, expanderUnit, expanderOf, expanders, headerUnit, domainRead}
-use Rattle.files.specs.Units.{endsAt}
+use Rattle.files.specs.UnitAnswers.{endsAt}
 use Rattle.frames.proofs.LongFrames.{size-least}
-use Rattle.files.proofs.Read.{read-good, few-phys}
+use Rattle.files.proofs.ReadDomain.{read-good, few-phys}
 use Rattle.files.proofs.Domains.{expander-range}
-use Rattle.files.proofs.Results.{never, good-one, unless-good, then-good}
-use Rattle.files.proofs.Reading.{size-whole, size-within, unitAt, unit-cut, unit-by, general-is, tested-same, phys-count}
+use Rattle.files.proofs.CallResults.{never, good-one, unless-good, then-good}
+use Rattle.files.proofs.UnitReading.{size-whole, size-within, unitAt, unit-cut, unit-by, general-is, tested-same, phys-count}
 use borrow.Author.Tests.{ne-eqb}
 use Rattle.offsets.specs.Offsets.{Placed}
 use Rattle.offsets.specs.Offsets.{sizeFrom, physAfter, physFrom, expandersAfter, expanderOffset, phyOffset}
@@ -83,50 +83,50 @@ module _ {A B : Type 0} (kind : Response) (read : List ℕ → Result A) (test :
       go (refused r) f = never (refusal (r .number) i p) u (sym (unit-cut kind read test i p file from r f) ∙ e)
       go (good n) f = by-read n f (read (take n (drop from file))) refl
 
-module _ (file : List ℕ) (own i : ℕ) where
-  pub phy-found : (p at : ℕ) (u : Parsed Phy) → phyUnit file own i p at ≡ good u → Found Discover discoverRead (phyOf own i p) file at u
+module _ (file : List ℕ) (ownAddress i : ℕ) where
+  pub phy-found : (p at : ℕ) (u : Parsed Phy) → phyUnit file ownAddress i p at ≡ good u → Found Discover discoverRead (phyOf ownAddress i p) file at u
   unfolding phyUnit
-  phy-found p at u e = unit-found Discover discoverRead (phyOf own i p) i p file at u e
+  phy-found p at u e = unit-found Discover discoverRead (phyOf ownAddress i p) i p file at u e
 
-  phy-next : (p at : ℕ) (u : Parsed Phy) → phyUnit file own i p at ≡ good u → u .next ≡ at + sizeFrom Discover file at
+  phy-next : (p at : ℕ) (u : Parsed Phy) → phyUnit file ownAddress i p at ≡ good u → u .next ≡ at + sizeFrom Discover file at
   phy-next p at u e = let f = phy-found p at u e in f .next ∙ ap (λ (n : ℕ). at + n) (f .is)
 
   -- the place after the phys
-  pub phys-after : (count p at : ℕ) (us : Parsed (List Phy)) → phyUnits file own i count p at ≡ good us → us .next ≡ physAfter file count at
+  pub phys-after : (count p at : ℕ) (us : Parsed (List Phy)) → phyUnits file ownAddress i count p at ≡ good us → us .next ≡ physAfter file count at
   unfolding phyUnits physAfter
   phys-after zero p at us e = sym (ap (λ (v : Parsed (List Phy)). v .next) (good-one (parsed [] at) us e))
   phys-after (suc count) p at us e =
-      let one = then-good (phyUnit file own i p at) _ us e in
+      let one = then-good (phyUnit file ownAddress i p at) _ us e in
       let u = one .0 in
-      let more = then-good (phyUnits file own i count (p + 1) (u .next)) _ us (one .2) in
+      let more = then-good (phyUnits file ownAddress i count (p + 1) (u .next)) _ us (one .2) in
       let tail = more .0 in
       let q = good-one (parsed (u .value ∷ tail .value) (tail .next)) us (more .2) in
       sym (ap (λ (v : Parsed (List Phy)). v .next) q) ∙ phys-after count (p + 1) (u .next) tail (more .1) ∙ ap (physAfter file count) (phy-next p at u (one .1))
 
   -- phy k of them stands where it is looked for
-  pub phy-there : (count p at : ℕ) (us : Parsed (List Phy)) → phyUnits file own i count p at ≡ good us → (k : ℕ) → k < count
-      → (u : Parsed Phy) × (phyUnit file own i (p + k) (physAfter file k at) ≡ good u) × (u .value ≡ getD (us .value) k (Vacant 0))
+  pub phy-there : (count p at : ℕ) (us : Parsed (List Phy)) → phyUnits file ownAddress i count p at ≡ good us → (k : ℕ) → k < count
+      → (u : Parsed Phy) × (phyUnit file ownAddress i (p + k) (physAfter file k at) ≡ good u) × (u .value ≡ getD (us .value) k (Vacant 0))
   unfolding phyUnits physAfter
   phy-there zero p at us e k h = absurd (omega arith)
   phy-there (suc count) p at us e zero h =
-      let one = then-good (phyUnit file own i p at) _ us e in
+      let one = then-good (phyUnit file ownAddress i p at) _ us e in
       let u = one .0 in
-      let more = then-good (phyUnits file own i count (p + 1) (u .next)) _ us (one .2) in
+      let more = then-good (phyUnits file ownAddress i count (p + 1) (u .next)) _ us (one .2) in
       let tail = more .0 in
       let q = good-one (parsed (u .value ∷ tail .value) (tail .next)) us (more .2) in
       let z : p + 0 ≡ p = omega arith in
-      (u, ap (λ (m : ℕ). phyUnit file own i m at) z ∙ one .1, ap (λ (v : Parsed (List Phy)). getD (v .value) 0 (Vacant 0)) q)
+      (u, ap (λ (m : ℕ). phyUnit file ownAddress i m at) z ∙ one .1, ap (λ (v : Parsed (List Phy)). getD (v .value) 0 (Vacant 0)) q)
   phy-there (suc count) p at us e (suc k) h =
-      let one = then-good (phyUnit file own i p at) _ us e in
+      let one = then-good (phyUnit file ownAddress i p at) _ us e in
       let u = one .0 in
-      let more = then-good (phyUnits file own i count (p + 1) (u .next)) _ us (one .2) in
+      let more = then-good (phyUnits file ownAddress i count (p + 1) (u .next)) _ us (one .2) in
       let tail = more .0 in
       let q = good-one (parsed (u .value ∷ tail .value) (tail .next)) us (more .2) in
       let r = phy-there count (p + 1) (u .next) tail (more .1) k (omega arith) in
       let z : p + suc k ≡ p + 1 + k = omega arith in (
         r .0,
-        ap (λ (m : ℕ). phyUnit file own i m (physAfter file k (at + sizeFrom Discover file at))) z
-            ∙ ap (λ (m : ℕ). phyUnit file own i (p + 1 + k) (physAfter file k m)) (sym (phy-next p at u (one .1))) ∙ r .1,
+        ap (λ (m : ℕ). phyUnit file ownAddress i m (physAfter file k (at + sizeFrom Discover file at))) z
+            ∙ ap (λ (m : ℕ). phyUnit file ownAddress i (p + 1 + k) (physAfter file k m)) (sym (phy-next p at u (one .1))) ∙ r .1,
         r .2 ∙ ap (λ (v : Parsed (List Phy)). getD (v .value) (suc k) (Vacant 0)) q,
       )
 
@@ -141,9 +141,9 @@ module _ (most : Setting) (file : List ℕ) where
   pub head-found : (seen : List ℕ) (i at : ℕ) (u : Parsed ExpanderUnit) → expanderUnit most file seen i at ≡ good u → HeadFound most file at u
   unfolding expanderUnit
   head-found seen i at u e =
-      let own = numberAt file at 8 in
-      let f = unit-found ReportGeneral generalRead (λ g. unitTested most seen i (unitOf own g)) i 0 file (at + 8) u e in
-      let q = tested-same most seen i (unitOf own (f .fields)) (u .value) (f .tested) in
+      let ownAddress = numberAt file at 8 in
+      let f = unit-found ReportGeneral generalRead (λ g. unitTested most seen i (unitOf ownAddress g)) i 0 file (at + 8) u e in
+      let q = tested-same most seen i (unitOf ownAddress (f .fields)) (u .value) (f .tested) in
       let s : List ℕ = take (f .size) (drop (at + 8) file) in
       let g = general-is s (f .fields) (f .reads) in
       let l = size-within ReportGeneral file (at + 8) (f .size) (f .found) .0 in

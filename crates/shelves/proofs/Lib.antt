@@ -1,8 +1,8 @@
-pub mod Telling
-pub mod Steps
-pub mod Agrees
-pub mod Orders
-pub mod Exactly
-pub mod Room
-pub mod Tables
-mod Vectors
+pub mod ToldKinds
+pub mod FrameResults
+pub mod ShelfAgrees
+pub mod FrameOrders
+pub mod ShelfRefusals
+pub mod ShelfRoom
+pub mod TablesOnShelf
+mod WorkedShelf

@@ -3,7 +3,7 @@ use Prim.Native.Nat.{ℕ, _<_}
 use mathlib.Core.Path.{_≡_}
 use mathlib.Core.List.{List, [], _∷_, map}
 use lib.ListN.{length, getD}
-use Rattle.shelves.specs.Table.{Table}
+use Rattle.shelves.specs.PlainTable.{Table}
 use Rattle.shelves.specs.Shelf.{sixteen, bitOf, place, stepped, Done}
 use Rattle.shelves.specs.declared.Shelf.{Shelf}
 use Rattle.shelves.specs.declared.Answer.{Answer}
@@ -31,9 +31,9 @@ left s [] = s
 left s (c ∷ cs) = left (c .after) cs
 
 -- a shelf that was told these numbers and kinds, and holds exactly what a table holds
-pub record Holds (phys indexes : ℕ) (kinds : List ℕ) (s : Shelf) (t : Table) : Type 0 where
+pub record HoldsTable (phys routeIndexes : ℕ) (kinds : List ℕ) (s : Shelf) (t : Table) : Type 0 where
   pub phys-are : s .phys ≡ phys
-  pub indexes-are : s .indexes ≡ indexes
+  pub route-indexes-are : s .routeIndexes ≡ routeIndexes
   pub kinds-are : s .kinds ≡ sixteen kinds
   pub entry-count : length (s .entries) ≡ 1024
   pub bit-count : length (s .disabled) ≡ 1024

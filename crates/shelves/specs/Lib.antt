@@ -1,4 +1,4 @@
-pub mod Table
+pub mod PlainTable
 pub mod Shelf
 pub mod Calls
-pub mod Written
+pub mod TableFrames

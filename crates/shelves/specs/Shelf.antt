@@ -8,7 +8,7 @@ use lib.Dec.{eqb, leb}
 use Rattle.frames.specs.Refusals.{Result, refused, good, refusal}
 use Rattle.frames.specs.ConfigureRoute.{routeRead}
 use Rattle.frames.specs.declared.Route.{Route}
-use Rattle.shelves.specs.Table.{resultOf}
+use Rattle.shelves.specs.PlainTable.{resultOf}
 use Rattle.shelves.specs.declared.Shelf.{Shelf}
 use Rattle.shelves.specs.declared.Stepped.{Stepped}
 use Rattle.shelves.specs.declared.Answer.{Answer}
@@ -28,14 +28,14 @@ areKinds [] = true
 areKinds (k ∷ ks) = leb k 2 && areKinds ks
 
 -- what a fresh shelf can be told: 1 to 16 phys, R up to 64, one kind for each phy
-unfoldable pub told : ℕ → ℕ → List ℕ → Bool
-told phys indexes kinds = leb 1 phys && (leb phys 16 && (leb indexes 64 && (eqb (length kinds) phys && areKinds kinds)))
+unfoldable pub canBeTold : ℕ → ℕ → List ℕ → Bool
+canBeTold phys routeIndexes kinds = leb 1 phys && (leb phys 16 && (leb routeIndexes 64 && (eqb (length kinds) phys && areKinds kinds)))
 
 -- what a fresh shelf can be told, number by number
-pub record Told (phys indexes : ℕ) (kinds : List ℕ) : Type 0 where
+pub record CanBeTold (phys routeIndexes : ℕ) (kinds : List ℕ) : Type 0 where
   pub some : 1 ≤ phys
   pub few : phys ≤ 16
-  pub short : indexes ≤ 64
+  pub short : routeIndexes ≤ 64
   pub each : length kinds ≡ phys
   pub known : (i : ℕ) → getD kinds i 0 ≤ 2
 
@@ -52,23 +52,23 @@ bitOf disabled = cond disabled 1 0
 
 -- all entries zero and disabled
 abbrev pub freshShelf : ℕ → ℕ → List ℕ → Shelf
-freshShelf phys indexes kinds = record {
+freshShelf phys routeIndexes kinds = record {
   entries = replicate 1024 0;
   disabled = replicate 1024 1;
   kinds = sixteen kinds;
-  indexes = indexes;
+  routeIndexes = routeIndexes;
   phys = phys;
 }
 
 -- told anything else it is refused, and what was there stays
 unfoldable pub made : Shelf → ℕ → ℕ → List ℕ → Stepped
-made s phys indexes kinds =
-    cond (told phys indexes kinds) (steppedTo (freshShelf phys indexes kinds) (Answered 0x00))
+made s phys routeIndexes kinds =
+    cond (canBeTold phys routeIndexes kinds) (steppedTo (freshShelf phys routeIndexes kinds) (Answered 0x00))
     (steppedTo s (Refused (refusal 3 0 0)))
 
 -- the function result by what stands in a shelf, whatever it is: no phy past 16 and no route index past 64 exists
 abbrev pub shelfResult : Shelf → ℕ → ℕ → ℕ
-shelfResult s = resultOf (min 16 (s .phys)) (min 64 (s .indexes)) (kindIn (s .kinds))
+shelfResult s = resultOf (min 16 (s .phys)) (min 64 (s .routeIndexes)) (kindIn (s .kinds))
 
 -- which entry it is: 64 for each phy
 abbrev pub place : ℕ → ℕ → ℕ
@@ -80,7 +80,7 @@ loaded s q = record {
   entries = set (s .entries) (place (q .phy .0) (q .index .0)) (q .address);
   disabled = set (s .disabled) (place (q .phy .0) (q .index .0)) (bitOf (q .disabled));
   kinds = s .kinds;
-  indexes = s .indexes;
+  routeIndexes = s .routeIndexes;
   phys = s .phys;
 }
 

@@ -11,7 +11,7 @@ pub fn entry_at(shelf: Shelf, phy: PhyId, index: RouteIndex) -> u64
     ensures { λ r. ⌜ r ≡ entryAt shelf (phy .0) (index .0) ⌝ }
 {
     let kinds = shelf.kinds;
-    let result = loading::result_of(shelf.phys, shelf.indexes, kinds, phy, index);
+    let result = loading::result_of(shelf.phys, shelf.routeIndexes, kinds, phy, index);
     if result != 0 {
         return 0;
     }
@@ -24,7 +24,7 @@ pub fn disabled_at(shelf: Shelf, phy: PhyId, index: RouteIndex) -> u8
     ensures { λ r. ⌜ r ≡ disabledAt shelf (phy .0) (index .0) ⌝ }
 {
     let kinds = shelf.kinds;
-    let result = loading::result_of(shelf.phys, shelf.indexes, kinds, phy, index);
+    let result = loading::result_of(shelf.phys, shelf.routeIndexes, kinds, phy, index);
     if result != 0 {
         return 2;
     }

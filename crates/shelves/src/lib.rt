@@ -22,7 +22,7 @@ pub struct Shelf {
     pub entries: [u64; 1024],
     pub disabled: [u8; 1024],
     pub kinds: [u8; 16],
-    pub indexes: u32,
+    pub routeIndexes: u32,
     pub phys: u32,
 }
 
@@ -50,10 +50,10 @@ pub fn obey(shelf: &mut Shelf, frame: &[u8]) -> Answer
 
 // Makes a fresh shelf, all entries zero and disabled, and answers 00h. It is told 1 to 16 phys, R up to 64, and one kind
 // for each phy. Told anything else it answers 3, and what was there stays.
-pub fn fresh(shelf: &mut Shelf, phys: u8, indexes: u16, kinds: &[u8]) -> Answer
-    ensures { λ r. ⌜ Done (made (now (shelf .entry)) phys indexes (now (kinds .entry))) r (now (shelf .exit)) ⌝ }
+pub fn fresh(shelf: &mut Shelf, phys: u8, routeIndexes: u16, kinds: &[u8]) -> Answer
+    ensures { λ r. ⌜ Done (made (now (shelf .entry)) phys routeIndexes (now (kinds .entry))) r (now (shelf .exit)) ⌝ }
 {
-    let next = making::make(*shelf, phys, indexes, kinds);
+    let next = making::make(*shelf, phys, routeIndexes, kinds);
     *shelf = next.shelf;
     next.answer
 }

@@ -10,7 +10,7 @@ use frames::RouteRead;
 ghost use mathlib.Core.Path.{_≡_};
 ghost use Prim.Native.Nat.{_<_, min};
 ghost use Rattle.frames.specs.Refusals.{good};
-ghost use Rattle.shelves.specs.Table.{resultOf};
+ghost use Rattle.shelves.specs.PlainTable.{resultOf};
 ghost use Rattle.shelves.specs.Shelf.{kindIn, place, bitOf, loaded, afterRead, stepped};
 
 // n, but at most as much as there is room for.
@@ -26,17 +26,17 @@ fn at_most(room: u32, n: u32) -> u32
 // The function result: 10h no such phy, 16h a vacant one, 11h no table phy or an index not below R, else 00h.
 pub(crate) fn result_of(
     phys: u32,
-    indexes: u32,
+    routeIndexes: u32,
     kinds: [u8; 16],
     phy: PhyId,
     index: RouteIndex,
 ) -> u8
-    ensures { λ r. ⌜ r ≡ resultOf (min 16 phys) (min 64 indexes) (kindIn kinds) (phy .0) (index .0) ⌝ }
+    ensures { λ r. ⌜ r ≡ resultOf (min 16 phys) (min 64 routeIndexes) (kindIn kinds) (phy .0) (index .0) ⌝ }
 {
     let p = phy.0 as u32;
     let k = index.0 as u32;
     let count = at_most(16, phys);
-    let end = at_most(64, indexes);
+    let end = at_most(64, routeIndexes);
     if count <= p {
         return 0x10;
     }
@@ -88,7 +88,7 @@ fn load(shelf: Shelf, q: Route) -> Stepped
     ensures { λ r. ⌜ r ≡ afterRead shelf (good q) ⌝ }
 {
     let kinds = shelf.kinds;
-    let result = result_of(shelf.phys, shelf.indexes, kinds, q.phy, q.index);
+    let result = result_of(shelf.phys, shelf.routeIndexes, kinds, q.phy, q.index);
     let answer = Answer::Result(result);
     if result != 0 {
         return making::stepped_to(shelf, answer);

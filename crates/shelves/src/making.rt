@@ -5,7 +5,7 @@ use crate::Stepped;
 ghost use mathlib.Core.Path.{_≡_};
 ghost use Prim.Native.Nat.{_≤_};
 ghost use lib.ListN.{length};
-ghost use Rattle.shelves.specs.Shelf.{steppedTo, areKinds, told, sixteen, freshShelf, made};
+ghost use Rattle.shelves.specs.Shelf.{steppedTo, areKinds, canBeTold, sixteen, freshShelf, made};
 
 // A shelf, and what it answered.
 pub(crate) fn stepped_to(shelf: Shelf, answer: Answer) -> Stepped
@@ -32,8 +32,8 @@ fn are_kinds(kinds: &[u8]) -> bool
 }
 
 // Whether a fresh shelf can be told this.
-fn is_told(phys: u8, indexes: u16, kinds: &[u8]) -> bool
-    ensures { λ r. ⌜ r ≡ told phys indexes (now (kinds .entry)) ⌝ }
+fn is_told(phys: u8, routeIndexes: u16, kinds: &[u8]) -> bool
+    ensures { λ r. ⌜ r ≡ canBeTold phys routeIndexes (now (kinds .entry)) ⌝ }
 {
     if phys < 1 {
         return false;
@@ -41,7 +41,7 @@ fn is_told(phys: u8, indexes: u16, kinds: &[u8]) -> bool
     if phys > 16 {
         return false;
     }
-    if indexes > 64 {
+    if routeIndexes > 64 {
         return false;
     }
     if kinds.len() != phys as usize {
@@ -65,9 +65,9 @@ fn all_kinds(kinds: &[u8]) -> [u8; 16]
 }
 
 // A shelf with all entries zero and disabled.
-fn fresh_shelf(phys: u8, indexes: u16, kinds: &[u8]) -> Shelf
+fn fresh_shelf(phys: u8, routeIndexes: u16, kinds: &[u8]) -> Shelf
     requires { ⌜ length (now kinds) ≤ 16 ⌝ }
-    ensures { λ r. ⌜ r ≡ freshShelf phys indexes (now (kinds .entry)) ⌝ }
+    ensures { λ r. ⌜ r ≡ freshShelf phys routeIndexes (now (kinds .entry)) ⌝ }
 {
     let all = all_kinds(kinds);
     let entries = [0u64; 1024];
@@ -76,17 +76,17 @@ fn fresh_shelf(phys: u8, indexes: u16, kinds: &[u8]) -> Shelf
         entries: entries,
         disabled: disabled,
         kinds: all,
-        indexes: indexes as u32,
+        routeIndexes: routeIndexes as u32,
         phys: phys as u32,
     }
 }
 
 // The fresh shelf, or refusal 3 and the shelf that was there.
-pub(crate) fn make(shelf: Shelf, phys: u8, indexes: u16, kinds: &[u8]) -> Stepped
-    ensures { λ r. ⌜ r ≡ made shelf phys indexes (now (kinds .entry)) ⌝ }
+pub(crate) fn make(shelf: Shelf, phys: u8, routeIndexes: u16, kinds: &[u8]) -> Stepped
+    ensures { λ r. ⌜ r ≡ made shelf phys routeIndexes (now (kinds .entry)) ⌝ }
 {
-    if !is_told(phys, indexes, kinds) {
+    if !is_told(phys, routeIndexes, kinds) {
         return stepped_to(shelf, Answer::Refused(frames::refused(3)));
     }
-    stepped_to(fresh_shelf(phys, indexes, kinds), Answer::Result(0x00))
+    stepped_to(fresh_shelf(phys, routeIndexes, kinds), Answer::Result(0x00))
 }

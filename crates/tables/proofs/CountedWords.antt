@@ -8,8 +8,8 @@ use lib.ListN.{length, getD, drop}
 use lib.Seq.{getD-drop, drop-drop}
 use lib.Dec.{eqb}
 use borrow.Author.Tests.{eqb-true}
-use Rattle.wiring.specs.Frames.{bitsOf, bytesFor, zeroBit, marked}
-use Rattle.wiring.proofs.Frames.{marked-bits}
+use Rattle.wiring.specs.FrameDefinitions.{bitsOf, bytesFor, zeroBit, marked}
+use Rattle.wiring.proofs.FrameLemmas.{marked-bits}
 use Rattle.tables.specs.Entries.{Entries, putBefore, countedBy, counted}
 
 pub counted-length : (bits words : List ℕ) → length (countedBy bits words) ≡ length words

@@ -2,10 +2,10 @@
 use Prim.Native.Nat.{ℕ}
 use mathlib.Core.Path.{_≡_}
 use mathlib.Core.List.{List}
-use Rattle.tables.specs.Wiring.{Setting, shortFile}
+use Rattle.tables.specs.WiringDefinitions.{Setting, shortFile}
 use Rattle.tables.specs.Entries.{Room}
-use Rattle.tables.specs.Judge.{judged, tableCall}
-use Rattle.tables.proofs.Wiring.{short-file}
+use Rattle.tables.specs.JudgingCall.{judged, tableCall}
+use Rattle.tables.proofs.WiringLemmas.{short-file}
 
 module _ (setting : Setting) (file : List ℕ) where
   pub short-judged : judged setting (shortFile setting file) ≡ judged setting file

@@ -4,19 +4,19 @@ use mathlib.Core.Path.{_≡_, refl, sym, _∙_, ap}
 use mathlib.Core.List.{List, _∷_, _++_}
 use lib.ListN.{length, drop}
 use borrow.Author.Tests.{lt-ltb, le-ltb}
-use Rattle.wiring.specs.Frames.{Refusal, Result, refused, good, then, refusal}
+use Rattle.wiring.specs.FrameDefinitions.{Refusal, Result, refused, good, then, refusal}
 use Rattle.files.specs.Domain.{Domain}
 use Rattle.files.specs.declared.Setting.{Setting}
 use Rattle.files.specs.File.{domainRead}
-use Rattle.wiring.specs.Causes.{Place, place, phyPlaces, placesFrom}
+use Rattle.wiring.specs.PhyCauses.{Place, place, phyPlaces, placesFrom}
 use Rattle.tables.specs.Tables.{tablePlaces, size, needed}
-use Rattle.tables.specs.Judge.{judgedDomain, judged, countsIn}
-use Rattle.tables.specs.Words.{entry, wordIn, wordPlace, wordAnswer, soughtIn, SoughtAt, surveyIn, surveyAnswer}
+use Rattle.tables.specs.JudgingCall.{judgedDomain, judged, countsIn}
+use Rattle.tables.specs.WordEntries.{entry, wordIn, wordPlace, wordAnswer, soughtIn, SoughtAt, surveyIn, surveyAnswer}
 use Rattle.tables.specs.declared.Entry.{Entry}
 use Rattle.tables.specs.declared.WordPlace.{WordPlace}
 use Rattle.tables.specs.declared.surveys.Survey.the-variants.{Accepted}
 use Rattle.tables.specs.declared.word_places.Sought.{Sought}
-use Rattle.tables.proofs.Puts.{phys-next, phys-last, from-next, from-last}
+use Rattle.tables.proofs.TablesPut.{phys-next, phys-last, from-next, from-last}
 
 module _ (d : Domain) where
   -- a word of the first table, and one after it

@@ -4,7 +4,7 @@ use mathlib.Core.Bool.{cond}
 use mathlib.Core.List.{List, [], _∷_, _++_}
 use lib.ListN.{length, getD, drop}
 use lib.Dec.{eqb}
-use Rattle.wiring.specs.Frames.{bitsOf, bytesFor, marked}
+use Rattle.wiring.specs.FrameDefinitions.{bitsOf, bytesFor, marked}
 
 -- the bits are packed most significant bit first, in the words' order
 pub record Entries : Type 0 where

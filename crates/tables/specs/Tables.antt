@@ -6,8 +6,8 @@ use lib.ListN.{take, drop, replicate}
 use lib.Dec.{eqb}
 use Rattle.files.specs.declared.Phy.{Phy}
 use Rattle.files.specs.Lists.{any, keep, isIn}
-use Rattle.files.specs.Domain.{Domain, expanderAt, phyAt, addressOf, routes, attached, bears}
-use Rattle.wiring.specs.Causes.{Place, places}
+use Rattle.files.specs.Domain.{Domain, expanderAt, phyAt, addressOf, isTable, isDirect, attached, bears}
+use Rattle.wiring.specs.PhyCauses.{Place, places}
 use Rattle.tables.specs.Levels.{levels}
 
 -- a phy's word: its attached address, or 0 if nothing is attached
@@ -15,13 +15,13 @@ abbrev pub word : Phy → ℕ
 word φ = cond (attached φ) (addressOf φ) 0
 
 -- the address is expander x's, or is attached at x
-unfoldable pub heldBy : Domain → ℕ → ℕ → Bool
-heldBy d x s = eqb s (expanderAt d x .address) || any (bears s) (expanderAt d x .phys)
+unfoldable pub addressAt : Domain → ℕ → ℕ → Bool
+addressAt d x s = eqb s (expanderAt d x .address) || any (bears s) (expanderAt d x .phys)
 
 -- a phy gives its word after the list so far: a direct phy always; a subtractive or table phy unless nothing is attached, or the
 -- address is x's, or is attached at x, or is in the list already
 unfoldable pub gives : Domain → ℕ → List ℕ → Phy → Bool
-gives d x l φ = routes 0 φ || (attached φ && (not (heldBy d x (addressOf φ)) && not (isIn (addressOf φ) l)))
+gives d x l φ = isDirect φ || (attached φ && (not (addressAt d x (addressOf φ)) && not (isIn (addressOf φ) l)))
 
 -- the list after one phy
 unfoldable pub give : Domain → ℕ → List ℕ → Phy → List ℕ
@@ -38,11 +38,11 @@ levelList d x p = giveAll d x [] (flatMap (λ i. expanderAt d i .phys) (levels d
 
 -- its table: the list followed by zeros up to R words, cut at R
 unfoldable pub table : Domain → ℕ → ℕ → List ℕ
-table d x p = take (expanderAt d x .indexes) (levelList d x p ++ replicate (expanderAt d x .indexes) 0)
+table d x p = take (expanderAt d x .routeIndexes) (levelList d x p ++ replicate (expanderAt d x .routeIndexes) 0)
 
 -- each non-vacant table phy has one table, by expander and then phy
 unfoldable pub tablePlaces : Domain → List Place
-tablePlaces d = keep (λ q. routes 2 (phyAt d (q .expander) (q .phy))) (places d)
+tablePlaces d = keep (λ q. isTable (phyAt d (q .expander) (q .phy))) (places d)
 
 -- all tables, one after the other
 unfoldable pub tables : Domain → List ℕ
@@ -50,7 +50,7 @@ tables d = flatMap (λ q. table d (q .expander) (q .phy)) (tablePlaces d)
 
 -- how many words the table at a place has: 0 where there is no table phy
 unfoldable pub size : Domain → Place → ℕ
-size d q = cond (routes 2 (phyAt d (q .expander) (q .phy))) (expanderAt d (q .expander) .indexes) 0
+size d q = cond (isTable (phyAt d (q .expander) (q .phy))) (expanderAt d (q .expander) .routeIndexes) 0
 
 unfoldable pub sizes : Domain → List Place → ℕ
 sizes d [] = 0
@@ -71,4 +71,4 @@ offset d i p = offsetIn d i p (places d)
 
 -- "its own stretch": the R words of the table of phy p of expander i
 unfoldable pub stretch : Domain → List ℕ → ℕ → ℕ → List ℕ
-stretch d words i p = take (expanderAt d i .indexes) (drop (offset d i p) words)
+stretch d words i p = take (expanderAt d i .routeIndexes) (drop (offset d i p) words)

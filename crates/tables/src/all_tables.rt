@@ -1,8 +1,8 @@
 // All tables, one after the other in lent words: by expander and then phy.
-use crate::below;
-use crate::filling;
+use crate::downstream;
 use crate::order;
-use crate::own;
+use crate::own_lists;
+use crate::table_filling;
 use wiring::ExpanderNumber;
 use wiring::Phy;
 use wiring::PhyId;
@@ -10,17 +10,17 @@ ghost use mathlib.Core.Path.{_≡_};
 ghost use mathlib.Core.List.{[], _∷_, _++_};
 ghost use Prim.Native.Nat.{_+_, _*_, _^_, _≤_, _<_};
 ghost use lib.ListN.{length, take, drop};
-ghost use Rattle.files.specs.Domain.{expanderAt, phyAt, routes};
-ghost use Rattle.wiring.specs.Causes.{place, placesFrom};
+ghost use Rattle.files.specs.Domain.{expanderAt, phyAt, isTable};
+ghost use Rattle.wiring.specs.PhyCauses.{place, placesFrom};
 ghost use Rattle.files.specs.Rows.{domainIn};
 ghost use Rattle.tables.specs.Tables.{tablePlaces, size, sizes, needed};
-ghost use Rattle.tables.specs.Filling.{placesAt, withTables, Put};
-ghost use Rattle.tables.specs.Prepared.{ownTablesOf, ownTables, FillRoom, Fillable, TableReady, TablesReady, AllReady};
-ghost use Rattle.wiring.specs.Addresses.{Indexed};
+ghost use Rattle.tables.specs.GrowingLists.{placesAt, withTables, WordsPut};
+ghost use Rattle.tables.specs.PreparedLists.{ownTablesOf, ownTables, FillRoom, Fillable, TableReady, TablesReady, AllReady};
+ghost use Rattle.wiring.specs.AddressIndex.{Indexed};
 
 // Whether phy p of expander i is a non-vacant table phy.
 pub(crate) fn is_table(rows: &[u64], i: ExpanderNumber, p: PhyId) -> bool
-    ensures { λ r. ⌜ r ≡ routes 2 (phyAt (domainIn (now (rows .entry))) (i .0) (p .0)) ⌝ }
+    ensures { λ r. ⌜ r ≡ isTable (phyAt (domainIn (now (rows .entry))) (i .0) (p .0)) ⌝ }
 {
     wiring::phy_attribute(wiring::phy_at(rows, i, p)) == 2
 }
@@ -55,9 +55,9 @@ pub fn table_count(rows: &[u64]) -> usize
 
 // How many words the tables of expander i have. Where R is 0 its phys need no look.
 fn words_at(rows: &[u64], i: ExpanderNumber) -> usize
-    ensures { λ r. ⌜ (r ≡ length (withTables (domainIn (now (rows .entry))) (placesAt (domainIn (now (rows .entry))) (i .0))) * expanderAt (domainIn (now (rows .entry))) (i .0) .indexes) × (r ≤ 8388608) ⌝ }
+    ensures { λ r. ⌜ (r ≡ length (withTables (domainIn (now (rows .entry))) (placesAt (domainIn (now (rows .entry))) (i .0))) * expanderAt (domainIn (now (rows .entry))) (i .0) .routeIndexes) × (r ≤ 8388608) ⌝ }
 {
-    let size = wiring::index_count(rows, i) as usize;
+    let size = wiring::route_indexes(rows, i) as usize;
     if size == 0 {
         return 0;
     }
@@ -96,14 +96,14 @@ fn put_table(
     at: usize,
 ) -> usize
     requires { ⌜ TableReady (domainIn (now rows)) (now lists) (now order) (i .0) (p .0) (now words) at ⌝ }
-    ensures { λ r. ⌜ Put (now (words .entry)) (now (words .exit)) at r
+    ensures { λ r. ⌜ WordsPut (now (words .entry)) (now (words .exit)) at r
         (ownTablesOf (domainIn (now (rows .entry))) (place (i .0) (p .0) ∷ [])) ⌝ }
 {
     if !is_table(rows, i, p) {
         return at;
     }
-    let e = at + wiring::index_count(rows, i) as usize;
-    filling::fill_table(rows, lists, order, i, p, &mut words[at..e]);
+    let e = at + wiring::route_indexes(rows, i) as usize;
+    table_filling::fill_table(rows, lists, order, i, p, &mut words[at..e]);
     e
 }
 
@@ -113,14 +113,14 @@ fn put_tables(
     rows: &[u64],
     first: &[u16],
     lists: &[u64],
-    below: &[u8],
+    downstream: &[u8],
     order: &mut [u8],
     i: ExpanderNumber,
     words: &mut [u64],
     at: usize,
 ) -> usize
-    requires { ⌜ TablesReady (domainIn (now rows)) (now first) (now lists) (now below) (now order) (i .0) (now words) at ⌝ }
-    ensures { λ r. ⌜ Put (now (words .entry)) (now (words .exit)) at r
+    requires { ⌜ TablesReady (domainIn (now rows)) (now first) (now lists) (now downstream) (now order) (i .0) (now words) at ⌝ }
+    ensures { λ r. ⌜ WordsPut (now (words .entry)) (now (words .exit)) at r
         (ownTablesOf (domainIn (now (rows .entry))) (placesAt (domainIn (now (rows .entry))) (i .0))) ⌝ }
 {
     let n = wiring::phy_count(rows, i);
@@ -130,8 +130,8 @@ fn put_tables(
     let mut m: usize = 0;
     let mut p: u8 = 0;
     while p < n {
-        let f = wiring::phy_below(rows, i, PhyId(p));
-        m = order::order_for(rows, first, below, q, g, m, i, PhyId(p), f, order);
+        let f = wiring::phy_in_row(rows, i, PhyId(p));
+        m = order::order_for(rows, first, downstream, q, g, m, i, PhyId(p), f, order);
         q = PhyId(p);
         g = f;
         to = put_table(rows, lists, &order[..m], i, PhyId(p), words, to);
@@ -140,23 +140,23 @@ fn put_tables(
     to
 }
 
-// Writes all tables from the front on, with room for own lists, for the expanders below each, and for the levels
+// Writes all tables from the front on, with room for own lists, for the expanders downstream of each, and for the levels
 // of one phy; the words after them stay.
 fn put_all_in(
     rows: &[u64],
     first: &[u16],
     low: &[u8],
     lists: &mut [u64],
-    below: &mut [u8],
+    downstream: &mut [u8],
     order: &mut [u8],
     words: &mut [u64],
 )
-    requires { ⌜ Indexed (domainIn (now rows)) (now first) (now low) × (FillRoom (domainIn (now rows)) (now lists) (now below) (now order)
+    requires { ⌜ Indexed (domainIn (now rows)) (now first) (now low) × (FillRoom (domainIn (now rows)) (now lists) (now downstream) (now order)
         × (Fillable (domainIn (now rows)) × (needed (domainIn (now rows)) ≤ length (now words)))) ⌝ }
     ensures { λ _. ⌜ now (words .exit) ≡ ownTables (domainIn (now (rows .entry))) ++ drop (needed (domainIn (now (rows .entry)))) (now (words .entry)) ⌝ }
 {
-    own::put_owns(rows, low, lists);
-    below::put_below(rows, first, low, below);
+    own_lists::put_owns(rows, low, lists);
+    downstream::put_downstream(rows, first, low, downstream);
     let n = wiring::expander_count(rows);
     let mut to: usize = 0;
     let mut i: u8 = 0;
@@ -165,7 +165,7 @@ fn put_all_in(
             rows,
             first,
             lists,
-            below,
+            downstream,
             order,
             ExpanderNumber(i),
             words,
@@ -181,14 +181,14 @@ fn put_few(rows: &[u64], first: &[u16], low: &[u8], words: &mut [u64])
     ensures { λ _. ⌜ now (words .exit) ≡ ownTables (domainIn (now (rows .entry))) ++ drop (needed (domainIn (now (rows .entry)))) (now (words .entry)) ⌝ }
 {
     let mut lists = [0u64; 1032];
-    let mut below = [0u8; 528];
+    let mut downstream = [0u8; 528];
     let mut order = [0u8; 521];
     put_all_in(
         rows,
         first,
         low,
         &mut lists[..],
-        &mut below[..],
+        &mut downstream[..],
         &mut order[..],
         words,
     );
@@ -200,14 +200,14 @@ fn put_many(rows: &[u64], first: &[u16], low: &[u8], words: &mut [u64])
     ensures { λ _. ⌜ now (words .exit) ≡ ownTables (domainIn (now (rows .entry))) ++ drop (needed (domainIn (now (rows .entry)))) (now (words .entry)) ⌝ }
 {
     let mut lists = [0u64; 8256];
-    let mut below = [0u8; 4224];
+    let mut downstream = [0u8; 4224];
     let mut order = [0u8; 4161];
     put_all_in(
         rows,
         first,
         low,
         &mut lists[..],
-        &mut below[..],
+        &mut downstream[..],
         &mut order[..],
         words,
     );

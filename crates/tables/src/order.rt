@@ -1,6 +1,6 @@
 // The order of a phy: the expanders of its levels, level by level. They stand in a queue: each is followed in
-// turn, and the expanders below it are added behind those that wait.
-use crate::wide;
+// turn, and the expanders downstream of it are added behind those that wait.
+use crate::wide_links;
 use wiring::ExpanderNumber;
 use wiring::Phy;
 use wiring::PhyId;
@@ -10,9 +10,9 @@ ghost use Prim.Native.Nat.{_+_, _*_, _≤_, _<_};
 ghost use lib.ListN.{length, take};
 ghost use Rattle.files.specs.Domain.{phyAt};
 ghost use Rattle.files.specs.Rows.{domainIn};
-ghost use Rattle.tables.specs.Levels.{belowPhys};
-ghost use Rattle.tables.specs.Filling.{Grown};
-ghost use Rattle.tables.specs.Prepared.{BelowHeld, belowOnce, orderOf, PhyIndexed, OrderReady, OrderKept};
+ghost use Rattle.tables.specs.Levels.{downstreamOfPhys};
+ghost use Rattle.tables.specs.GrowingLists.{Grown};
+ghost use Rattle.tables.specs.PreparedLists.{DownstreamListsHeld, downstreamOnce, orderOf, PhyIndexed, OrderReady, OrderKept};
 
 // Copies the numbers after the first m of `order`, and yields how many there are then.
 fn append_numbers(order: &mut [u8], m: usize, more: &[u8]) -> usize
@@ -29,18 +29,24 @@ fn append_numbers(order: &mut [u8], m: usize, more: &[u8]) -> usize
     to
 }
 
-// Copies the numbers of the expanders below expander i there.
-fn append_below(rows: &[u64], below: &[u8], i: ExpanderNumber, order: &mut [u8], m: usize) -> usize
-    requires { ⌜ BelowHeld (domainIn (now rows)) (now below) × (m + 65 ≤ length (now order)) ⌝ }
-    ensures { λ r. ⌜ Grown (now (order .entry)) (now (order .exit)) r (take m (now (order .entry)) ++ belowOnce (domainIn (now (rows .entry))) (i .0)) ⌝ }
+// Copies the numbers of the expanders downstream of expander i there.
+fn append_downstream(
+    rows: &[u64],
+    downstream: &[u8],
+    i: ExpanderNumber,
+    order: &mut [u8],
+    m: usize,
+) -> usize
+    requires { ⌜ DownstreamListsHeld (domainIn (now rows)) (now downstream) × (m + 65 ≤ length (now order)) ⌝ }
+    ensures { λ r. ⌜ Grown (now (order .entry)) (now (order .exit)) r (take m (now (order .entry)) ++ downstreamOnce (domainIn (now (rows .entry))) (i .0)) ⌝ }
 {
     if i.0 >= wiring::expander_count(rows) {
         return m;
     }
     let a = 66 * (i.0 as usize);
     let from = a + 1;
-    let to = from + below[a] as usize;
-    append_numbers(order, m, &below[from..to])
+    let to = from + downstream[a] as usize;
+    append_numbers(order, m, &downstream[from..to])
 }
 
 // Writes the first level of f, phy p of expander i: the expander attached to it, where the levels go on there. The answer is
@@ -54,27 +60,27 @@ fn first_level(
     level: &mut [u8],
 ) -> usize
     requires { ⌜ PhyIndexed (domainIn (now rows)) (now first) (i .0) (p .0) f × (1 ≤ length (now level)) ⌝ }
-    ensures { λ r. ⌜ Grown (now (level .entry)) (now (level .exit)) r (belowPhys (domainIn (now (rows .entry))) (f ∷ [])) ⌝ }
+    ensures { λ r. ⌜ Grown (now (level .entry)) (now (level .exit)) r (downstreamOfPhys (domainIn (now (rows .entry))) (f ∷ [])) ⌝ }
 {
-    if !wide::is_down(rows, first, i, p, f) {
+    if !wide_links::is_down(rows, first, i, p, f) {
         return 0;
     }
-    level[0] = wiring::far_number(rows, first, i, p).0;
+    level[0] = wiring::attached_expander(rows, first, i, p).0;
     1
 }
 
 // Writes the order of f, phy p of expander i, and yields its length. At most 64 expanders are followed, and at most 65 are
-// below each.
+// downstream of each.
 pub(crate) fn put_order(
     rows: &[u64],
     first: &[u16],
-    below: &[u8],
+    downstream: &[u8],
     i: ExpanderNumber,
     p: PhyId,
     f: Phy,
     order: &mut [u8],
 ) -> usize
-    requires { ⌜ PhyIndexed (domainIn (now rows)) (now first) (i .0) (p .0) f × OrderReady (domainIn (now rows)) (now below) (now order) ⌝ }
+    requires { ⌜ PhyIndexed (domainIn (now rows)) (now first) (i .0) (p .0) f × OrderReady (domainIn (now rows)) (now downstream) (now order) ⌝ }
     ensures { λ r. ⌜ Grown (now (order .entry)) (now (order .exit)) r (orderOf (domainIn (now (rows .entry))) f) ⌝ }
 {
     let turns = wiring::expander_count(rows) as usize;
@@ -84,7 +90,7 @@ pub(crate) fn put_order(
         if k >= m {
             return m;
         }
-        m = append_below(rows, below, ExpanderNumber(order[k]), order, m);
+        m = append_downstream(rows, downstream, ExpanderNumber(order[k]), order, m);
         k += 1;
     }
     m
@@ -95,7 +101,7 @@ pub(crate) fn put_order(
 pub(crate) fn order_for(
     rows: &[u64],
     first: &[u16],
-    below: &[u8],
+    downstream: &[u8],
     q: PhyId,
     g: Phy,
     n: usize,
@@ -104,14 +110,14 @@ pub(crate) fn order_for(
     f: Phy,
     order: &mut [u8],
 ) -> usize
-    requires { ⌜ (PhyIndexed (domainIn (now rows)) (now first) (i .0) (p .0) f × (g ≡ phyAt (domainIn (now rows)) (i .0) (q .0))) × OrderKept (domainIn (now rows)) (now below) (now order) n g ⌝ }
+    requires { ⌜ (PhyIndexed (domainIn (now rows)) (now first) (i .0) (p .0) f × (g ≡ phyAt (domainIn (now rows)) (i .0) (q .0))) × OrderKept (domainIn (now rows)) (now downstream) (now order) n g ⌝ }
     ensures { λ r. ⌜ Grown (now (order .entry)) (now (order .exit)) r (orderOf (domainIn (now (rows .entry))) f) ⌝ }
 {
     if wiring::phy_type(f) < 2 {
         return 0;
     }
-    if wide::are_one_link(rows, first, i, p, f, q, g) {
+    if wide_links::are_one_link(rows, first, i, p, f, q, g) {
         return n;
     }
-    put_order(rows, first, below, i, p, f, order)
+    put_order(rows, first, downstream, i, p, f, order)
 }

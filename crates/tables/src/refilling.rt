@@ -1,10 +1,10 @@
 // The tables with an expander in their order, written afresh among words and bits that hold tables already. The words that
 // change are counted before they are written.
 use crate::Replugged;
-use crate::below;
-use crate::filling;
+use crate::downstream;
 use crate::order;
-use crate::own;
+use crate::own_lists;
+use crate::table_filling;
 use crate::word_places;
 use wiring::ExpanderNumber;
 use wiring::Phy;
@@ -16,18 +16,18 @@ ghost use Prim.Native.Nat.{_+_, _-_, _*_, _%_, _^_, _≤_, _<_};
 ghost use lib.ListN.{length, set, replicate};
 ghost use lib.Seq.{sets};
 ghost use lib.Dec.{eqb};
-ghost use Rattle.wiring.specs.Frames.{bitsOf, zeroBit, zeroBits, good};
+ghost use Rattle.wiring.specs.FrameDefinitions.{bitsOf, zeroBit, zeroBits, good};
 ghost use Rattle.files.specs.Domain.{phyAt};
-ghost use Rattle.wiring.specs.Causes.{place};
+ghost use Rattle.wiring.specs.PhyCauses.{place};
 ghost use Rattle.files.specs.Rows.{domainIn};
 ghost use Rattle.tables.specs.Entries.{entries, roomOf, Enough};
 ghost use Rattle.tables.specs.Tables.{size, sizes, needed};
-ghost use Rattle.tables.specs.Own.{own};
-ghost use Rattle.tables.specs.Filling.{placesAt, overlay};
-ghost use Rattle.tables.specs.Prepared.{FarsKnown, OwnHeld, BelowHeld, orderOf, orderList, filledTo, Fillable, FilledFrom};
-ghost use Rattle.tables.specs.Refilling.{changed, movedBy};
-ghost use Rattle.tables.specs.Replugging.{ownTouched, ownRefilled, replugAnswer};
-ghost use Rattle.tables.specs.Rewriting.{withBit, tableLink, Passed, Near, Rewritten};
+ghost use Rattle.tables.specs.OwnLists.{ownWords};
+ghost use Rattle.tables.specs.GrowingLists.{placesAt, overlay};
+ghost use Rattle.tables.specs.PreparedLists.{AttachedExpandersKnown, OwnListsHeld, DownstreamListsHeld, orderOf, ownWordsOfOrder, filledTo, Fillable, FilledFrom};
+ghost use Rattle.tables.specs.TouchedTables.{changed, movedBy};
+ghost use Rattle.tables.specs.ReplugCall.{ownTouched, ownRefilled, replugAnswer};
+ghost use Rattle.tables.specs.TablesRewritten.{withBit, tableLink, Passed, TallyBounds, Rewritten};
 
 // How far the tables gone through reach, how many of them were touched, and how many words changed.
 struct Tally {
@@ -75,8 +75,8 @@ fn count_nonzero(part: &[u64]) -> usize
 
 // At how many places expander i's own list, which has n words, differs from the first words of `part`.
 fn count_own(rows: &[u64], lists: &[u64], i: ExpanderNumber, n: usize, part: &[u64]) -> usize
-    requires { ⌜ OwnHeld (domainIn (now rows)) (now lists) × ((n ≡ length (own (domainIn (now rows)) (i .0))) × (n ≤ length (now part))) ⌝ }
-    ensures { λ r. ⌜ (r ≡ changed (now (part .entry)) (own (domainIn (now (rows .entry))) (i .0))) × (r ≤ n) ⌝ }
+    requires { ⌜ OwnListsHeld (domainIn (now rows)) (now lists) × ((n ≡ length (ownWords (domainIn (now rows)) (i .0))) × (n ≤ length (now part))) ⌝ }
+    ensures { λ r. ⌜ (r ≡ changed (now (part .entry)) (ownWords (domainIn (now (rows .entry))) (i .0))) × (r ≤ n) ⌝ }
 {
     if n == 0 {
         return 0;
@@ -88,8 +88,8 @@ fn count_own(rows: &[u64], lists: &[u64], i: ExpanderNumber, n: usize, part: &[u
 
 // At how many places a table differs from `part`: the own lists of these expanders, one after the other, and zeros after them.
 fn count_table(rows: &[u64], lists: &[u64], order: &[u8], part: &[u64]) -> usize
-    requires { ⌜ OwnHeld (domainIn (now rows)) (now lists) × (length (flatMap (own (domainIn (now rows))) (now order)) ≤ length (now part)) ⌝ }
-    ensures { λ r. ⌜ (r ≡ changed (now (part .entry)) (filledTo (length (now (part .entry))) (flatMap (own (domainIn (now (rows .entry)))) (now (order .entry)))))
+    requires { ⌜ OwnListsHeld (domainIn (now rows)) (now lists) × (length (flatMap (ownWords (domainIn (now rows))) (now order)) ≤ length (now part)) ⌝ }
+    ensures { λ r. ⌜ (r ≡ changed (now (part .entry)) (filledTo (length (now (part .entry))) (flatMap (ownWords (domainIn (now (rows .entry)))) (now (order .entry)))))
         × (r ≤ length (now (part .entry))) ⌝ }
 {
     let mut sum: usize = 0;
@@ -97,7 +97,7 @@ fn count_table(rows: &[u64], lists: &[u64], order: &[u8], part: &[u64]) -> usize
     let mut k: usize = 0;
     while k < order.len() {
         let i = ExpanderNumber(order[k]);
-        let n = own::own_length(rows, lists, i);
+        let n = own_lists::own_length(rows, lists, i);
         sum += count_own(rows, lists, i, n, &part[m..]);
         m += n;
         k += 1;
@@ -194,12 +194,12 @@ fn renew_table(
 ) -> usize
     requires { ⌜ FilledFrom (domainIn (now rows)) (i .0) (p .0) (now lists) (now order) (to - at)
         × ((at ≤ to) × ((to ≤ length (now words)) × (to ≤ 8 * length (now bits)))) ⌝ }
-    ensures { λ r. ⌜ (now (words .exit) ≡ overlay (now (words .entry)) at (filledTo (to - at) (orderList (domainIn (now (rows .entry))) (i .0) (p .0))))
-        × ((bitsOf (now (bits .exit)) ≡ overlay (bitsOf (now (bits .entry))) at (zeroBits (filledTo (to - at) (orderList (domainIn (now (rows .entry))) (i .0) (p .0)))))
+    ensures { λ r. ⌜ (now (words .exit) ≡ overlay (now (words .entry)) at (filledTo (to - at) (ownWordsOfOrder (domainIn (now (rows .entry))) (i .0) (p .0))))
+        × ((bitsOf (now (bits .exit)) ≡ overlay (bitsOf (now (bits .entry))) at (zeroBits (filledTo (to - at) (ownWordsOfOrder (domainIn (now (rows .entry))) (i .0) (p .0)))))
         × ((r ≡ changed (now (words .entry)) (now (words .exit))) × (r ≤ to - at))) ⌝ }
 {
     let n = count_table(rows, lists, order, &words[at..to]);
-    filling::fill_table(rows, lists, order, i, p, &mut words[at..to]);
+    table_filling::fill_table(rows, lists, order, i, p, &mut words[at..to]);
     mark_from(&words[at..to], bits, at);
     n
 }
@@ -216,14 +216,14 @@ fn refill_table(
     bits: &mut [u8],
     s: Tally,
 ) -> Tally
-    requires { ⌜ OwnHeld (domainIn (now rows)) (now lists) × ((now order ≡ orderOf (domainIn (now rows)) (phyAt (domainIn (now rows)) (i .0) (p .0)))
+    requires { ⌜ OwnListsHeld (domainIn (now rows)) (now lists) × ((now order ≡ orderOf (domainIn (now rows)) (phyAt (domainIn (now rows)) (i .0) (p .0)))
         × (Fillable (domainIn (now rows)) × (((s .tables < 2 ^ 32) × (s .words ≤ s .at))
         × ((s .at + size (domainIn (now rows)) (place (i .0) (p .0)) ≤ length (now words)) × (s .at + size (domainIn (now rows)) (place (i .0) (p .0)) ≤ 8 * length (now bits)))))) ⌝ }
     ensures { λ r. ⌜ Rewritten (domainIn (now (rows .entry))) (e .0) (place (i .0) (p .0) ∷ []) s r
-        (entries (now (words .entry)) (now (bits .entry))) (entries (now (words .exit)) (now (bits .exit))) × Near 1 s r ⌝ }
+        (entries (now (words .entry)) (now (bits .entry))) (entries (now (words .exit)) (now (bits .exit))) × TallyBounds 1 s r ⌝ }
 {
     let to = s.at + word_places::size_at(rows, i, p) as usize;
-    if !below::has_number(order, e) {
+    if !downstream::has_number(order, e) {
         return Tally {
             at: to,
             tables: s.tables,
@@ -266,7 +266,7 @@ fn refill_at(
     rows: &[u64],
     first: &[u16],
     lists: &[u64],
-    below: &[u8],
+    downstream: &[u8],
     order: &mut [u8],
     e: ExpanderNumber,
     i: ExpanderNumber,
@@ -274,11 +274,11 @@ fn refill_at(
     bits: &mut [u8],
     s: Tally,
 ) -> Tally
-    requires { ⌜ FarsKnown (domainIn (now rows)) (now first) × (OwnHeld (domainIn (now rows)) (now lists) × (BelowHeld (domainIn (now rows)) (now below) × ((65 * length (domainIn (now rows)) < length (now order))
+    requires { ⌜ AttachedExpandersKnown (domainIn (now rows)) (now first) × (OwnListsHeld (domainIn (now rows)) (now lists) × (DownstreamListsHeld (domainIn (now rows)) (now downstream) × ((65 * length (domainIn (now rows)) < length (now order))
         × (Fillable (domainIn (now rows)) × (((s .tables ≤ 16384) × (s .words ≤ s .at))
         × ((s .at + sizes (domainIn (now rows)) (placesAt (domainIn (now rows)) (i .0)) ≤ length (now words)) × (s .at + sizes (domainIn (now rows)) (placesAt (domainIn (now rows)) (i .0)) ≤ 8 * length (now bits)))))))) ⌝ }
     ensures { λ r. ⌜ Rewritten (domainIn (now (rows .entry))) (e .0) (placesAt (domainIn (now (rows .entry))) (i .0)) s r
-        (entries (now (words .entry)) (now (bits .entry))) (entries (now (words .exit)) (now (bits .exit))) × Near 128 s r ⌝ }
+        (entries (now (words .entry)) (now (bits .entry))) (entries (now (words .exit)) (now (bits .exit))) × TallyBounds 128 s r ⌝ }
 {
     let n = wiring::phy_count(rows, i);
     let mut t = s;
@@ -292,8 +292,8 @@ fn refill_at(
             p += 1;
             continue;
         }
-        let f = wiring::phy_below(rows, i, PhyId(p));
-        m = order::order_for(rows, first, below, q, g, m, i, PhyId(p), f, order);
+        let f = wiring::phy_in_row(rows, i, PhyId(p));
+        m = order::order_for(rows, first, downstream, q, g, m, i, PhyId(p), f, order);
         q = PhyId(p);
         g = f;
         t = refill_table(rows, lists, &order[..m], e, i, PhyId(p), words, bits, t);
@@ -307,13 +307,13 @@ pub(crate) fn refill_all(
     rows: &[u64],
     first: &[u16],
     lists: &[u64],
-    below: &[u8],
+    downstream: &[u8],
     order: &mut [u8],
     e: ExpanderNumber,
     words: &mut [u64],
     bits: &mut [u8],
 ) -> Replugged
-    requires { ⌜ FarsKnown (domainIn (now rows)) (now first) × (OwnHeld (domainIn (now rows)) (now lists) × (BelowHeld (domainIn (now rows)) (now below) × ((65 * length (domainIn (now rows)) < length (now order))
+    requires { ⌜ AttachedExpandersKnown (domainIn (now rows)) (now first) × (OwnListsHeld (domainIn (now rows)) (now lists) × (DownstreamListsHeld (domainIn (now rows)) (now downstream) × ((65 * length (domainIn (now rows)) < length (now order))
         × (Fillable (domainIn (now rows)) × Enough (needed (domainIn (now rows))) (roomOf (entries (now words) (now bits))))))) ⌝ }
     ensures { λ r. ⌜ (entries (now (words .exit)) (now (bits .exit)) ≡ ownRefilled (domainIn (now (rows .entry))) (e .0) (entries (now (words .entry)) (now (bits .entry))))
         × (replugAnswer r ≡ good (movedBy (domainIn (now (rows .entry))) (ownTouched (domainIn (now (rows .entry))) (e .0)) (entries (now (words .entry)) (now (bits .entry))) (entries (now (words .exit)) (now (bits .exit))))) ⌝ }
@@ -330,7 +330,7 @@ pub(crate) fn refill_all(
             rows,
             first,
             lists,
-            below,
+            downstream,
             order,
             e,
             ExpanderNumber(i),

@@ -2,8 +2,8 @@
 // the edited domain is tested, and the touched tables are written afresh.
 use crate::Replugged;
 use crate::all_tables;
-use crate::below;
-use crate::own;
+use crate::downstream;
+use crate::own_lists;
 use crate::refilling;
 use crate::retesting;
 use wiring::Check;
@@ -16,18 +16,18 @@ ghost use Prim.Native.Nat.{_≤_};
 ghost use mathlib.Core.Bool.{cond};
 ghost use lib.Dec.{T, eqb};
 ghost use lib.ListN.{length};
-ghost use Rattle.wiring.specs.Frames.{refusal, unless, then};
+ghost use Rattle.wiring.specs.FrameDefinitions.{refusal, unless, then};
 ghost use Rattle.wiring.specs.Checks.{checkAnswer};
 ghost use Rattle.files.specs.Domain.{phyAt};
 ghost use Rattle.files.specs.Rows.{domainIn};
-ghost use Rattle.files.specs.PhySet.{withWords};
-ghost use Rattle.wiring.specs.Addresses.{Indexed, IndexLeft};
+ghost use Rattle.files.specs.PhyReplaced.{withWords};
+ghost use Rattle.wiring.specs.AddressIndex.{Indexed, IndexLeft};
 ghost use Rattle.tables.specs.Entries.{entries, roomOf, Enough};
 ghost use Rattle.tables.specs.Tables.{needed};
-ghost use Rattle.tables.specs.Judge.{tablesFor};
-ghost use Rattle.tables.specs.Own.{own};
-ghost use Rattle.tables.specs.Prepared.{FillRoom};
-ghost use Rattle.tables.specs.Replugging.{pluggable, replug, replugged, retested, admitted, replugCall, rowsAfter, ReplugDone, ReplugReady, ReplugRun};
+ghost use Rattle.tables.specs.JudgingCall.{tablesFor};
+ghost use Rattle.tables.specs.OwnLists.{ownWords};
+ghost use Rattle.tables.specs.PreparedLists.{FillRoom};
+ghost use Rattle.tables.specs.ReplugCall.{pluggable, replug, replugged, retested, admitted, replugCall, rowsAfter, ReplugDone, ReplugReady, ReplugRun};
 ghost use Rattle.tables.specs.declared.Replugged.the-variants.{Refused as NotReplugged};
 
 // Whether a drive can be plugged into the phy or pulled from it: 20 does not hold.
@@ -36,7 +36,7 @@ fn is_pluggable(f: Phy) -> bool
 {
     match f {
         Phy::Vacant(_) => false,
-        Phy::Present(x) => !(x.device >= 2),
+        Phy::Present(x) => !(x.deviceType >= 2),
     }
 }
 
@@ -57,10 +57,10 @@ fn replug_phy(a: u64, f: Phy) -> Phy
     match f {
         Phy::Vacant(r) => Phy::Vacant(r),
         Phy::Present(x) => Phy::Present(PhyFields {
-            device: drive_type(a),
+            deviceType: drive_type(a),
             attribute: x.attribute,
             address: a,
-            far: PhyId(0),
+            attachedPhy: PhyId(0),
         }),
     }
 }
@@ -84,13 +84,13 @@ fn admit(rows: &[u64], words: usize, bits: usize, e: ExpanderNumber, p: PhyId) -
 }
 
 // Replaces the phy in rows, tests what can hold of the edited domain, and writes the touched tables afresh; with own lists and the
-// expanders below each as they are before, and room for the levels of one phy.
+// expanders downstream of each as they are before, and room for the levels of one phy.
 fn replug_prepared(
     rows: &mut [u64],
     first: &[u16],
     low: &[u8],
     lists: &mut [u64],
-    below: &[u8],
+    downstream: &[u8],
     order: &mut [u8],
     words: &mut [u64],
     bits: &mut [u8],
@@ -98,30 +98,39 @@ fn replug_prepared(
     p: PhyId,
     a: u64,
 ) -> Replugged
-    requires { ⌜ ReplugReady (domainIn (now rows)) (e .0) (length (own (domainIn (now rows)) (e .0))) (now first) (now lists) (now below) (now order) × (T (pluggable (phyAt (domainIn (now rows)) (e .0) (p .0)))
+    requires { ⌜ ReplugReady (domainIn (now rows)) (e .0) (length (ownWords (domainIn (now rows)) (e .0))) (now first) (now lists) (now downstream) (now order) × (T (pluggable (phyAt (domainIn (now rows)) (e .0) (p .0)))
         × Enough (needed (domainIn (now rows))) (roomOf (entries (now words) (now bits)))) ⌝ }
     ensures { λ r. ⌜ (now (rows .exit) ≡ withWords (now (rows .entry)) (e .0) (p .0) (replug a (phyAt (domainIn (now (rows .entry))) (e .0) (p .0))))
         × ReplugDone (retested (e .0) a (replugged (domainIn (now (rows .entry))) (e .0) (p .0) a)) (e .0) r
         (entries (now (words .entry)) (now (bits .entry))) (entries (now (words .exit)) (now (bits .exit))) ⌝ }
 {
-    let n = own::own_length(rows, lists, e);
+    let n = own_lists::own_length(rows, lists, e);
     let f = wiring::phy_at(rows, e, p);
     wiring::set_phy(rows, e, p, replug_phy(a, f));
     retesting::renew_own(rows, e, lists);
-    let verdict = retesting::retest(rows, first, low, lists, below, order, e, a, n);
+    let verdict = retesting::retest(rows, first, low, lists, downstream, order, e, a, n);
     match verdict {
         Check::Refused(r) => Replugged::Refused(r),
-        Check::Passed => refilling::refill_all(rows, first, lists, below, order, e, words, bits),
+        Check::Passed => refilling::refill_all(
+            rows,
+            first,
+            lists,
+            downstream,
+            order,
+            e,
+            words,
+            bits,
+        ),
     }
 }
 
-// Tests 14, 20, 16 and 18 and replugs a drive, with room for own lists, for the expanders below each, and for the levels of one phy.
+// Tests 14, 20, 16 and 18 and replugs a drive, with room for own lists, for the expanders downstream of each, and for the levels of one phy.
 fn replug_in(
     rows: &mut [u64],
     first: &[u16],
     low: &[u8],
     lists: &mut [u64],
-    below: &mut [u8],
+    downstream: &mut [u8],
     order: &mut [u8],
     words: &mut [u64],
     bits: &mut [u8],
@@ -129,13 +138,13 @@ fn replug_in(
     p: PhyId,
     a: u64,
 ) -> Replugged
-    requires { ⌜ Indexed (domainIn (now rows)) (now first) (now low) × (FillRoom (domainIn (now rows)) (now lists) (now below) (now order) × (length (now order) ≤ 4161)) ⌝ }
+    requires { ⌜ Indexed (domainIn (now rows)) (now first) (now low) × (FillRoom (domainIn (now rows)) (now lists) (now downstream) (now order) × (length (now order) ≤ 4161)) ⌝ }
     ensures { λ r. ⌜ ReplugRun (now (rows .entry)) (now (rows .exit)) (e .0) (p .0) a r
         (entries (now (words .entry)) (now (bits .entry))) (entries (now (words .exit)) (now (bits .exit))) ⌝ }
 {
-    own::put_owns(rows, low, lists);
-    below::put_below(rows, first, low, below);
-    let fit = retesting::first_overlong_by(rows, first, low, lists, below, order);
+    own_lists::put_owns(rows, low, lists);
+    downstream::put_downstream(rows, first, low, downstream);
+    let fit = retesting::first_overlong_by(rows, first, low, lists, downstream, order);
     match fit {
         Check::Refused(r) => Replugged::Refused(r),
         Check::Passed => {
@@ -147,7 +156,7 @@ fn replug_in(
                     first,
                     low,
                     lists,
-                    below,
+                    downstream,
                     order,
                     words,
                     bits,
@@ -176,14 +185,14 @@ fn replug_few(
         (entries (now (words .entry)) (now (bits .entry))) (entries (now (words .exit)) (now (bits .exit))) ⌝ }
 {
     let mut lists = [0u64; 1032];
-    let mut below = [0u8; 528];
+    let mut downstream = [0u8; 528];
     let mut order = [0u8; 521];
     replug_in(
         rows,
         first,
         low,
         &mut lists[..],
-        &mut below[..],
+        &mut downstream[..],
         &mut order[..],
         words,
         bits,
@@ -209,14 +218,14 @@ fn replug_many(
         (entries (now (words .entry)) (now (bits .entry))) (entries (now (words .exit)) (now (bits .exit))) ⌝ }
 {
     let mut lists = [0u64; 8256];
-    let mut below = [0u8; 4224];
+    let mut downstream = [0u8; 4224];
     let mut order = [0u8; 4161];
     replug_in(
         rows,
         first,
         low,
         &mut lists[..],
-        &mut below[..],
+        &mut downstream[..],
         &mut order[..],
         words,
         bits,

@@ -1,7 +1,7 @@
 // After a drive was plugged or pulled at one expander of an accepted domain, over rows in which its phy is replaced: the causes
 // that can hold, which are 8 of its address, 9 at its expander and 14, and the own list of its expander.
 use crate::overlong;
-use crate::own;
+use crate::own_lists;
 use wiring::Check;
 use wiring::ExpanderNumber;
 use wiring::Phy;
@@ -12,14 +12,14 @@ ghost use lib.ListN.{length};
 ghost use lib.Dec.{ltb};
 ghost use Rattle.files.specs.Lists.{any};
 ghost use Rattle.files.specs.Domain.{expanderAt, bears, numberOf};
-ghost use Rattle.wiring.specs.Causes.{clash, clashing, firstIn, firstOf};
+ghost use Rattle.wiring.specs.PhyCauses.{clash, clashing, firstIn, firstOf};
 ghost use Rattle.wiring.specs.Checks.{checkAnswer};
 ghost use Rattle.files.specs.Rows.{domainIn};
-ghost use Rattle.tables.specs.Filling.{Grown, placesAt};
-ghost use Rattle.tables.specs.Own.{lower, owns, own};
-ghost use Rattle.tables.specs.Prepared.{FarsKnown, OwnHeld, Counted, BelowHeld, overOwn};
-ghost use Rattle.tables.specs.Replugging.{claimedWith, retested, OwnHeldBut, ReplugReady};
-ghost use Rattle.tables.specs.Retests.{isEnd, endsAt, isFound};
+ghost use Rattle.tables.specs.GrowingLists.{Grown, placesAt};
+ghost use Rattle.tables.specs.OwnLists.{lower, owns, ownWords};
+ghost use Rattle.tables.specs.PreparedLists.{AttachedExpandersKnown, OwnListsHeld, OwnListCounts, DownstreamListsHeld, ownOverlong};
+ghost use Rattle.tables.specs.ReplugCall.{claimedWith, retested, OwnListsHeldBut, ReplugReady};
+ghost use Rattle.tables.specs.EndDeviceTests.{isEnd, endsAt, isFound};
 
 // Whether an expander has address s.
 fn is_expander(rows: &[u64], s: u64) -> bool
@@ -54,7 +54,7 @@ fn first_end(rows: &[u64], i: ExpanderNumber, s: u64) -> Check
     let n = wiring::phy_count(rows, i);
     let mut p: u8 = 0;
     while p < n {
-        let f = wiring::phy_below(rows, i, PhyId(p));
+        let f = wiring::phy_in_row(rows, i, PhyId(p));
         if is_end(s, f) {
             return wiring::check_refused(8, i, PhyId(p));
         }
@@ -119,13 +119,13 @@ fn has_clash(rows: &[u64], i: ExpanderNumber, p: PhyId) -> bool
     requires { ⌜ p .0 < length (expanderAt (domainIn (now rows)) (i .0) .phys) ⌝ }
     ensures { λ r. ⌜ r ≡ clashing (domainIn (now (rows .entry))) (i .0) (p .0) ⌝ }
 {
-    let f = wiring::phy_below(rows, i, p);
+    let f = wiring::phy_in_row(rows, i, p);
     if wiring::phy_type(f) == 0 {
         return false;
     }
     let mut q: u8 = 0;
     while q < p.0 {
-        let g = wiring::phy_below(rows, i, PhyId(q));
+        let g = wiring::phy_in_row(rows, i, PhyId(q));
         if is_clash(f, g) {
             return true;
         }
@@ -158,7 +158,7 @@ fn is_borne(rows: &[u64], i: ExpanderNumber, p: PhyId, s: u64) -> bool
     let mut q = p.0;
     while q > 0 {
         q -= 1;
-        if own::phy_bears(s, wiring::phy_below(rows, i, PhyId(q))) {
+        if own_lists::phy_bears(s, wiring::phy_in_row(rows, i, PhyId(q))) {
             return true;
         }
     }
@@ -186,15 +186,15 @@ fn gives_word(rows: &[u64], i: ExpanderNumber, p: PhyId, f: Phy) -> bool
 // Writes the own list of expander i, and yields its length: at most 128.
 fn collect_words(rows: &[u64], i: ExpanderNumber, part: &mut [u64]) -> usize
     requires { ⌜ 128 ≤ length (now part) ⌝ }
-    ensures { λ r. ⌜ Grown (now (part .entry)) (now (part .exit)) r (own (domainIn (now (rows .entry))) (i .0)) ⌝ }
+    ensures { λ r. ⌜ Grown (now (part .entry)) (now (part .exit)) r (ownWords (domainIn (now (rows .entry))) (i .0)) ⌝ }
 {
     let n = wiring::phy_count(rows, i);
     let mut m: usize = 0;
     let mut p: u8 = 0;
     while p < n {
-        let f = wiring::phy_below(rows, i, PhyId(p));
+        let f = wiring::phy_in_row(rows, i, PhyId(p));
         let mine = gives_word(rows, i, PhyId(p), f);
-        m = own::put_word(part, m, mine, f);
+        m = own_lists::put_word(part, m, mine, f);
         p += 1;
     }
     m
@@ -202,8 +202,8 @@ fn collect_words(rows: &[u64], i: ExpanderNumber, part: &mut [u64]) -> usize
 
 // Writes the own list of expander e with its length before it, where the others stand.
 pub(crate) fn renew_own(rows: &[u64], e: ExpanderNumber, lists: &mut [u64])
-    requires { ⌜ OwnHeldBut (domainIn (now rows)) (e .0) (now lists) ⌝ }
-    ensures { λ _. ⌜ OwnHeld (domainIn (now (rows .entry))) (now (lists .exit)) ⌝ }
+    requires { ⌜ OwnListsHeldBut (domainIn (now rows)) (e .0) (now lists) ⌝ }
+    ensures { λ _. ⌜ OwnListsHeld (domainIn (now (rows .entry))) (now (lists .exit)) ⌝ }
 {
     if e.0 >= wiring::expander_count(rows) {
         return;
@@ -215,8 +215,8 @@ pub(crate) fn renew_own(rows: &[u64], e: ExpanderNumber, lists: &mut [u64])
 
 // Writes the length of each expander's own list.
 fn put_lengths(rows: &[u64], lists: &[u64], counts: &mut [u8])
-    requires { ⌜ OwnHeld (domainIn (now rows)) (now lists) × (length (domainIn (now rows)) ≤ length (now counts)) ⌝ }
-    ensures { λ _. ⌜ Counted (domainIn (now (rows .entry))) (now (counts .exit)) ⌝ }
+    requires { ⌜ OwnListsHeld (domainIn (now rows)) (now lists) × (length (domainIn (now rows)) ≤ length (now counts)) ⌝ }
+    ensures { λ _. ⌜ OwnListCounts (domainIn (now (rows .entry))) (now (counts .exit)) ⌝ }
 {
     let n = wiring::expander_count(rows);
     let mut i: u8 = 0;
@@ -232,16 +232,16 @@ pub(crate) fn first_overlong_by(
     first: &[u16],
     low: &[u8],
     lists: &[u64],
-    below: &[u8],
+    downstream: &[u8],
     order: &mut [u8],
 ) -> Check
-    requires { ⌜ FarsKnown (domainIn (now rows)) (now first) × (OwnHeld (domainIn (now rows)) (now lists) × (BelowHeld (domainIn (now rows)) (now below) × ((65 * length (domainIn (now rows)) < length (now order)) × (length (now order) ≤ 4161)))) ⌝ }
+    requires { ⌜ AttachedExpandersKnown (domainIn (now rows)) (now first) × (OwnListsHeld (domainIn (now rows)) (now lists) × (DownstreamListsHeld (domainIn (now rows)) (now downstream) × ((65 * length (domainIn (now rows)) < length (now order)) × (length (now order) ≤ 4161)))) ⌝ }
     ensures { λ r. ⌜ checkAnswer (domainIn (now (rows .entry))) r
-        ≡ firstOf 14 (overOwn (domainIn (now (rows .entry)))) (domainIn (now (rows .entry))) ⌝ }
+        ≡ firstOf 14 (ownOverlong (domainIn (now (rows .entry)))) (domainIn (now (rows .entry))) ⌝ }
 {
     let mut counts = [0u8; 64];
     put_lengths(rows, lists, &mut counts[..]);
-    overlong::overlong_each(rows, first, low, &counts[..], below, order)
+    overlong::overlong_each(rows, first, low, &counts[..], downstream, order)
 }
 
 // Cause 14 of a domain whose lists have at most R words as long as expander e's own list has at most n.
@@ -250,19 +250,19 @@ fn overlong_past(
     first: &[u16],
     low: &[u8],
     lists: &[u64],
-    below: &[u8],
+    downstream: &[u8],
     order: &mut [u8],
     e: ExpanderNumber,
     n: usize,
 ) -> Check
-    requires { ⌜ ReplugReady (domainIn (now rows)) (e .0) n (now first) (now lists) (now below) (now order) ⌝ }
+    requires { ⌜ ReplugReady (domainIn (now rows)) (e .0) n (now first) (now lists) (now downstream) (now order) ⌝ }
     ensures { λ r. ⌜ checkAnswer (domainIn (now (rows .entry))) r
-        ≡ firstOf 14 (overOwn (domainIn (now (rows .entry)))) (domainIn (now (rows .entry))) ⌝ }
+        ≡ firstOf 14 (ownOverlong (domainIn (now (rows .entry)))) (domainIn (now (rows .entry))) ⌝ }
 {
-    if own::own_length(rows, lists, e) <= n {
+    if own_lists::own_length(rows, lists, e) <= n {
         return Check::Passed;
     }
-    first_overlong_by(rows, first, low, lists, below, order)
+    first_overlong_by(rows, first, low, lists, downstream, order)
 }
 
 // The causes that can hold where one phy of expander e of an accepted domain has been given address s: 8 of s, 9 at
@@ -272,13 +272,13 @@ pub(crate) fn retest(
     first: &[u16],
     low: &[u8],
     lists: &[u64],
-    below: &[u8],
+    downstream: &[u8],
     order: &mut [u8],
     e: ExpanderNumber,
     s: u64,
     n: usize,
 ) -> Check
-    requires { ⌜ ReplugReady (domainIn (now rows)) (e .0) n (now first) (now lists) (now below) (now order) ⌝ }
+    requires { ⌜ ReplugReady (domainIn (now rows)) (e .0) n (now first) (now lists) (now downstream) (now order) ⌝ }
     ensures { λ r. ⌜ checkAnswer (domainIn (now (rows .entry))) r ≡ retested (e .0) s (domainIn (now (rows .entry))) ⌝ }
 {
     let claimed = first_claim(rows, s);
@@ -288,7 +288,7 @@ pub(crate) fn retest(
             let clashing = first_clash(rows, e);
             match clashing {
                 Check::Refused(r) => Check::Refused(r),
-                Check::Passed => overlong_past(rows, first, low, lists, below, order, e, n),
+                Check::Passed => overlong_past(rows, first, low, lists, downstream, order, e, n),
             }
         }
     }

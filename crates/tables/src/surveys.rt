@@ -11,12 +11,12 @@ use wiring::Setting;
 ghost use mathlib.Core.Path.{_≡_};
 ghost use Prim.Native.Nat.{_≤_};
 ghost use lib.ListN.{length};
-ghost use Rattle.wiring.specs.Frames.{byte, then};
+ghost use Rattle.wiring.specs.FrameDefinitions.{byte, then};
 ghost use Rattle.files.specs.Rows.{domainIn};
 ghost use Rattle.wiring.specs.Checks.{FileRoom};
-ghost use Rattle.tables.specs.Judge.{judged, countsIn, tablesAnswer};
-ghost use Rattle.tables.specs.Prepared.{judgedIn};
-ghost use Rattle.tables.specs.Words.{wordPlace, wordAnswer, surveyIn, surveyAnswer};
+ghost use Rattle.tables.specs.JudgingCall.{judged, countsIn, tablesAnswer};
+ghost use Rattle.tables.specs.PreparedLists.{judgedIn};
+ghost use Rattle.tables.specs.WordEntries.{wordPlace, wordAnswer, surveyIn, surveyAnswer};
 
 // Of an accepted file: the number of tables, the number of words, and where one of them belongs.
 enum Survey {

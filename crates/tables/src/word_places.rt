@@ -7,10 +7,10 @@ use wiring::PhyId;
 use wiring::RouteIndex;
 ghost use mathlib.Core.Path.{_≡_};
 ghost use Prim.Native.Nat.{_<_};
-ghost use Rattle.wiring.specs.Causes.{place};
+ghost use Rattle.wiring.specs.PhyCauses.{place};
 ghost use Rattle.files.specs.Rows.{domainIn};
 ghost use Rattle.tables.specs.Tables.{size};
-ghost use Rattle.tables.specs.Words.{wordPlace, wordAnswer, SoughtAt};
+ghost use Rattle.tables.specs.WordEntries.{wordPlace, wordAnswer, SoughtAt};
 
 // What going through the tables of one expander gives: the entry, or how many words are left to go.
 enum Sought {
@@ -25,7 +25,7 @@ pub fn size_at(rows: &[u64], i: ExpanderNumber, p: PhyId) -> u64
     if !is_table(rows, i, p) {
         return 0;
     }
-    wiring::index_count(rows, i) as u64
+    wiring::route_indexes(rows, i) as u64
 }
 
 // Word k of the tables from expander i on, as far as it is one of expander i's.

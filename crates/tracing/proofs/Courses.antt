@@ -3,17 +3,17 @@
 use mathlib.Core.Path.{_≡_, refl, sym, ap, _∙_}
 use mathlib.Core.List.{List, [], flatMap}
 use Prim.Native.Nat.{ℕ}
-use Rattle.tables.specs.Wiring.{refused, good, then, refusal, Setting, InRange, NoSmaller, Domain}
-use Rattle.tables.specs.Levels.{once, belowPhys, below, nextLevel, levelsFrom, levels}
-use Rattle.tables.specs.Tables.{heldBy, gives, give, giveAll, levelList}
-use Rattle.tables.specs.Judge.{overlong, judgedDomain, judged, tablesFor, tableCall}
-use Rattle.tables.proofs.Wiring.{wiring-more}
-use Rattle.tables.proofs.Given.{judged-file}
-use Rattle.tables.proofs.Wider.{judged-more}
-use Rattle.tables.proofs.Opened.{numberAt, bytesOf, frameSize, generalFixed, generalRead, discoverFixed, discoverRead, numbers, any, keep, isIn, numberOf, sizeAt, phyUnit, phyUnits, expanderUnit, expanders, headerUnit, domainRead, unanswered, endAt, claimed, clash, clashing, fixed, phyPlaces, placesFrom, firstIn, wiredDomain, strip, reach, cabled, neighbours, inRange, chainsWithin, unlong, unlooped, joined, joinedIn, linkedDomain}
+use Rattle.tables.specs.WiringDefinitions.{refused, good, then, refusal, Setting, InRange, NoSmaller, Domain}
+use Rattle.tables.specs.Levels.{eachOnce, downstreamOfPhys, downstream, nextLevel, levelsFrom, levels}
+use Rattle.tables.specs.Tables.{addressAt, gives, give, giveAll, levelList}
+use Rattle.tables.specs.JudgingCall.{overlong, judgedDomain, judged, tablesFor, tableCall}
+use Rattle.tables.proofs.WiringLemmas.{wiring-more}
+use Rattle.tables.proofs.AcceptedDomains.{judged-file}
+use Rattle.tables.proofs.WiderSetting.{judged-more}
+use Rattle.tables.proofs.WorkedDefinitions.{numberAt, bytesOf, frameSize, generalFixed, generalRead, discoverFixed, discoverRead, numbers, any, keep, isIn, numberOf, sizeAt, phyUnit, phyUnits, expanderUnit, expanders, headerUnit, domainRead, unanswered, endAt, claimed, clash, clashing, fixed, phyPlaces, placesFrom, firstIn, wiredDomain, strip, reach, cabled, neighbours, inRange, chainsWithin, unlong, unlooped, joined, joinedIn, linkedDomain}
 use Rattle.tracing.specs.Trace.{tracedRequest, traceCall}
 use Rattle.tracing.specs.Courses.{Alike}
-use Rattle.tracing.proofs.Pair.{general, discover, pair, rig}
+use Rattle.tracing.proofs.PairRig.{general, discover, pair, rig}
 
 pub monotone : (setting other : Setting) → NoSmaller setting other → InRange other → (file : List ℕ) (d : Domain) → judged setting file ≡ good d
     → Alike setting other file d
@@ -43,6 +43,6 @@ unfolding general discover pair rig
     numbers any keep isIn numberOf sizeAt phyUnit phyUnits expanderUnit expanders headerUnit inRange domainRead
     unanswered endAt claimed clash clashing fixed phyPlaces placesFrom firstIn wiredDomain
     strip reach cabled neighbours unlooped joined joinedIn chainsWithin unlong linkedDomain
-    once belowPhys below nextLevel levelsFrom levels flatMap
-    heldBy gives give giveAll levelList overlong judgedDomain
+    eachOnce downstreamOfPhys downstream nextLevel levelsFrom levels flatMap
+    addressAt gives give giveAll levelList overlong judgedDomain
 pair-courses = (refl, (refl, (refl, (refl, (refl, refl)))))

@@ -4,13 +4,13 @@ use Prim.Native.Nat.{ℕ}
 use mathlib.Core.Path.{_≡_, refl}
 use mathlib.Core.List.{List, _∷_, _++_}
 use lib.ListN.{take, drop, replicate}
-use Rattle.tables.specs.Wiring.{refused, refusal, Setting, widest}
+use Rattle.tables.specs.WiringDefinitions.{refused, refusal, Setting, widest}
 use Rattle.tables.specs.Entries.{Entries}
-use Rattle.tables.specs.Judge.{judged}
+use Rattle.tables.specs.JudgingCall.{judged}
 use Rattle.tables.proofs.LongFrames.{short-judged}
-use Rattle.tables.proofs.Opened.{numberAt, bytesOf, frameSize, generalFixed, generalRead, discoverFixed, discoverRead, any, isIn, sizeAt, phyUnit, phyUnits, expanderUnit, expanders, headerUnit, domainRead, shortPhys, shortExpanders, shortFile, inRange}
+use Rattle.tables.proofs.WorkedDefinitions.{numberAt, bytesOf, frameSize, generalFixed, generalRead, discoverFixed, discoverRead, any, isIn, sizeAt, phyUnit, phyUnits, expanderUnit, expanders, headerUnit, domainRead, shortPhys, shortExpanders, shortFile, inRange}
 use Rattle.tracing.specs.Trace.{Request, traceCall}
-use Rattle.tracing.proofs.Pair.{general, discover, at, pair}
+use Rattle.tracing.proofs.PairRig.{general, discover, at, pair}
 
 pub short-traces : (setting : Setting) (file : List ℕ) (t : Entries) (bytes : ℕ) (q : Request)
     → traceCall setting (shortFile setting file) t bytes q ≡ traceCall setting file t bytes q

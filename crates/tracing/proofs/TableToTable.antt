@@ -2,11 +2,11 @@
 use Prim.Native.Nat.{ℕ}
 use mathlib.Core.Path.{_≡_, refl}
 use mathlib.Core.List.{List, [], _∷_, flatMap}
-use Rattle.tables.specs.Wiring.{Phy, Present, good, Domain}
-use Rattle.tables.proofs.Opened.{numbers, any, keep, isIn, numberOf, unanswered, endAt, claimed, clash, clashing, fixed, phyPlaces, placesFrom, firstIn, wiredDomain, strip, reach, cabled, neighbours, chainsWithin, unlong, unlooped, joined, joinedIn, linkedDomain}
-use Rattle.tables.specs.Levels.{once, belowPhys, below, nextLevel, levelsFrom, levels}
-use Rattle.tables.specs.Tables.{heldBy, gives, give, giveAll, levelList, table, tablePlaces, tables, size, offsetIn, stretch}
-use Rattle.tables.specs.Judge.{overlong, judgedDomain}
+use Rattle.tables.specs.WiringDefinitions.{Phy, Present, good, Domain}
+use Rattle.tables.proofs.WorkedDefinitions.{numbers, any, keep, isIn, numberOf, unanswered, endAt, claimed, clash, clashing, fixed, phyPlaces, placesFrom, firstIn, wiredDomain, strip, reach, cabled, neighbours, chainsWithin, unlong, unlooped, joined, joinedIn, linkedDomain}
+use Rattle.tables.specs.Levels.{eachOnce, downstreamOfPhys, downstream, nextLevel, levelsFrom, levels}
+use Rattle.tables.specs.Tables.{addressAt, gives, give, giveAll, levelList, table, tablePlaces, tables, size, offsetIn, stretch}
+use Rattle.tables.specs.JudgingCall.{overlong, judgedDomain}
 use Rattle.tracing.specs.Steps.{pick, subtractively, byTable, directly, step}
 use Rattle.tracing.specs.Trace.{Request, request, afterStep, traceFrom, traced}
 use Rattle.tracing.specs.declared.Outcome.{Outcome}
@@ -14,14 +14,14 @@ use Rattle.tracing.specs.declared.Outcome.the-variants.{Arrived, NoDesti
 
 -- attached device type, routing attribute, attached address, attached phy
 abbrev phy : ℕ → ℕ → ℕ → ℕ → Phy
-phy type attribute address far = Present (record { device = type; attribute = attribute; address = address; far = record { 0 = far } })
+phy type attribute address attachedPhy = Present (record { deviceType = type; attribute = attribute; address = address; attachedPhy = record { 0 = attachedPhy } })
 
 -- expanders with addresses 1 to 3, a drive at each with 11, 12 and 13; phy 2 of the second and phy 0 of the third are table phys
 pub row : Domain
 row =
-    record { address = 1; indexes = 3; configurable = 1; phys = phy 2 2 2 0 ∷ phy 1 0 11 0 ∷ [] }
-    ∷ record { address = 2; indexes = 2; configurable = 1; phys = phy 2 1 1 0 ∷ phy 1 0 12 0 ∷ phy 2 2 3 0 ∷ [] }
-    ∷ record { address = 3; indexes = 1; configurable = 1; phys = phy 2 2 2 2 ∷ phy 1 0 13 0 ∷ [] }
+    record { address = 1; routeIndexes = 3; configurable = 1; phys = phy 2 2 2 0 ∷ phy 1 0 11 0 ∷ [] }
+    ∷ record { address = 2; routeIndexes = 2; configurable = 1; phys = phy 2 1 1 0 ∷ phy 1 0 12 0 ∷ phy 2 2 3 0 ∷ [] }
+    ∷ record { address = 3; routeIndexes = 1; configurable = 1; phys = phy 2 2 2 2 ∷ phy 1 0 13 0 ∷ [] }
     ∷ []
 
 -- the tables of its three table phys, one after the other
@@ -46,7 +46,7 @@ pub crossed : (judgedDomain 3 row ≡ good row)
     × (Ends (request 1 255 11) Arrived 0 1 (1 ∷ 0 ∷ [])
     × Ends (request 0 255 99) NoDestination 0 255 (0 ∷ []))))))))))))
 unfolding row words numbers any keep isIn numberOf unanswered endAt claimed clash clashing fixed phyPlaces placesFrom firstIn wiredDomain
-    strip reach cabled neighbours unlooped joined joinedIn chainsWithin unlong linkedDomain once belowPhys below nextLevel levelsFrom levels flatMap
-    heldBy gives give giveAll levelList overlong judgedDomain table tablePlaces tables
+    strip reach cabled neighbours unlooped joined joinedIn chainsWithin unlong linkedDomain eachOnce downstreamOfPhys downstream nextLevel levelsFrom levels flatMap
+    addressAt gives give giveAll levelList overlong judgedDomain table tablePlaces tables
     pick offsetIn size stretch subtractively byTable directly step afterStep traceFrom traced
 crossed = (refl, (refl, (refl, (refl, (refl, (refl, (refl, (refl, (refl, (refl, (refl, (refl, refl))))))))))))

@@ -3,11 +3,11 @@ use Prim.Native.Nat.{ℕ}
 use mathlib.Core.Path.{_≡_}
 use mathlib.Core.List.{List, _++_}
 use lib.ListN.{length, take, drop}
-use Rattle.tables.specs.Wiring.{placesFrom}
-use Rattle.tables.specs.Wiring.{Result, then, Domain}
+use Rattle.tables.specs.WiringDefinitions.{placesFrom}
+use Rattle.tables.specs.WiringDefinitions.{Result, then, Domain}
 use Rattle.tables.specs.Tables.{sizes}
 use Rattle.tables.specs.Entries.{Entries}
-use Rattle.tables.specs.Prepared.{judgedIn}
+use Rattle.tables.specs.PreparedLists.{judgedIn}
 use Rattle.tracing.specs.Steps.{Step as Stepped, here, endDevice, bad, lost, onward, Pick as Picked, at, nowhere, pick, phyNumbers}
 use Rattle.tracing.specs.Steps.{bearing, listing, subtracting, subtractively, byTable, directly}
 use Rattle.tracing.specs.Trace.{Request, Traced, tracedRequest, report, traceAnswer}

@@ -2,9 +2,9 @@
 use Prim.Native.Nat.{ℕ}
 use mathlib.Core.Path.{_≡_}
 use mathlib.Core.List.{List}
-use Rattle.tables.specs.Wiring.{good, Setting, Domain, wiringCall}
+use Rattle.tables.specs.WiringDefinitions.{good, Setting, Domain, wiringCall}
 use Rattle.tables.specs.Entries.{Entries, Room}
-use Rattle.tables.specs.Judge.{judged, tableCall}
+use Rattle.tables.specs.JudgingCall.{judged, tableCall}
 use Rattle.tracing.specs.Trace.{Request, traceCall}
 
 -- "accepted, with equal tables": the other setting accepts the file as the same domain, and every call on it has the same outcome. The

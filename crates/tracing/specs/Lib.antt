@@ -1,11 +1,11 @@
-pub mod Tables
+pub mod TableDefinitions
 pub mod Steps
 pub mod Trace
 pub mod Answers
 pub mod Reasons
-pub mod Tested
-pub mod Demand
+pub mod TraceCauses
+pub mod Demand3
 pub mod Courses
 pub mod Packing
-pub mod Many
-pub mod Striking
+pub mod RequestLists
+pub mod StruckEntries

@@ -1,6 +1,6 @@
 -- What a call answers, packed into one number: a refusal, and how a request ends.
 use Prim.Native.Nat.{ℕ, _+_, _*_, _^_}
-use Rattle.tables.specs.Wiring.{Refusal, Result, refused, good}
+use Rattle.tables.specs.WiringDefinitions.{Refusal, Result, refused, good}
 use Rattle.tracing.specs.Trace.{Reported}
 use Rattle.tracing.specs.declared.Outcome.{Outcome}
 use Rattle.tracing.specs.declared.Outcome.the-variants.{Arrived, NoDestination, BadDestination}

@@ -4,11 +4,11 @@ use mathlib.Core.Bool.{Bool, cond, not, _||_, _&&_}
 use mathlib.Core.List.{List, [], _∷_}
 use lib.ListN.{length}
 use lib.Dec.{eqb, ltb, leb}
-use Rattle.tables.specs.Wiring.{bytesFor, Result, refused, good, unless, then, refusal, Setting, Domain, expanderAt, phyAt, addressOf, attached}
+use Rattle.tables.specs.WiringDefinitions.{bytesFor, Result, refused, good, unless, then, refusal, Setting, Domain, expanderAt, phyAt, addressOf, attached}
 use Rattle.tables.specs.Tables.{needed, stretch}
 use Rattle.tables.specs.Entries.{Entries, Room, roomOf, counted}
-use Rattle.tables.specs.Judge.{judged}
-use Rattle.tables.specs.Prepared.{judgedIn}
+use Rattle.tables.specs.JudgingCall.{judged}
+use Rattle.tables.specs.PreparedLists.{judgedIn}
 use Rattle.tracing.specs.Steps.{Step, here, bad, lost, Pick, at, nowhere, pick, phyNumbers, cameFrom, moveBy, arriving, bearing, listing, subtracting, step}
 use Rattle.tracing.specs.Trace.{Request}
 use Rattle.tracing.specs.Answers.{stepAnswer}

@@ -4,7 +4,7 @@ use mathlib.Core.Bool.{Bool, cond, _&&_}
 use mathlib.Core.List.{List, [], _∷_}
 use lib.ListN.{length}
 use lib.Dec.{eqb}
-use Rattle.tables.specs.Wiring.{Domain, expanderAt, phyAt, addressOf, farOf, routes, toEnd, toExpander, bears, numberOf, upTo, isIn}
+use Rattle.tables.specs.WiringDefinitions.{Domain, expanderAt, phyAt, addressOf, attachedPhyOf, isTable, isSubtractive, toEnd, toExpander, bears, numberOf, upTo, isIn}
 use Rattle.tables.specs.Tables.{stretch}
 
 -- arrived here; arrived at the end device of a phy; BAD DESTINATION; NO DESTINATION; on to an expander with its arrival phy
@@ -35,7 +35,7 @@ cameFrom d i p = cond (eqb p 255) 0 (addressOf (phyAt d i p))
 
 -- on over phy p of expander i: to the attached expander, and the far phy is the arrival phy
 abbrev pub moveBy : Domain → ℕ → ℕ → Step
-moveBy d i p = onward (numberOf d (addressOf (phyAt d i p))) (farOf (phyAt d i p))
+moveBy d i p = onward (numberOf d (addressOf (phyAt d i p))) (attachedPhyOf (phyAt d i p))
 
 -- (iv), or (v): the lowest subtractive phy attached to an expander, unless the arrival phy is attached to that same address
 unfoldable pub subtractively : Domain → ℕ → ℕ → Pick → Step
@@ -60,10 +60,10 @@ abbrev pub bearing : Domain → ℕ → ℕ → ℕ → Bool
 bearing d i s p = bears s (phyAt d i p)
 
 abbrev pub listing : Domain → List ℕ → ℕ → ℕ → ℕ → Bool
-listing d words i s p = toExpander (phyAt d i p) && (routes 2 (phyAt d i p) && isIn s (stretch d words i p))
+listing d words i s p = toExpander (phyAt d i p) && (isTable (phyAt d i p) && isIn s (stretch d words i p))
 
 abbrev pub subtracting : Domain → ℕ → ℕ → Bool
-subtracting d i p = toExpander (phyAt d i p) && routes 1 (phyAt d i p)
+subtracting d i p = toExpander (phyAt d i p) && isSubtractive (phyAt d i p)
 
 -- the step of expander i for address s, arrived at this phy
 unfoldable pub step : Domain → List ℕ → ℕ → ℕ → ℕ → Step

@@ -5,10 +5,10 @@ use mathlib.Core.Bool.{Bool, not, _||_, _&&_}
 use mathlib.Core.List.{List, [], _∷_, _++_}
 use lib.ListN.{length, drop}
 use lib.Dec.{eqb, ltb, leb}
-use Rattle.tables.specs.Wiring.{bytesFor, Result, refused, good, unless, then, refusal, Setting, Domain, phyAt, toEnd}
+use Rattle.tables.specs.WiringDefinitions.{bytesFor, Result, refused, good, unless, then, refusal, Setting, Domain, phyAt, toEnd}
 use Rattle.tables.specs.Tables.{needed}
 use Rattle.tables.specs.Entries.{Entries, Room, roomOf, counted}
-use Rattle.tables.specs.Judge.{judgedDomain, judged}
+use Rattle.tables.specs.JudgingCall.{judgedDomain, judged}
 use Rattle.tracing.specs.Steps.{Step, here, endDevice, bad, lost, onward, step}
 use Rattle.tracing.specs.declared.Outcome.{Outcome}
 use Rattle.tracing.specs.declared.Outcome.the-variants.{Arrived, NoDestination, BadDestination}
@@ -52,7 +52,7 @@ pub record Request : Type 0 where
 abbrev pub request : ℕ → ℕ → ℕ → Request
 request i arrival s = record { start = i; arrival = arrival; address = s }
 
--- its trace; as many steps as there are expanders are enough (`Demand3.steps` in specs/Demand)
+-- its trace; as many steps as there are expanders are enough (`Demand3.steps` in specs/Demand3)
 unfoldable pub traced : Domain → List ℕ → Request → Traced
 traced d words q = traceFrom (length d) d words (q .start) (q .arrival) (q .address)
 

@@ -1,8 +1,8 @@
 // Connection requests, traced over lent table words.
 mod calls;
-mod many;
 mod packing;
 mod reasons;
+mod request_lists;
 mod requests;
 mod step_call;
 mod steps;
@@ -11,9 +11,9 @@ mod walks;
 
 pub use calls::request_rows;
 pub use calls::trace;
-pub use many::trace_list;
 pub use packing::pack_end;
 pub use packing::pack_refusal;
+pub use request_lists::trace_list;
 pub use step_call::explain_step;
 
 // What the layer above uses of the layers below.

@@ -11,7 +11,7 @@ use tables::ExpanderNumber;
 use tables::PhyId;
 use tables::RouteIndex;
 ghost use mathlib.Core.Path.{_≡_};
-ghost use Rattle.tables.specs.Wiring.{domainIn};
+ghost use Rattle.tables.specs.WiringDefinitions.{domainIn};
 ghost use Rattle.tables.specs.Entries.{entries, counted};
 ghost use Rattle.tracing.specs.Reasons.{because, reason, subtractiveReason, tableReason};
 
@@ -58,7 +58,7 @@ fn table_reason(
             told(
                 3,
                 p,
-                index_of(words, bits, at, tables::index_count(rows, i), s),
+                index_of(words, bits, at, tables::route_indexes(rows, i), s),
             )
         }
         Pick::Nowhere => subtractive_reason(rows, i, came),

@@ -6,10 +6,10 @@ use tables::ExpanderNumber;
 use tables::PhyId;
 ghost use mathlib.Core.Path.{_≡_};
 ghost use lib.ListN.{length};
-ghost use Rattle.tables.specs.Wiring.{domainIn, IndexedFirst};
-ghost use Rattle.tables.specs.Wiring.{Refused};
-ghost use Rattle.tables.specs.Wiring.{checkAnswer};
-ghost use Rattle.tables.specs.Wiring.{refusal};
+ghost use Rattle.tables.specs.WiringDefinitions.{domainIn, IndexedFirst};
+ghost use Rattle.tables.specs.WiringDefinitions.{Refused};
+ghost use Rattle.tables.specs.WiringDefinitions.{checkAnswer};
+ghost use Rattle.tables.specs.WiringDefinitions.{refusal};
 ghost use Rattle.tables.specs.Entries.{entries};
 ghost use Rattle.tracing.specs.Trace.{request, allowed, requested, tracedRequest, TraceDone};
 

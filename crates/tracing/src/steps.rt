@@ -8,8 +8,8 @@ use tables::words_before;
 ghost use mathlib.Core.Path.{_≡_};
 ghost use mathlib.Core.Bool.{cond, _&&_};
 ghost use lib.Dec.{T, eqb};
-ghost use Rattle.tables.specs.Wiring.{domainIn};
-ghost use Rattle.tables.specs.Wiring.{IndexedFirst, phyAt, addressOf, attached, routes, toExpander};
+ghost use Rattle.tables.specs.WiringDefinitions.{domainIn};
+ghost use Rattle.tables.specs.WiringDefinitions.{IndexedFirst, phyAt, addressOf, attached, isSubtractive, toExpander};
 ghost use Rattle.tables.specs.Tables.{offset};
 ghost use Rattle.tables.specs.Entries.{entries, counted};
 ghost use Rattle.tracing.specs.Steps.{listing, cameFrom, moveBy, arriving, step};
@@ -24,7 +24,7 @@ pub(crate) enum Pick {
 
 // Whether it is a subtractive phy attached to an expander.
 fn is_subtracting(f: Phy) -> bool
-    ensures { λ r. ⌜ r ≡ (toExpander f && routes 1 f) ⌝ }
+    ensures { λ r. ⌜ r ≡ (toExpander f && isSubtractive f) ⌝ }
 {
     if tables::phy_type(f) < 2 {
         return false;
@@ -52,7 +52,7 @@ fn is_listing(
     if tables::phy_attribute(f) != 2 {
         return false;
     }
-    lists(words, bits, at, tables::index_count(rows, i) as usize, s)
+    lists(words, bits, at, tables::route_indexes(rows, i) as usize, s)
 }
 
 // (ii): the lowest attached phy that bears the address.
@@ -135,7 +135,10 @@ fn move_unless(
     if tables::phy_address(f) == came {
         return back;
     }
-    Step::Onward(tables::far_number(rows, first, i, p), tables::phy_far(f))
+    Step::Onward(
+        tables::attached_expander(rows, first, i, p),
+        tables::attached_phy(f),
+    )
 }
 
 // (iv), or (v).

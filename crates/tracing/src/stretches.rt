@@ -6,7 +6,7 @@ ghost use mathlib.Core.Path.{_≡_};
 ghost use Prim.Native.Nat.{_<_, _^_};
 ghost use lib.ListN.{length, getD, take, drop};
 ghost use lib.Dec.{eqb};
-ghost use Rattle.tables.specs.Wiring.{domainIn, expanderAt, isIn};
+ghost use Rattle.tables.specs.WiringDefinitions.{domainIn, expanderAt, isIn};
 ghost use Rattle.tables.specs.Tables.{offset};
 ghost use Rattle.tables.specs.Entries.{entries, counted};
 ghost use Rattle.tracing.specs.Reasons.{indexOf};

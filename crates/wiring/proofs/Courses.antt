@@ -7,9 +7,9 @@ use Rattle.files.specs.declared.Setting.{Setting}
 use Rattle.files.specs.Domain.{Domain}
 use Rattle.files.specs.Settings.{InRange, NoSmaller}
 use Rattle.files.specs.File.{domainRead}
-use Rattle.wiring.specs.Causes.{wiredDomain}
+use Rattle.wiring.specs.PhyCauses.{wiredDomain}
 use Rattle.wiring.specs.Neighbours.{wordsFor, wiringCall}
-use Rattle.files.proofs.Wider.{read-more}
+use Rattle.files.proofs.WiderSetting.{read-more}
 
 module _ (most other : Setting) (m : NoSmaller most other) where
   pub wiring-more : InRange other → (file : List ℕ) (d : Domain) → domainRead most file ≡ good d → (room : ℕ) → wiringCall other file room ≡ wiringCall most file room

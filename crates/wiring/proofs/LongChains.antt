@@ -15,14 +15,14 @@ use Rattle.frames.specs.Refusals.{good}
 use Rattle.files.specs.declared.Setting.{Setting}
 use Rattle.files.specs.Domain.{Domain}
 use Rattle.wiring.specs.Neighbours.{neighbours}
-use Rattle.files.specs.Read.{Read}
-use Rattle.wiring.specs.Chains.{chainsWithin, unlong, LongChain, ShortChains}
+use Rattle.files.specs.ReadDomain.{Read}
+use Rattle.wiring.specs.LongChains.{chainsWithin, unlong, LongChain, ShortChains}
 use Rattle.wiring.specs.Devices.{LoopIn, ChainIn}
-use Rattle.files.proofs.Members.{or-cases, or-right, all-cons, keeps, kept, keep-distinct, fits, at-most, in-upTo, numbers-below, numbers-distinct, not-not}
-use Rattle.wiring.proofs.Walks.{Skip, NoBack, Apart, turn, noback, repeats-nothing, rest-of}
+use Rattle.files.proofs.ListMembers.{or-cases, or-right, all-cons, keeps, kept, keep-distinct, fits, at-most, in-upTo, numbers-below, numbers-distinct, not-not}
+use Rattle.wiring.proofs.GraphWalks.{Skip, NoBack, Apart, turn, noback, repeats-nothing, rest-of}
 use Rattle.wiring.proofs.Loops.{Fork, stays-fork, fork-stays, next}
-use Rattle.wiring.proofs.Reach.{Joined, single, prepend}
-use Rattle.wiring.proofs.Wires.{adj-symmetric}
+use Rattle.wiring.proofs.ReachedByChain.{Joined, single, prepend}
+use Rattle.wiring.proofs.WiredPhys.{adj-symmetric}
 
 -- a list without its last
 abbrev init : List ℕ → List ℕ

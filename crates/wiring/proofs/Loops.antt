@@ -10,8 +10,8 @@ use lib.ListN.{length}
 use lib.Dec.{T}
 use Rattle.files.specs.Lists.{upTo, keep, In, Distinct, Below, last}
 use Rattle.wiring.specs.Graph.{Steps, Symmetric, Loop, self, ring, two, isNil, stays, strip, loopfree}
-use Rattle.files.proofs.Members.{or-cases, or-left, or-right, in-cast, keeps, kept, keep-distinct, all-or-fewer, all-cons, last-in, in-upTo, numbers-below, numbers-distinct, length-numbers, pigeonhole}
-use Rattle.wiring.proofs.Walks.{Skip, NoBack, repeats-nothing-or-loop}
+use Rattle.files.proofs.ListMembers.{or-cases, or-left, or-right, in-cast, keeps, kept, keep-distinct, all-or-fewer, all-cons, last-in, in-upTo, numbers-below, numbers-distinct, length-numbers, pigeonhole}
+use Rattle.wiring.proofs.GraphWalks.{Skip, NoBack, repeats-nothing-or-loop}
 
 not-nil : (l : List ℕ) (w : ℕ) → In w l → T (isNil l) → ⊥
 not-nil [] w h t = h

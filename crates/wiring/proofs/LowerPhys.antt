@@ -13,18 +13,18 @@ use borrow.Author.Tests.{eq-eqb, ne-eqb}
 use Rattle.files.specs.declared.Phy.{Phy}
 use Rattle.files.specs.declared.Phy.the-variants.{Vacant}
 use Rattle.files.specs.Lists.{any}
-use Rattle.files.specs.Domain.{Domain, expanderAt, phyAt, typeOf, addressOf, attributeOf, attached, routes}
-use Rattle.files.specs.Rows.{phyHeld, domainIn}
-use Rattle.wiring.specs.Causes.{clash, clashing}
+use Rattle.files.specs.Domain.{Domain, expanderAt, phyAt, typeOf, addressOf, attributeOf, attached, isSubtractive}
+use Rattle.files.specs.Rows.{phyInRow, domainIn}
+use Rattle.wiring.specs.PhyCauses.{clash, clashing}
 use Rattle.wiring.specs.Checks.{causeOf, Testable}
 use Rattle.wiring.specs.Clashes.{subtractive, leadsElsewhere}
-use Rattle.wiring.specs.Addresses.{LowestPhy, IndexedLow, lowestPhy}
-use Rattle.files.proofs.Members.{tests, and-right, and-both, eq→eqb, any-of, of-any, in-take, take-in, is-true, is-false, was-false, same-test, not-not}
-use Rattle.files.proofs.InRows.{phy-held}
+use Rattle.wiring.specs.AddressIndex.{LowestPhy, IndexedLow, lowestPhy}
+use Rattle.files.proofs.ListMembers.{tests, and-right, and-both, eq→eqb, any-of, of-any, in-take, take-in, is-true, is-false, was-false, same-test, not-not}
+use Rattle.files.proofs.RowsAsDomain.{phy-held}
 use Rattle.files.proofs.Domains.{type-attached, type-none}
-use Rattle.wiring.proofs.EndDevices.{short-in}
-use Rattle.wiring.proofs.Entries.{low-told}
-use Rattle.wiring.proofs.Accepted.{clash-attribute, clash-address, clash-why, lower-clash}
+use Rattle.wiring.proofs.SlotDevices.{short-in}
+use Rattle.wiring.proofs.IndexEntries.{low-told}
+use Rattle.wiring.proofs.WiredAndLinked.{clash-attribute, clash-address, clash-why, lower-clash}
 
 module _ (d : Domain) (i p : ℕ) (can : Testable 9 d i p) where
   abbrev phys : List Phy
@@ -95,27 +95,27 @@ module _ (d : Domain) (i p : ℕ) (can : Testable 9 d i p) where
         (by-cases (ℕ-discrete q p) (λ o. absurd (n (ap (λ (v : ℕ). attributeOf (phyAt d i v)) o))) (λ o. omega arith))
         (clash-attribute φ (phyAt d i q) here low-attached low-address (λ z. n (sym z)))))
 
-    clash-way : attributeOf (phyAt d i q) ≡ attributeOf φ → (routes 1 φ && any (leadsElsewhere (addressOf φ)) (take p phys)) ≡ clashing d i p
+    clash-way : attributeOf (phyAt d i q) ≡ attributeOf φ → (isSubtractive φ && any (leadsElsewhere (addressOf φ)) (take p phys)) ≡ clashing d i p
     unfolding clashing
-    clash-way a = same-test (routes 1 φ && any (leadsElsewhere (addressOf φ)) (take p phys)) (clashing d i p)
-        (λ t. let o = lower (leadsElsewhere (addressOf φ)) (and-right (routes 1 φ) _ t) in
+    clash-way a = same-test (isSubtractive φ && any (leadsElsewhere (addressOf φ)) (take p phys)) (clashing d i p)
+        (λ t. let o = lower (leadsElsewhere (addressOf φ)) (and-right (isSubtractive φ) _ t) in
         let u = o .2 in
         lower-clash d i p (o .0) (o .1) (clash-address φ (phyAt d i (o .0)) here (search tests) (search tests) (search tests)
         (λ z. T-not (eqb (addressOf (phyAt d i (o .0))) (addressOf φ)) (search tests) (eq→eqb _ _ (sym z)))))
         (λ t. let o = lower (clash φ) t in
         let r = o .0 in
-        not-not (routes 1 φ && any (leadsElsewhere (addressOf φ)) (take p phys)) (λ n. clash-why φ (phyAt d i r)
+        not-not (isSubtractive φ && any (leadsElsewhere (addressOf φ)) (take p phys)) (λ n. clash-why φ (phyAt d i r)
         (λ _ b z. sym a ∙ sym (one-attribute q r
         (by-cases (decLt r q) (λ l. absurd (was-false _ (least .none r l) (and-both (attached (phyAt d i r)) _ b (eq→eqb _ _ (sym z))))) (λ l. omega arith))
         (o .1) low-attached b (sym z ∙ low-address)))
         (λ _ b x y. by-cases (ℕ-discrete (addressOf φ) (addressOf (phyAt d i r))) (λ z. z)
         (λ z. let w : T (not (eqb (addressOf (phyAt d i r)) (addressOf φ))) = not-T (eqb (addressOf (phyAt d i r)) (addressOf φ)) (λ k. z (sym (eqb→eq _ _ k))) in
-        absurd (T-not (routes 1 φ && any (leadsElsewhere (addressOf φ)) (take p phys)) n
-        (and-both (routes 1 φ) _ x (lower-any (leadsElsewhere (addressOf φ)) r (o .1) (search tests))))))
+        absurd (T-not (isSubtractive φ && any (leadsElsewhere (addressOf φ)) (take p phys)) n
+        (and-both (isSubtractive φ) _ x (lower-any (leadsElsewhere (addressOf φ)) r (o .1) (search tests))))))
         (o .2)))
 
 -- what the code sees: f is phy p, and t its type; g is phy q, the lowest with its address
-module _ (ws : List ℕ) (i p : ℕ) (can : Testable 9 (domainIn ws) i p) (f : Phy) (ef : f ≡ phyHeld ws i p) (t : ℕ) (et : t ≡ typeOf f) where
+module _ (ws : List ℕ) (i p : ℕ) (can : Testable 9 (domainIn ws) i p) (f : Phy) (ef : f ≡ phyInRow ws i p) (t : ℕ) (et : t ≡ typeOf f) where
   phy-is : f ≡ phyAt (domainIn ws) i p
   phy-is = ef ∙ phy-held ws i p (can .within)
 
@@ -126,7 +126,7 @@ module _ (ws : List ℕ) (i p : ℕ) (can : Testable 9 (domainIn ws) i p) (f : P
   none-clash z = clash-not (domainIn ws) i p can (type-none (phyAt (domainIn ws) i p) (sym type-is ∙ z))
 
   module _ (n : t ≢ 0) (low : List ℕ) (index : IndexedLow (domainIn ws) low) (q : ℕ) (eq : q ≡ lowestPhy low i p) (g : Phy)
-      (eg : g ≡ phyHeld ws i q) (a b : ℕ) (ea : a ≡ attributeOf f) (eb : b ≡ attributeOf g) where
+      (eg : g ≡ phyInRow ws i q) (a b : ℕ) (ea : a ≡ attributeOf f) (eb : b ≡ attributeOf g) where
     here : T (attached (phyAt (domainIn ws) i p))
     here = type-attached (phyAt (domainIn ws) i p) (λ z. n (type-is ∙ z))
 
@@ -143,7 +143,7 @@ module _ (ws : List ℕ) (i p : ℕ) (can : Testable 9 (domainIn ws) i p) (f : P
     other-clash m = clash-low (domainIn ws) i p can here q least (λ z. m (lowest-is ∙ z ∙ sym attribute-is))
 
     module _ (same : b ≡ a) where
-      by-way : (routes 1 (phyAt (domainIn ws) i p) && any (leadsElsewhere (addressOf (phyAt (domainIn ws) i p))) (take p (expanderAt (domainIn ws) i .phys)))
+      by-way : (isSubtractive (phyAt (domainIn ws) i p) && any (leadsElsewhere (addressOf (phyAt (domainIn ws) i p))) (take p (expanderAt (domainIn ws) i .phys)))
           ≡ clashing (domainIn ws) i p
       by-way = clash-way (domainIn ws) i p can here q least (sym lowest-is ∙ same ∙ attribute-is)
 

@@ -14,8 +14,8 @@ use Rattle.files.specs.Lists.{numbers}
 use Rattle.files.specs.Domain.{Domain}
 use Rattle.wiring.specs.Neighbours.{neighbourWord, neighbourWords, bitsIn}
 use Rattle.wiring.specs.Rounds.{WordEach}
-use Rattle.files.proofs.Members.{length-numbers, upTo-last}
-use Rattle.wiring.proofs.Sets.{wordBelow, word-lt, word-set, word-skip}
+use Rattle.files.proofs.ListMembers.{length-numbers, upTo-last}
+use Rattle.wiring.proofs.WordSets.{wordBelow, word-lt, word-set, word-skip}
 
 -- a bit above those that are set
 bit-set : (w j : ℕ) → w < 2 ^ j → j < 64 → bitOr w (1 * 2 ^ j % 18446744073709551616) ≡ w + 2 ^ j

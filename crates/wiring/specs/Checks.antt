@@ -10,9 +10,9 @@ use Rattle.files.specs.declared.Setting.{Setting}
 use Rattle.wiring.specs.declared.Check.{Check}
 use Rattle.wiring.specs.declared.Check.the-variants.{Refused, Passed}
 use Rattle.files.specs.Domain.{Domain, expanderAt}
-use Rattle.wiring.specs.Causes.{unanswered, claimed, clashing, fixed, phyPlaces, firstIn}
-use Rattle.wiring.specs.Links.{checkedDomain}
-use Rattle.wiring.specs.Addresses.{slotsBefore, IndexRoom}
+use Rattle.wiring.specs.PhyCauses.{unanswered, claimed, clashing, fixed, phyPlaces, firstIn}
+use Rattle.wiring.specs.LinkCauses.{checkedDomain}
+use Rattle.wiring.specs.AddressIndex.{slotsBefore, IndexRoom}
 use Rattle.files.specs.File.{domainRead}
 
 -- what the answer says in document 01's terms: the domain itself where it passed

@@ -5,8 +5,8 @@ use mathlib.Core.Logic.{_⊎_}
 use mathlib.Core.List.{List, [], _∷_}
 use lib.ListN.{length}
 use lib.Dec.{T}
-use Rattle.files.specs.Domain.{Domain, expanderAt, phyAt, addressOf, routes, toEnd, toExpander}
-use Rattle.wiring.specs.Causes.{farPhy}
+use Rattle.files.specs.Domain.{Domain, expanderAt, phyAt, addressOf, isTable, toEnd, toExpander}
+use Rattle.wiring.specs.PhyCauses.{farPhy}
 use Rattle.wiring.specs.Graph.{Loop, Chain}
 use Rattle.wiring.specs.Neighbours.{neighbours}
 
@@ -18,16 +18,16 @@ abbrev pub ChainIn : Domain → ℕ → ℕ → List ℕ → Type 0
 ChainIn d = Chain (length d) (neighbours d)
 
 -- phy p of expander i is attached to expander j
-pub record To (d : Domain) (i p j : ℕ) : Type 0 where
+pub record AttachedTo (d : Domain) (i p j : ℕ) : Type 0 where
   pub expander : T (toExpander (phyAt d i p))
   pub address : addressOf (phyAt d i p) ≡ expanderAt d j .address
 
 -- "table-to-table link" (document 02, paper 3): expander i has a table phy that is attached to a table phy of expander j
 pub record TableToTable (d : Domain) (i j : ℕ) : Type 0 where
   pub phy : ℕ
-  pub to : To d i phy j
-  pub routed : T (routes 2 (phyAt d i phy))
-  pub double : T (routes 2 (farPhy d (phyAt d i phy)))
+  pub to : AttachedTo d i phy j
+  pub routed : T (isTable (phyAt d i phy))
+  pub double : T (isTable (farPhy d (phyAt d i phy)))
 
 -- i ∷ l crosses no such link
 abbrev pub Clear : Domain → ℕ → List ℕ → Type 0

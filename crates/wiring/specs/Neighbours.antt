@@ -12,7 +12,7 @@ use Rattle.wiring.specs.declared.Wiring.{Wiring}
 use Rattle.wiring.specs.declared.Wiring.the-variants.{Refused, Bits}
 use Rattle.files.specs.Lists.{upTo, any, keep}
 use Rattle.files.specs.Domain.{Domain, expanderAt, addressOf, toExpander}
-use Rattle.wiring.specs.Causes.{wired}
+use Rattle.wiring.specs.PhyCauses.{wired}
 
 -- a phy of expander i bears type 2 or 3 and expander j's address
 unfoldable pub cabled : Domain → ℕ → ℕ → Bool

@@ -30,8 +30,8 @@ pub record WordEach (n : ℕ) (f : ℕ → ℕ) (words : List ℕ) : Type 0 wher
   pub word : (v : ℕ) → v < n → getD words v 0 ≡ f v
 
 -- one neighbour word for each expander
-abbrev pub Held : Domain → List ℕ → Type 0
-Held d words = WordEach (length d) (neighbourWord d) words
+abbrev pub NeighbourWordsHeld : Domain → List ℕ → Type 0
+NeighbourWordsHeld d words = WordEach (length d) (neighbourWord d) words
 
 -- whether v belongs to the next set, in a round of causes 11 and 23 (an expander that stays) or 12 (one that is reached)
 unfoldable pub roundTest : ℕ → ℕ → (ℕ → ℕ → Bool) → List ℕ → ℕ → Bool

@@ -12,8 +12,8 @@ ghost use lib.ListN.{length, getD};
 ghost use Rattle.files.specs.Domain.{expanderAt, phyAt, numberOf};
 ghost use Rattle.files.specs.Rows.{domainIn};
 ghost use Rattle.wiring.specs.SearchTree.{keyIn, WalkTo};
-ghost use Rattle.wiring.specs.Addresses.{slotsBefore, slotOf, slotWord, addressFrom, farNumber, lowestPhy, tells, attachedAt, KeptBut, IndexRoom, IndexPut};
-ghost use Rattle.wiring.specs.Addresses.{Searchable, Addable, AddedTo, FirstsTo, LowsBefore, LowsTo};
+ghost use Rattle.wiring.specs.AddressIndex.{slotsBefore, slotOf, slotWord, addressFrom, attachedExpander, lowestPhy, tells, attachedAt, EntriesKeptBut, IndexRoom, IndexPut};
+ghost use Rattle.wiring.specs.AddressIndex.{Searchable, Addable, AddedTo, FirstsTo, LowsBefore, LowsTo};
 
 // The key of an address among `size` roots.
 fn key_in(s: u64, size: usize) -> usize
@@ -74,7 +74,7 @@ fn add(rows: &[u64], from: usize, cells: &mut [u16], size: usize, t: usize, s: u
 // its address. Nothing is done where nothing is attached.
 fn add_low(rows: &[u64], cells: &mut [u16], i: ExpanderNumber, p: PhyId, f: Phy, low: &mut [u8])
     requires { ⌜ LowsTo (domainIn (now rows)) (i .0) (p .0) (now cells) (now low) × ((f ≡ phyAt (domainIn (now rows)) (i .0) (p .0)) × (p .0 < length (expanderAt (domainIn (now rows)) (i .0) .phys))) ⌝ }
-    ensures { λ _. ⌜ LowsTo (domainIn (now (rows .entry))) (i .0) (p .0 + 1) (now (cells .exit)) (now (low .exit)) × KeptBut (attachedAt (domainIn (now (rows .entry)))) (now (low .entry)) (now (low .exit)) ⌝ }
+    ensures { λ _. ⌜ LowsTo (domainIn (now (rows .entry))) (i .0) (p .0 + 1) (now (cells .exit)) (now (low .exit)) × EntriesKeptBut (attachedAt (domainIn (now (rows .entry)))) (now (low .entry)) (now (low .exit)) ⌝ }
 {
     if files::phy_type(f) == 0 {
         return;
@@ -89,13 +89,13 @@ fn add_low(rows: &[u64], cells: &mut [u16], i: ExpanderNumber, p: PhyId, f: Phy,
 // Writes the lowest phy with its address for each attached phy of expander i.
 fn put_low(rows: &[u64], i: ExpanderNumber, low: &mut [u8])
     requires { ⌜ LowsBefore (domainIn (now rows)) (i .0) (now low) ⌝ }
-    ensures { λ _. ⌜ LowsBefore (domainIn (now (rows .entry))) (i .0 + 1) (now (low .exit)) × KeptBut (attachedAt (domainIn (now (rows .entry)))) (now (low .entry)) (now (low .exit)) ⌝ }
+    ensures { λ _. ⌜ LowsBefore (domainIn (now (rows .entry))) (i .0 + 1) (now (low .exit)) × EntriesKeptBut (attachedAt (domainIn (now (rows .entry)))) (now (low .entry)) (now (low .exit)) ⌝ }
 {
     let n = files::phy_count(rows, i);
     let mut cells = [0u16; 384];
     let mut p: u8 = 0;
     while p < n {
-        let f = files::phy_below(rows, i, PhyId(p));
+        let f = files::phy_in_row(rows, i, PhyId(p));
         add_low(rows, &mut cells[..], i, PhyId(p), f, low);
         p += 1;
     }
@@ -104,7 +104,7 @@ fn put_low(rows: &[u64], i: ExpanderNumber, low: &mut [u8])
 // Adds all expanders to the tree of devices, and writes for each the first with its address.
 fn put_expanders(rows: &[u64], cells: &mut [u16], size: usize, first: &mut [u16])
     requires { ⌜ FirstsTo (domainIn (now rows)) 0 size (now cells) (now first) ⌝ }
-    ensures { λ _. ⌜ FirstsTo (domainIn (now (rows .entry))) 64 size (now (cells .exit)) (now (first .exit)) × KeptBut (tells (domainIn (now (rows .entry)))) (now (first .entry)) (now (first .exit)) ⌝ }
+    ensures { λ _. ⌜ FirstsTo (domainIn (now (rows .entry))) 64 size (now (cells .exit)) (now (first .exit)) × EntriesKeptBut (tells (domainIn (now (rows .entry)))) (now (first .entry)) (now (first .exit)) ⌝ }
 {
     let n = files::expander_count(rows);
     let mut j: u8 = 0;
@@ -138,15 +138,15 @@ fn add_first(
     first: &mut [u16],
 )
     requires { ⌜ FirstsTo (domainIn (now rows)) (slotOf (i .0) (p .0)) size (now cells) (now first) × ((f ≡ phyAt (domainIn (now rows)) (i .0) (p .0)) × (p .0 < length (expanderAt (domainIn (now rows)) (i .0) .phys))) ⌝ }
-    ensures { λ _. ⌜ FirstsTo (domainIn (now (rows .entry))) (slotOf (i .0) (p .0 + 1)) size (now (cells .exit)) (now (first .exit)) × KeptBut (tells (domainIn (now (rows .entry)))) (now (first .entry)) (now (first .exit)) ⌝ }
+    ensures { λ _. ⌜ FirstsTo (domainIn (now (rows .entry))) (slotOf (i .0) (p .0 + 1)) size (now (cells .exit)) (now (first .exit)) × EntriesKeptBut (tells (domainIn (now (rows .entry)))) (now (first .entry)) (now (first .exit)) ⌝ }
 {
-    let device = files::phy_type(f);
-    if device == 0 {
+    let device_type = files::phy_type(f);
+    if device_type == 0 {
         return;
     }
     let t = 64 + 128 * (i.0 as usize) + (p.0 as usize);
     let s = files::phy_address(f);
-    if device == 1 {
+    if device_type == 1 {
         first[t] = add(rows, 0, cells, size, t, s) as u16;
         return;
     }
@@ -157,12 +157,12 @@ fn add_first(
 // Writes who has its address for each attached phy of expander i.
 fn put_first(rows: &[u64], cells: &mut [u16], size: usize, i: ExpanderNumber, first: &mut [u16])
     requires { ⌜ FirstsTo (domainIn (now rows)) (slotsBefore (i .0)) size (now cells) (now first) × (i .0 < length (domainIn (now rows))) ⌝ }
-    ensures { λ _. ⌜ FirstsTo (domainIn (now (rows .entry))) (slotsBefore (i .0 + 1)) size (now (cells .exit)) (now (first .exit)) × KeptBut (tells (domainIn (now (rows .entry)))) (now (first .entry)) (now (first .exit)) ⌝ }
+    ensures { λ _. ⌜ FirstsTo (domainIn (now (rows .entry))) (slotsBefore (i .0 + 1)) size (now (cells .exit)) (now (first .exit)) × EntriesKeptBut (tells (domainIn (now (rows .entry)))) (now (first .entry)) (now (first .exit)) ⌝ }
 {
     let n = files::phy_count(rows, i);
     let mut p: u8 = 0;
     while p < n {
-        let f = files::phy_below(rows, i, PhyId(p));
+        let f = files::phy_in_row(rows, i, PhyId(p));
         add_first(rows, cells, size, i, PhyId(p), f, first);
         p += 1;
     }
@@ -226,8 +226,8 @@ pub(crate) fn put_index(rows: &[u64], first: &mut [u16], low: &mut [u8])
 
 // The number of the expander that has the attached address of phy p of expander i, where the phy is attached to
 // an expander; the count of expanders where there is none. 0 past the end of the entries.
-pub fn far_number(rows: &[u64], first: &[u16], i: ExpanderNumber, p: PhyId) -> ExpanderNumber
-    ensures { λ r. ⌜ r .0 ≡ farNumber (domainIn (now (rows .entry))) (now (first .entry)) (i .0) (p .0) ⌝ }
+pub fn attached_expander(rows: &[u64], first: &[u16], i: ExpanderNumber, p: PhyId) -> ExpanderNumber
+    ensures { λ r. ⌜ r .0 ≡ attachedExpander (domainIn (now (rows .entry))) (now (first .entry)) (i .0) (p .0) ⌝ }
 {
     let t = 64 + 128 * (i.0 as usize) + (p.0 as usize);
     if t >= first.len() {

@@ -10,9 +10,9 @@ ghost use mathlib.Core.Path.{_≡_};
 ghost use Prim.Native.Nat.{_<_};
 ghost use lib.ListN.{length};
 ghost use Rattle.files.specs.Domain.{expanderAt};
-ghost use Rattle.wiring.specs.Addresses.{IndexedFirst, Indexed};
+ghost use Rattle.wiring.specs.AddressIndex.{IndexedFirst, Indexed};
 ghost use Rattle.files.specs.Rows.{domainIn};
-ghost use Rattle.wiring.specs.Causes.{names, unanswered, claimed, fixed, firstOf, wiredDomain};
+ghost use Rattle.wiring.specs.PhyCauses.{names, unanswered, claimed, fixed, firstOf, wiredDomain};
 ghost use Rattle.wiring.specs.Checks.{checkAnswer, causeOf, firstAt, Testable};
 
 // Whether f names phy p of the expander with this address.
@@ -25,7 +25,7 @@ fn is_naming(s: u64, p: PhyId, f: Phy) -> bool
     if files::phy_address(f) != s {
         return false;
     }
-    files::phy_far(f).0 == p.0
+    files::attached_phy(f).0 == p.0
 }
 
 // Whether cause 7 holds: type 2 or 3 on a direct phy, or far end missing or not naming this phy back.
@@ -33,15 +33,15 @@ fn is_unanswered(rows: &[u64], first: &[u16], i: ExpanderNumber, p: PhyId) -> bo
     requires { ⌜ IndexedFirst (domainIn (now rows)) (now first) × (p .0 < length (expanderAt (domainIn (now rows)) (i .0) .phys)) ⌝ }
     ensures { λ r. ⌜ r ≡ unanswered (domainIn (now (rows .entry))) (i .0) (p .0) ⌝ }
 {
-    let f = files::phy_below(rows, i, p);
+    let f = files::phy_in_row(rows, i, p);
     if files::phy_type(f) < 2 {
         return false;
     }
     if files::phy_attribute(f) == 0 {
         return true;
     }
-    let j = addresses::far_number(rows, first, i, p);
-    let g = files::phy_at(rows, j, files::phy_far(f));
+    let j = addresses::attached_expander(rows, first, i, p);
+    let g = files::phy_at(rows, j, files::attached_phy(f));
     !is_naming(files::expander_address(rows, i), p, g)
 }
 
@@ -50,7 +50,7 @@ fn is_claimed(rows: &[u64], first: &[u16], i: ExpanderNumber, p: PhyId) -> bool
     requires { ⌜ IndexedFirst (domainIn (now rows)) (now first) × (p .0 < length (expanderAt (domainIn (now rows)) (i .0) .phys)) ⌝ }
     ensures { λ r. ⌜ r ≡ claimed (domainIn (now (rows .entry))) (i .0) (p .0) ⌝ }
 {
-    if files::phy_type(files::phy_below(rows, i, p)) != 1 {
+    if files::phy_type(files::phy_in_row(rows, i, p)) != 1 {
         return false;
     }
     let from = 64 + 128 * (i.0 as usize);
@@ -62,7 +62,7 @@ fn is_fixed(rows: &[u64], i: ExpanderNumber, p: PhyId) -> bool
     requires { ⌜ p .0 < length (expanderAt (domainIn (now rows)) (i .0) .phys) ⌝ }
     ensures { λ r. ⌜ r ≡ fixed (domainIn (now (rows .entry))) (i .0) (p .0) ⌝ }
 {
-    if files::phy_attribute(files::phy_below(rows, i, p)) != 2 {
+    if files::phy_attribute(files::phy_in_row(rows, i, p)) != 2 {
         return false;
     }
     files::configurable_bit(rows, i) == 0

@@ -6,15 +6,15 @@ use frames::ExpanderNumber;
 use frames::PhyId;
 ghost use mathlib.Core.Path.{_≡_};
 ghost use Rattle.files.specs.Rows.{domainIn};
-ghost use Rattle.wiring.specs.Rounds.{Held};
-ghost use Rattle.wiring.specs.Chains.{unlong};
+ghost use Rattle.wiring.specs.Rounds.{NeighbourWordsHeld};
+ghost use Rattle.wiring.specs.LongChains.{unlong};
 ghost use Rattle.wiring.specs.Checks.{checkAnswer};
 
 // Cause 23, which never holds where a chain may have as many expanders as there are. Else, in half as many
 // rounds as a chain may have expanders, each round takes away both ends of every chain, and none is left, or
 // one where that number is odd. `words` has the neighbour words.
 pub(crate) fn check_chains(rows: &[u64], words: &[u64], chain: u8) -> Check
-    requires { ⌜ Held (domainIn (now rows)) (now words) ⌝ }
+    requires { ⌜ NeighbourWordsHeld (domainIn (now rows)) (now words) ⌝ }
     ensures { λ r. ⌜ checkAnswer (domainIn (now (rows .entry))) r ≡ unlong chain (domainIn (now (rows .entry))) ⌝ }
 {
     let n = files::expander_count(rows);

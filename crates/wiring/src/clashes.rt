@@ -9,10 +9,10 @@ ghost use lib.ListN.{take};
 ghost use Rattle.files.specs.Lists.{any};
 ghost use Rattle.files.specs.Domain.{expanderAt};
 ghost use Rattle.files.specs.Rows.{domainIn};
-ghost use Rattle.wiring.specs.Causes.{clashing};
+ghost use Rattle.wiring.specs.PhyCauses.{clashing};
 ghost use Rattle.wiring.specs.Checks.{Testable};
 ghost use Rattle.wiring.specs.Clashes.{subtractive, leadsElsewhere};
-ghost use Rattle.wiring.specs.Addresses.{IndexedLow};
+ghost use Rattle.wiring.specs.AddressIndex.{IndexedLow};
 
 // Whether it is an attached subtractive phy.
 fn is_subtractive(f: Phy) -> bool
@@ -33,7 +33,7 @@ fn has_other_way(rows: &[u64], i: ExpanderNumber, p: PhyId, s: u64) -> bool
     let mut q = p.0;
     while q > 0 {
         q -= 1;
-        let f = files::phy_below(rows, i, PhyId(q));
+        let f = files::phy_in_row(rows, i, PhyId(q));
         if is_subtractive(f) {
             return files::phy_address(f) != s;
         }
@@ -47,13 +47,13 @@ pub(crate) fn is_clashing(rows: &[u64], low: &[u8], i: ExpanderNumber, p: PhyId)
     requires { ⌜ IndexedLow (domainIn (now rows)) (now low) × Testable 9 (domainIn (now rows)) (i .0) (p .0) ⌝ }
     ensures { λ r. ⌜ r ≡ clashing (domainIn (now (rows .entry))) (i .0) (p .0) ⌝ }
 {
-    let f = files::phy_below(rows, i, p);
+    let f = files::phy_in_row(rows, i, p);
     let a = files::phy_attribute(f);
     if files::phy_type(f) == 0 {
         return false;
     }
     let q = addresses::lowest_phy(low, i, p);
-    if files::phy_attribute(files::phy_below(rows, i, q)) != a {
+    if files::phy_attribute(files::phy_in_row(rows, i, q)) != a {
         return true;
     }
     if a != 1 {

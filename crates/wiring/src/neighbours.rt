@@ -10,19 +10,19 @@ ghost use lib.ListN.{length, drop};
 ghost use Rattle.files.specs.Domain.{expanderAt, phyAt};
 ghost use Rattle.files.specs.Rows.{domainIn};
 ghost use Rattle.wiring.specs.Neighbours.{neighbours, neighbourWord, neighbourWords, bitsIn};
-ghost use Rattle.wiring.specs.Addresses.{IndexedFirst};
-ghost use Rattle.wiring.specs.Cables.{FarSet, FarSets, Leading};
+ghost use Rattle.wiring.specs.AddressIndex.{IndexedFirst};
+ghost use Rattle.wiring.specs.CableSets.{CableSet, CableSets, Leading};
 
 // The number of the expander that phy p of expander i is attached to as a set; no number where it is attached to
 // none.
-fn far_bit(rows: &[u64], first: &[u16], i: ExpanderNumber, p: PhyId) -> u64
+fn cable_bit(rows: &[u64], first: &[u16], i: ExpanderNumber, p: PhyId) -> u64
     requires { ⌜ IndexedFirst (domainIn (now rows)) (now first) × (p .0 < length (expanderAt (domainIn (now rows)) (i .0) .phys)) ⌝ }
-    ensures { λ r. ⌜ FarSet (domainIn (now (rows .entry))) (phyAt (domainIn (now (rows .entry))) (i .0) (p .0) ∷ []) r ⌝ }
+    ensures { λ r. ⌜ CableSet (domainIn (now (rows .entry))) (phyAt (domainIn (now (rows .entry))) (i .0) (p .0) ∷ []) r ⌝ }
 {
-    if files::phy_type(files::phy_below(rows, i, p)) < 2 {
+    if files::phy_type(files::phy_in_row(rows, i, p)) < 2 {
         return 0;
     }
-    let m = addresses::far_number(rows, first, i, p).0;
+    let m = addresses::attached_expander(rows, first, i, p).0;
     if m >= 64 {
         return 0;
     }
@@ -30,29 +30,29 @@ fn far_bit(rows: &[u64], first: &[u16], i: ExpanderNumber, p: PhyId) -> u64
 }
 
 // The numbers of the expanders that expander i is attached to, as a set.
-fn far_word(rows: &[u64], first: &[u16], i: ExpanderNumber) -> u64
+fn cable_word(rows: &[u64], first: &[u16], i: ExpanderNumber) -> u64
     requires { ⌜ IndexedFirst (domainIn (now rows)) (now first) ⌝ }
-    ensures { λ r. ⌜ FarSet (domainIn (now (rows .entry))) (expanderAt (domainIn (now (rows .entry))) (i .0) .phys) r ⌝ }
+    ensures { λ r. ⌜ CableSet (domainIn (now (rows .entry))) (expanderAt (domainIn (now (rows .entry))) (i .0) .phys) r ⌝ }
 {
     let n = files::phy_count(rows, i);
     let mut w: u64 = 0;
     let mut p: u8 = 0;
     while p < n {
-        w = w | far_bit(rows, first, i, PhyId(p));
+        w = w | cable_bit(rows, first, i, PhyId(p));
         p += 1;
     }
     w
 }
 
 // Writes such a set for each expander.
-fn put_far(rows: &[u64], first: &[u16], words: &mut [u64])
+fn put_cables(rows: &[u64], first: &[u16], words: &mut [u64])
     requires { ⌜ IndexedFirst (domainIn (now rows)) (now first) × (length (domainIn (now rows)) ≤ length (now words)) ⌝ }
-    ensures { λ _. ⌜ FarSets (domainIn (now (rows .entry))) (length (domainIn (now (rows .entry)))) (now (words .exit)) ⌝ }
+    ensures { λ _. ⌜ CableSets (domainIn (now (rows .entry))) (length (domainIn (now (rows .entry)))) (now (words .exit)) ⌝ }
 {
     let n = files::expander_count(rows);
     let mut i: u8 = 0;
     while i < n {
-        words[i as usize] = far_word(rows, first, ExpanderNumber(i));
+        words[i as usize] = cable_word(rows, first, ExpanderNumber(i));
         i += 1;
     }
 }
@@ -76,15 +76,15 @@ fn are_neighbours(
 }
 
 // The neighbours of expander i as a set: bit j for expander j.
-fn neighbour_word(rows: &[u64], first: &[u16], far: &[u64], i: ExpanderNumber) -> u64
-    requires { ⌜ Leading (domainIn (now rows)) (now first) (now far) × (i .0 < length (domainIn (now rows))) ⌝ }
+fn neighbour_word(rows: &[u64], first: &[u16], cables: &[u64], i: ExpanderNumber) -> u64
+    requires { ⌜ Leading (domainIn (now rows)) (now first) (now cables) × (i .0 < length (domainIn (now rows))) ⌝ }
     ensures { λ r. ⌜ r ≡ neighbourWord (domainIn (now (rows .entry))) (i .0) ⌝ }
 {
     let n = files::expander_count(rows);
     let mut w: u64 = 0;
     let mut j: u8 = 0;
     while j < n {
-        if are_neighbours(rows, first, far, i, ExpanderNumber(j)) {
+        if are_neighbours(rows, first, cables, i, ExpanderNumber(j)) {
             w = w | (1u64 << j);
         }
         j += 1;
@@ -99,13 +99,13 @@ pub(crate) fn put_neighbours(rows: &[u64], first: &[u16], words: &mut [u64]) -> 
     ensures { λ r. ⌜ r ≡ bitsIn (neighbourWords (domainIn (now (rows .entry)))) ⌝ }
     ensures { λ _. ⌜ now (words .exit) ≡ neighbourWords (domainIn (now (rows .entry))) ++ drop (length (domainIn (now (rows .entry)))) (now (words .entry)) ⌝ }
 {
-    let mut far = [0u64; 64];
-    put_far(rows, first, &mut far[..]);
+    let mut cables = [0u64; 64];
+    put_cables(rows, first, &mut cables[..]);
     let n = files::expander_count(rows);
     let mut sum: u64 = 0;
     let mut i: u8 = 0;
     while i < n {
-        let w = neighbour_word(rows, first, &far[..], ExpanderNumber(i));
+        let w = neighbour_word(rows, first, &cables[..], ExpanderNumber(i));
         words[i as usize] = w;
         sum += u64::count_ones(w) as u64;
         i += 1;

@@ -7,7 +7,7 @@ ghost use lib.ListN.{length};
 ghost use Rattle.files.specs.Lists.{upTo};
 ghost use Rattle.files.specs.Rows.{domainIn};
 ghost use Rattle.wiring.specs.Neighbours.{neighbours, setOf};
-ghost use Rattle.wiring.specs.Rounds.{hasBit, members, SetBelow, Held, nextTest, nextSet, RoundsRun};
+ghost use Rattle.wiring.specs.Rounds.{hasBit, members, SetBelow, NeighbourWordsHeld, nextTest, nextSet, RoundsRun};
 
 // Whether expander j is in a set.
 pub(crate) fn has(set: u64, j: ExpanderNumber) -> bool
@@ -51,7 +51,7 @@ fn is_next(k: u8, word: u64, set: u64, v: ExpanderNumber) -> bool
 
 // The next set, in a round of cause k. `words` has the neighbour words.
 fn round(rows: &[u64], words: &[u64], k: u8, set: u64) -> u64
-    requires { ⌜ Held (domainIn (now rows)) (now words) × SetBelow (length (domainIn (now rows))) set ⌝ }
+    requires { ⌜ NeighbourWordsHeld (domainIn (now rows)) (now words) × SetBelow (length (domainIn (now rows))) set ⌝ }
     ensures { λ r. ⌜ r ≡ setOf (nextSet k (length (domainIn (now (rows .entry)))) (neighbours (domainIn (now (rows .entry)))) (members (length (domainIn (now (rows .entry)))) set)) ⌝ }
 {
     let n = files::expander_count(rows);
@@ -69,7 +69,7 @@ fn round(rows: &[u64], words: &[u64], k: u8, set: u64) -> u64
 
 // The set after so many rounds of cause k.
 pub(crate) fn run_rounds(rows: &[u64], words: &[u64], k: u8, count: u8, set: u64) -> u64
-    requires { ⌜ Held (domainIn (now rows)) (now words) × SetBelow (length (domainIn (now rows))) set ⌝ }
+    requires { ⌜ NeighbourWordsHeld (domainIn (now rows)) (now words) × SetBelow (length (domainIn (now rows))) set ⌝ }
     ensures { λ r. ⌜ RoundsRun (domainIn (now (rows .entry))) k count set r ⌝ }
 {
     let mut next = set;

@@ -11,8 +11,8 @@ ghost use lib.ListN.{length};
 ghost use Rattle.frames.specs.Bytes.{byte};
 ghost use Rattle.frames.specs.Refusals.{then};
 ghost use Rattle.files.specs.Rows.{domainIn};
-ghost use Rattle.wiring.specs.Causes.{wiredDomain};
-ghost use Rattle.wiring.specs.Addresses.{IndexRoom};
+ghost use Rattle.wiring.specs.PhyCauses.{wiredDomain};
+ghost use Rattle.wiring.specs.AddressIndex.{IndexRoom};
 ghost use Rattle.wiring.specs.Checks.{FileRoom};
 ghost use Rattle.wiring.specs.Neighbours.{wordsFor, wiringCall, WiringDone};
 

@@ -2,7 +2,7 @@
 use mathlib.Core.Path.{sym, _∙_, ap}
 use borrow.Author.Needs.{needs}
 use Rattle.exports.specs.Packing.{packed, number}
-use Rattle.tracing.specs.Many.{listAnswer}
+use Rattle.tracing.specs.RequestLists.{listAnswer}
 use Rattle.exports.proofs.metzurgo_compact_trace_many.Statement.{statement}
 use Rattle.exports.proofs.metzurgo_compact_trace_many.Tie as tie
 

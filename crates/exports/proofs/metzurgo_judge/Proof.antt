@@ -2,7 +2,7 @@
 use mathlib.Core.Path.{sym, _∙_, ap}
 use borrow.Author.Needs.{needs}
 use Rattle.exports.specs.Packing.{packed, number}
-use Rattle.tracing.specs.Tables.{judgeAnswer}
+use Rattle.tracing.specs.TableDefinitions.{judgeAnswer}
 use Rattle.exports.proofs.metzurgo_judge.Statement.{statement}
 use Rattle.exports.proofs.metzurgo_judge.Tie as tie
 

@@ -2,7 +2,7 @@
 use mathlib.Core.Path.{sym, _∙_, ap}
 use borrow.Author.Needs.{needs}
 use Rattle.exports.specs.Packing.{packed, discovered}
-use Rattle.tracing.specs.Tables.{discoverAnswer}
+use Rattle.tracing.specs.TableDefinitions.{discoverAnswer}
 use Rattle.exports.proofs.metzurgo_read_discover.Statement.{statement}
 use Rattle.exports.proofs.metzurgo_read_discover.Tie as tie
 

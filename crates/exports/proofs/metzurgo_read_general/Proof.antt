@@ -1,6 +1,6 @@
 -- metzurgo_read_general packs each answer of read_general.
 use mathlib.Core.Path.{sym, _∙_, ap}
-use Rattle.tracing.specs.Tables.{generalAnswer}
+use Rattle.tracing.specs.TableDefinitions.{generalAnswer}
 use Rattle.exports.specs.Packing.{packed, general}
 use borrow.Author.Needs.{needs}
 use Rattle.exports.proofs.metzurgo_read_general.Statement.{statement}

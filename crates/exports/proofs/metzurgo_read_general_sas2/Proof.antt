@@ -1,6 +1,6 @@
 -- metzurgo_read_general_sas2 packs each answer of read_general_sas2; the fields of a long frame stand above the others.
 use mathlib.Core.Path.{sym, _∙_, ap}
-use Rattle.tracing.specs.Tables.{sas2Answer}
+use Rattle.tracing.specs.TableDefinitions.{sas2Answer}
 use Rattle.exports.specs.Packing.{packed, generalSas2}
 use borrow.Author.Needs.{needs}
 use Rattle.exports.proofs.metzurgo_read_general_sas2.Statement.{statement}

@@ -2,7 +2,7 @@
 use mathlib.Core.Path.{sym, _∙_, ap}
 use borrow.Author.Needs.{needs}
 use Rattle.exports.specs.Packing.{packed, route}
-use Rattle.tracing.specs.Tables.{routeAnswer}
+use Rattle.tracing.specs.TableDefinitions.{routeAnswer}
 use Rattle.exports.proofs.metzurgo_read_route.Statement.{statement}
 use Rattle.exports.proofs.metzurgo_read_route.Tie as tie
 

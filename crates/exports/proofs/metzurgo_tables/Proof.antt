@@ -2,7 +2,7 @@
 use mathlib.Core.Path.{sym, _∙_, ap}
 use borrow.Author.Needs.{needs}
 use Rattle.exports.specs.Packing.{packed, counts}
-use Rattle.tracing.specs.Tables.{tablesAnswer}
+use Rattle.tracing.specs.TableDefinitions.{tablesAnswer}
 use Rattle.exports.proofs.metzurgo_tables.Statement.{statement}
 use Rattle.exports.proofs.metzurgo_tables.Tie as tie
 

@@ -2,7 +2,7 @@
 use mathlib.Core.Path.{sym, _∙_, ap}
 use borrow.Author.Needs.{needs}
 use Rattle.exports.specs.Packing.{packed, number}
-use Rattle.tracing.specs.Tables.{wiringAnswer}
+use Rattle.tracing.specs.TableDefinitions.{wiringAnswer}
 use Rattle.exports.proofs.metzurgo_wire.Statement.{statement}
 use Rattle.exports.proofs.metzurgo_wire.Tie as tie
 

@@ -2,7 +2,7 @@
 use mathlib.Core.Path.{sym, _∙_, ap}
 use borrow.Author.Needs.{needs}
 use Rattle.exports.specs.Packing.{packed, forty}
-use Rattle.tracing.specs.Tables.{writeAnswer}
+use Rattle.tracing.specs.TableDefinitions.{writeAnswer}
 use Rattle.exports.proofs.metzurgo_write_route.Statement.{statement}
 use Rattle.exports.proofs.metzurgo_write_route.Tie as tie
 

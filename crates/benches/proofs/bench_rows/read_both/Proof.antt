@@ -8,7 +8,7 @@ use lib.Seq.{length-take-le}
 use Rattle.frames.specs.Refusals.{Result}
 use Rattle.files.specs.Domain.{Domain}
 use Rattle.benches.specs.BenchRows.{readAs}
-use Rattle.benches.proofs.Joins.{accepted-read}
+use Rattle.benches.proofs.JoinOutcomes.{accepted-read}
 use Rattle.benches.proofs.RowsJudged.{both-held}
 use borrow.Author.Needs.{needs}
 use Rattle.benches.proofs.bench_rows.read_both.Statement.{statement}

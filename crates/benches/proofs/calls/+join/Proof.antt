@@ -7,7 +7,7 @@ use borrow.Author.Needs.{needs}
 use Prim.Native.Nat.{ℕ, _<_}
 use borrow.Fn.Kinds.{In}
 use borrow.Fn.PlainCycle.{Measures, is, falls, and}
-use Rattle.benches.proofs.Joins.{join-cut}
+use Rattle.benches.proofs.JoinOutcomes.{join-cut}
 use Rattle.benches.proofs.calls.join.Reads as join
 use Rattle.benches.proofs.calls.join.Kinds as join-kinds
 use Rattle.benches.proofs.calls.+join.Lts-join as join-lts

@@ -1,8 +1,8 @@
 -- join_in judges both files, and joins those that can be joined.
 use mathlib.Core.Path.{refl, sym, _∙_, ap}
 use lib.ListN.{length}
-use Rattle.benches.specs.Parts.{filesAnswer}
-use Rattle.benches.proofs.Joins.{join-refused, files-refused, files-ready, ready-room}
+use Rattle.benches.specs.SidesFound.{filesAnswer}
+use Rattle.benches.proofs.JoinOutcomes.{join-refused, files-refused, files-ready, ready-room}
 use borrow.Author.Needs.{needs}
 use Rattle.benches.proofs.calls.join_in.Statement.{statement}
 use Rattle.benches.proofs.calls.join_in.Tie as tie

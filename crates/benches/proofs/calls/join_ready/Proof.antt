@@ -3,9 +3,9 @@ use native.Mathlib.Omega.{arith}
 use mathlib.Core.Path.{refl, sym, _∙_, ap}
 use lib.ListN.{length}
 use Rattle.frames.specs.Refusals.{refusal, refused}
-use Rattle.tables.specs.Judge.{judged}
+use Rattle.tables.specs.JudgingCall.{judged}
 use Rattle.benches.specs.Bytes.{joinedFile}
-use Rattle.benches.proofs.Joins.{join-refused, join-good, not-passed, was-passed, placed-first, placed-second, header-fits, joined-size, joined-refused, joined-short, joined-good, accepted-bound}
+use Rattle.benches.proofs.JoinOutcomes.{join-refused, join-good, not-passed, was-passed, placed-first, placed-second, header-fits, joined-size, joined-refused, joined-short, joined-good, accepted-bound}
 use borrow.Author.Needs.{needs}
 use Rattle.benches.proofs.calls.join_ready.Statement.{statement}
 use Rattle.benches.proofs.calls.join_ready.Tie as tie

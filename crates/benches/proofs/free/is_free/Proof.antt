@@ -5,7 +5,7 @@ use mathlib.Core.Bool.{not}
 use borrow.Author.Tests.{eq-eqb, ne-eqb}
 use Rattle.files.specs.Domain.{typeOf, attributeOf}
 use Rattle.files.specs.Rows.{domainIn}
-use Rattle.benches.proofs.Joins.{free-by}
+use Rattle.benches.proofs.JoinOutcomes.{free-by}
 use Rattle.benches.proofs.free.is_free.Statement.{statement}
 use Rattle.benches.proofs.free.is_free.Tie as tie
 

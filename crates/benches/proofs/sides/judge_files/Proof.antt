@@ -1,8 +1,8 @@
 -- judge_files judges each file in turn, and then tests 21 and 3.
 use mathlib.Core.Path.{sym, _∙_, ap}
-use Rattle.tables.specs.Judge.{judged}
-use Rattle.benches.specs.Parts.{sideAnswer}
-use Rattle.benches.proofs.Joins.{not-side, side-as, files-first, files-second, files-both, shift-fits, accepted-few}
+use Rattle.tables.specs.JudgingCall.{judged}
+use Rattle.benches.specs.SidesFound.{sideAnswer}
+use Rattle.benches.proofs.JoinOutcomes.{not-side, side-as, files-first, files-second, files-both, shift-fits, accepted-few}
 use borrow.Author.Needs.{needs}
 use Rattle.benches.proofs.sides.judge_files.Statement.{statement}
 use Rattle.benches.proofs.sides.judge_files.Tie as tie

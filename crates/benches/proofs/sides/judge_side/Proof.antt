@@ -4,10 +4,10 @@ use lib.Seq.{length-take-le}
 use Rattle.frames.specs.Refusals.{Result, then}
 use Rattle.files.specs.Domain.{Domain}
 use Rattle.wiring.specs.Checks.{checkAnswer}
-use Rattle.wiring.proofs.Opening.{opened-as, opened-fits}
-use Rattle.tables.proofs.Lawful.{judged-own}
-use Rattle.benches.specs.Parts.{sideOf}
-use Rattle.benches.proofs.Joins.{side-room, side-refused, side-good, judged-by}
+use Rattle.wiring.proofs.FileRows.{opened-as, opened-fits}
+use Rattle.tables.proofs.LevelListsByOwn.{judged-own}
+use Rattle.benches.specs.SidesFound.{sideOf}
+use Rattle.benches.proofs.JoinOutcomes.{side-room, side-refused, side-good, judged-by}
 use borrow.Author.Needs.{needs}
 use Rattle.benches.proofs.sides.judge_side.Statement.{statement}
 use Rattle.benches.proofs.sides.judge_side.Tie as tie

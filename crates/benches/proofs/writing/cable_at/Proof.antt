@@ -5,7 +5,7 @@ use Prim.Native.Nat.{ℕ, _+_, _-_}
 use mathlib.Core.Path.{_≡_, sym, _∙_, ap, subst}
 use lib.ListN.{length, set, length-set}
 use borrow.Rule.Slice.PartMut.{putMid, same-len-mid}
-use Rattle.benches.proofs.Written.{cable-put}
+use Rattle.benches.proofs.JoinedFileWritten.{cable-put}
 use Rattle.frames.specs.Bytes.{byte}
 use Rattle.benches.specs.Bytes.{typedTwo, cabledAt}
 use Rattle.benches.proofs.writing.cable_at.Statement.{statement}

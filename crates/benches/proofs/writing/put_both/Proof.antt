@@ -5,8 +5,8 @@ use mathlib.Core.Path.{_∙_, ap}
 use mathlib.Core.List.{List}
 use lib.ListN.{length, getD, drop, set, length-set, length-drop}
 use lib.Seq.{paste}
-use Rattle.benches.proofs.Written.{both-put}
-use Rattle.files.proofs.Reading.{rest-whole}
+use Rattle.benches.proofs.JoinedFileWritten.{both-put}
+use Rattle.files.proofs.UnitReading.{rest-whole}
 use Rattle.benches.proofs.writing.put_both.Statement.{statement}
 use Rattle.benches.proofs.writing.put_both.Tie as tie
 

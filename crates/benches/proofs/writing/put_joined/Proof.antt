@@ -5,7 +5,7 @@ use Prim.Native.Nat.{ℕ, _+_, _-_}
 use mathlib.Core.Path.{_∙_, ap}
 use mathlib.Core.List.{List}
 use lib.ListN.{length}
-use Rattle.benches.proofs.Written.{joined-put}
+use Rattle.benches.proofs.JoinedFileWritten.{joined-put}
 use Rattle.frames.specs.Bytes.{numberAt}
 use Rattle.benches.specs.Bytes.{cabledAt}
 use Rattle.benches.proofs.writing.put_joined.Statement.{statement}

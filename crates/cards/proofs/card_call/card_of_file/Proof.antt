@@ -4,8 +4,8 @@ use Prim.Native.Nat.{ℕ, _-_}
 use mathlib.Core.Path.{sym}
 use lib.ListN.{replicate, length-replicate}
 use lib.Seq.{length-take-le}
-use Rattle.wiring.proofs.Opening.{opened-as, opened-fits}
-use Rattle.cards.proofs.Promises.{card-refused, card-made, rows-room}
+use Rattle.wiring.proofs.FileRows.{opened-as, opened-fits}
+use Rattle.cards.proofs.CallOutcomes.{card-refused, card-made, rows-room}
 use Rattle.cards.proofs.card_call.card_of_file.Statement.{statement}
 use Rattle.cards.proofs.card_call.card_of_file.Tie as tie
 

@@ -4,8 +4,8 @@ use borrow.Author.Needs.{needs}
 use lib.Dec.{leb}
 use Rattle.frames.specs.Refusals.{unless, refusal, refused}
 use Rattle.files.specs.File.{unitTested}
-use Rattle.files.specs.Units.{expanderAnswer}
-use Rattle.cards.proofs.Checks.{unit-refused, unit-passed, six-refused, six-passed}
+use Rattle.files.specs.UnitAnswers.{expanderAnswer}
+use Rattle.cards.proofs.CardChecks.{unit-refused, unit-passed, six-refused, six-passed}
 use Rattle.cards.proofs.card_rows.check_unit.Statement.{statement}
 use Rattle.cards.proofs.card_rows.check_unit.Tie as tie
 

@@ -3,7 +3,7 @@ use mathlib.Core.Path.{sym, _∙_, ap}
 use mathlib.Core.Bool.{Bool, _&&_}
 use borrow.Author.Needs.{needs}
 use lib.Dec.{eqb}
-use Rattle.cards.proofs.Checks.{ranged-more, ranged-same}
+use Rattle.cards.proofs.CardChecks.{ranged-more, ranged-same}
 use Rattle.cards.proofs.card_rows.count_ranged.Statement.{statement}
 use Rattle.cards.proofs.card_rows.count_ranged.Tie as tie
 

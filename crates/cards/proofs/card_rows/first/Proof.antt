@@ -2,7 +2,7 @@
 use mathlib.Core.Path.{sym, ap}
 use borrow.Author.Needs.{needs}
 use Rattle.wiring.specs.declared.Check.{Check}
-use Rattle.cards.specs.Walks.{afterCheck}
+use Rattle.cards.specs.CardWalks.{afterCheck}
 use Rattle.cards.proofs.card_rows.first.Statement.{statement}
 use Rattle.cards.proofs.card_rows.first.Tie as tie
 

@@ -14,7 +14,7 @@ use Rattle.files.specs.Domain.{addressOf}
 use Rattle.files.specs.Rows.{phyWord, phyWords}
 use Rattle.cards.specs.Card.{phySize, physSize, physOn}
 use Rattle.cards.specs.CardRead.{resultFine, resultsFine, phyRanged}
-use Rattle.cards.specs.Walks.{rangedCount}
+use Rattle.cards.specs.CardWalks.{rangedCount}
 use Rattle.cards.proofs.RowPuts.{past-next, past-none, stored-go, stored-end, fine-go, fine-end, count-go, count-end}
 use Rattle.cards.proofs.card_rows.put_phys.Statement.{statement}
 use Rattle.cards.proofs.card_rows.put_phys.Tie as tie

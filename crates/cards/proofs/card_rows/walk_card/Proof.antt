@@ -8,7 +8,7 @@ use borrow.Author.Needs.{needs}
 use borrow.Rule.Slice.PartMut.{same-len-mid}
 use Rattle.frames.specs.Bits.{bitsOf}
 use Rattle.cards.specs.Card.{expandersOn, domainOn}
-use Rattle.frames.proofs.Packing.{bits-bitsOf}
+use Rattle.frames.proofs.PackedRows.{bits-bitsOf}
 use Rattle.cards.proofs.RowPuts.{Walking, walk-starts, walk-goes, walk-ends}
 use Rattle.cards.proofs.card_rows.walk_card.Statement.{statement}
 use Rattle.cards.proofs.card_rows.walk_card.Tie as tie

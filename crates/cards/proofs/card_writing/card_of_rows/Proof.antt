@@ -9,7 +9,7 @@ use Rattle.files.specs.Domain.{Domain}
 use Rattle.files.specs.Rows.{domainIn}
 use Rattle.frames.specs.Bits.{bytesFor}
 use Rattle.cards.specs.Card.{cardOf}
-use Rattle.cards.proofs.Promises.{not-fitted, fitted, length-card}
+use Rattle.cards.proofs.CallOutcomes.{not-fitted, fitted, length-card}
 use Rattle.cards.proofs.card_writing.card_of_rows.Statement.{statement}
 use Rattle.cards.proofs.card_writing.card_of_rows.Tie as tie
 

@@ -7,7 +7,7 @@ use lib.ListN.{length}
 use Rattle.files.specs.Domain.{Domain}
 use Rattle.files.specs.Rows.{domainIn}
 use Rattle.cards.specs.Card.{cardSize}
-use Rattle.cards.proofs.Puts.{card-put}
+use Rattle.cards.proofs.CardPuts.{card-put}
 use Rattle.cards.proofs.card_writing.put_card.Statement.{statement}
 use Rattle.cards.proofs.card_writing.put_card.Tie as tie
 

@@ -9,7 +9,7 @@ use Rattle.files.specs.Domain.{Domain}
 use Rattle.files.specs.Rows.{domainIn}
 use Rattle.frames.specs.Bits.{bitsOf}
 use Rattle.cards.specs.Card.{expandersBits, expandersSize, cardSize}
-use Rattle.cards.proofs.Puts.{total-next, total-none, expanders-turn, expanders-end}
+use Rattle.cards.proofs.CardPuts.{total-next, total-none, expanders-turn, expanders-end}
 use Rattle.cards.proofs.card_writing.put_expanders.Statement.{statement}
 use Rattle.cards.proofs.card_writing.put_expanders.Tie as tie
 

@@ -5,7 +5,7 @@ use lib.Seq.{sets}
 use Rattle.files.specs.declared.Phy.{Phy}
 use Rattle.frames.specs.Bits.{bitsOf}
 use Rattle.cards.specs.Card.{phyBits}
-use Rattle.cards.proofs.Puts.{vacant-put}
+use Rattle.cards.proofs.CardPuts.{vacant-put}
 use Rattle.cards.proofs.card_writing.put_phy.Statement.{statement}
 use Rattle.cards.proofs.card_writing.put_phy.Tie as tie
 

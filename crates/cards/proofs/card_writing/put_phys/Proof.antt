@@ -11,7 +11,7 @@ use Rattle.files.specs.Domain.{expanderAt, phyAt}
 use Rattle.files.specs.Rows.{domainIn}
 use Rattle.frames.specs.Bits.{bitsOf}
 use Rattle.cards.specs.Card.{phyBits, physBits, phySize, physSize}
-use Rattle.cards.proofs.Puts.{sizes-next, sizes-none, phys-turn, phys-end}
+use Rattle.cards.proofs.CardPuts.{sizes-next, sizes-none, phys-turn, phys-end}
 use Rattle.cards.proofs.card_writing.put_phys.Statement.{statement}
 use Rattle.cards.proofs.card_writing.put_phys.Tie as tie
 

@@ -1,6 +1,6 @@
 -- put_present puts the numbers one after the other.
 use borrow.Author.Needs.{needs}
-use Rattle.cards.proofs.Puts.{present-none, present-all}
+use Rattle.cards.proofs.CardPuts.{present-none, present-all}
 use Rattle.cards.proofs.card_writing.put_present.Statement.{statement}
 use Rattle.cards.proofs.card_writing.put_present.Tie as tie
 

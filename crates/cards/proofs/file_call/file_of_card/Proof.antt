@@ -6,8 +6,8 @@ use lib.ListN.{replicate, length-replicate}
 use lib.Seq.{length-take-le}
 use borrow.Author.Needs.{needs}
 use borrow.Author.Tests.{not-true, not-false}
-use Rattle.files.specs.Read.{Bytes}
-use Rattle.cards.proofs.Promises.{file-out, file-unformed, file-many, file-refused, file-made, rows-hold, count-on}
+use Rattle.files.specs.ReadDomain.{Bytes}
+use Rattle.cards.proofs.CallOutcomes.{file-out, file-unformed, file-many, file-refused, file-made, rows-hold, count-on}
 use Rattle.cards.proofs.file_call.file_of_card.Statement.{statement}
 use Rattle.cards.proofs.file_call.file_of_card.Tie as tie
 

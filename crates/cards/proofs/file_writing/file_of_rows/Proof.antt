@@ -8,7 +8,7 @@ use lib.ListN.{drop}
 use Rattle.files.specs.Domain.{Domain}
 use Rattle.files.specs.Rows.{domainIn}
 use Rattle.cards.specs.FileOf.{fileOf}
-use Rattle.cards.proofs.Promises.{not-fitted, fitted}
+use Rattle.cards.proofs.CallOutcomes.{not-fitted, fitted}
 use Rattle.cards.proofs.file_writing.file_of_rows.Statement.{statement}
 use Rattle.cards.proofs.file_writing.file_of_rows.Tie as tie
 

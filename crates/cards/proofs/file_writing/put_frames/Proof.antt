@@ -14,13 +14,13 @@ use Rattle.cards.proofs.file_writing.put_frames.Statement.{statement}
 use Rattle.cards.proofs.file_writing.put_frames.Tie as tie
 
 abbrev Inv-loop : tie.InvT-loop
-Inv-loop file₀ to rows i own n p₀ file p =
-    (p ≤ n) × (((n ≡ length (expanderAt (domainIn rows) (i .0) .phys)) × (n ≤ 128)) × ((own ≡ expanderAt (domainIn rows) (i .0) .address) × ((length file ≡ length file₀)
+Inv-loop file₀ to rows i ownAddress n p₀ file p =
+    (p ≤ n) × (((n ≡ length (expanderAt (domainIn rows) (i .0) .phys)) × (n ≤ 128)) × ((ownAddress ≡ expanderAt (domainIn rows) (i .0) .address) × ((length file ≡ length file₀)
     × (sets file (to + 52 * p) (physFrames (expanderAt (domainIn rows) (i .0) .address) p (drop p (expanderAt (domainIn rows) (i .0) .phys)))
     ≡ sets file₀ to (physFrames (expanderAt (domainIn rows) (i .0) .address) 0 (expanderAt (domainIn rows) (i .0) .phys))))))
 
 abbrev μ-loop : tie.MeasureT-loop
-μ-loop file₀ to rows i own n p₀ file p = n - p
+μ-loop file₀ to rows i ownAddress n p₀ file p = n - p
 
 loop-holds : tie.Need-loop-holds Inv-loop μ-loop
 loop-holds c = let f : c .before .before .before .before .args .to + 52 * 0 ≡ c .before .before .before .before .args .to = omega arith in (omega arith, (c .phy-count .ensures, (c .before .expander-address .ensures, (refl, rw f))))

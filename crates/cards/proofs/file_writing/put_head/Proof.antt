@@ -7,7 +7,7 @@ use lib.ListN.{take, drop, length-take, length-drop}
 use borrow.Rule.Slice.PartMut.{putMid, same-len-mid}
 use Rattle.frames.specs.Bytes.{bytesOf}
 use Rattle.frames.specs.declared.General.{General}
-use Rattle.frames.proofs.Numbers.{length-bytesOf}
+use Rattle.frames.proofs.ByteNumbers.{length-bytesOf}
 use Rattle.files.specs.Domain.{Expander, expanderAt}
 use Rattle.files.specs.Rows.{domainIn}
 use Rattle.cards.proofs.FilePuts.{front-whole, head-put, general-same}
@@ -54,7 +54,7 @@ returns : tie.Need-returns
 returns c =
     let at-put-address = c .before .before .before .before .before .before .put-address in
     let at-expander-address = c .before .before .before .before .before .before .before .expander-address in
-    let at-index-count = c .before .before .before .before .before .before .before .before .before .before .before .index-count in
+    let at-route-indexes = c .before .before .before .before .before .before .before .before .before .before .before .route-indexes in
     let at-phy-count = c .before .before .before .before .before .before .before .before .before .before .phy-count in
     let at-configurable-bit = c .before .before .before .before .before .before .before .before .before .configurable-bit in
     let at-pre = c .before .before .before .before .before .before .before .before .before .before .before .before .before .before .pre in
@@ -64,14 +64,14 @@ returns c =
     let s = putMid t (t + 8 - t) (a .file .now) (at-put-address .last .0) in
     let n = same-len-mid t (t + 8 - t) (a .file .now) (at-put-address .last .0) (at-put-address .kept .0) in
     let x = at-expander-address .result in
-    let g = general-same e _ _ _ (at-index-count .ensures) (at-phy-count .ensures .0) (at-configurable-bit .ensures) in
-    let gen : General = record { indexes = at-index-count .result; phys = at-phy-count .result; configurable = at-configurable-bit .result } in
+    let g = general-same e _ _ _ (at-route-indexes .ensures) (at-phy-count .ensures .0) (at-configurable-bit .ensures) in
+    let gen : General = record { routeIndexes = at-route-indexes .result; phys = at-phy-count .result; configurable = at-configurable-bit .result } in
     let f1 = at-put-address .ensures ∙ front-whole (bytesOf 8 x) (take (t + 8 - t) (drop t (a .file .now))) (simp (length-take, length-drop) (omega (arith, length-bytesOf 8 x))) in
     let f2 = c .before .before .put-general .ensures in
     head-put e (a .file .now) s _ (at-put-address .last .0) (c .before .before .put-general .last .0) t (t + 8 - t) (t + 36 - (t + 8)) x gen (at-pre .1) n (at-expander-address .ensures) g (omega arith) f1 refl (omega arith) f2 refl
 
-index-count-requires : tie.Need-index-count-requires
-index-count-requires c κs = search needs
+route-indexes-requires : tie.Need-route-indexes-requires
+route-indexes-requires c κs = search needs
 
 phy-count-requires : tie.Need-phy-count-requires
 phy-count-requires c κs = search needs
@@ -93,4 +93,4 @@ put-general-requires c κs =
     simp (length-take, length-drop) (omega arith)
 
 pub put-head-spec : {M : Type 1} → statement M
-put-head-spec = tie.close (tie.spec index-count-requires phy-count-requires configurable-bit-requires add-m add-e sub-put-address part-put-address-start part-put-address-end expander-address-requires put-address-requires sub-put-general part-put-general-start part-put-general-end put-general-requires same-length returns)
+put-head-spec = tie.close (tie.spec route-indexes-requires phy-count-requires configurable-bit-requires add-m add-e sub-put-address part-put-address-start part-put-address-end expander-address-requires put-address-requires sub-put-general part-put-general-start part-put-general-end put-general-requires same-length returns)

@@ -13,13 +13,13 @@ same-length c = search needs
 returns : tie.Need-returns
 returns c =
     let a = c .before .before .before .before .before .before .before .before .args in
-    c .before .before .put-vacant .ensures ∙ sym (ap (phyFrame (a .own) (a .p .0)) (c .before .before .before .before .before .f .given .1))
+    c .before .before .put-vacant .ensures ∙ sym (ap (phyFrame (a .ownAddress) (a .p .0)) (c .before .before .before .before .before .f .given .1))
 
 returns-2 : tie.Need-returns-2
 returns-2 c =
     let at-f2 = c .before .before .before .before .before .before .f2 in
     let a = c .before .before .before .before .before .before .before .before .before .args in
-    c .before .before .put-discover .ensures ∙ ap shortDiscover (c .before .before .before .discover-of .ensures) ∙ sym (ap (phyFrame (a .own) (a .p .0)) (at-f2 .given .1))
+    c .before .before .put-discover .ensures ∙ ap shortDiscover (c .before .before .before .discover-of .ensures) ∙ sym (ap (phyFrame (a .ownAddress) (a .p .0)) (at-f2 .given .1))
 
 enum-known-f : tie.Need-enum-known-f
 enum-known-f c = search needs

@@ -2,7 +2,7 @@
 use mathlib.Core.Path.{sym, _∙_}
 use native.Mathlib.Omega.{arith}
 use borrow.Author.Tests.{not-true, not-false}
-use Rattle.cards.proofs.Walks.{formed-version, formed-zeros, formed-bad, formed-long, formed-fill}
+use Rattle.cards.proofs.CardPlaces.{formed-version, formed-zeros, formed-bad, formed-long, formed-fill}
 use Rattle.cards.proofs.reading.is_formed.Statement.{statement}
 use Rattle.cards.proofs.reading.is_formed.Tie as tie
 

@@ -2,7 +2,7 @@
 use native.Mathlib.Omega.{arith}
 use borrow.Author.Needs.{needs}
 use Rattle.frames.specs.Bits.{bitsOf}
-use Rattle.cards.proofs.Walks.{unit-from}
+use Rattle.cards.proofs.CardPlaces.{unit-from}
 use Rattle.cards.proofs.reading.unit_from.Statement.{statement}
 use Rattle.cards.proofs.reading.unit_from.Tie as tie
 
@@ -12,8 +12,8 @@ add-bits-at c = omega arith
 bits-at-requires : tie.Need-bits-at-requires
 bits-at-requires c κs = (omega arith, (omega arith, omega arith))
 
-cast-indexes : tie.Need-cast-indexes
-cast-indexes c = search needs
+cast-route-indexes : tie.Need-cast-route-indexes
+cast-route-indexes c = search needs
 
 add-bits-at-2 : tie.Need-add-bits-at-2
 add-bits-at-2 c = omega arith
@@ -46,4 +46,4 @@ returns c =
     (unit-from (bitsOf (a .card .now)) (a .at) _ _ _ _ (c .word-from .ensures) (c .before .before .before .bits-at .ensures .0) (omega (arith, p .0)) (c .before .before .bits-at2 .ensures .0), omega (arith, p .1))
 
 pub unit-from-spec : {M : Type 1} → statement M
-unit-from-spec = tie.close (tie.spec add-bits-at bits-at-requires cast-indexes add-bits-at-2 bits-at-requires-2 cast-configurable add-bits-at-3 bits-at-requires-3 cast-phys add-phys word-from-requires returns)
+unit-from-spec = tie.close (tie.spec add-bits-at bits-at-requires cast-route-indexes add-bits-at-2 bits-at-requires-2 cast-configurable add-bits-at-3 bits-at-requires-3 cast-phys add-phys word-from-requires returns)

@@ -6,7 +6,7 @@ use native.Mathlib.Omega.{arith}
 use lib.ListN.{length, drop, set, replicate, length-set}
 use borrow.Author.Fill.{fill-more}
 use borrow.Author.Needs.{needs}
-use Rattle.files.proofs.Filling.{cleared}
+use Rattle.files.proofs.RowFilling.{cleared}
 use Rattle.cards.proofs.short_frames.clear.Statement.{statement}
 use Rattle.cards.proofs.short_frames.clear.Tie as tie
 

@@ -59,8 +59,8 @@ part-put-address-end-2 c =
     let at-args = c .before .before .before .before .before .before .before .before .before .before .before .args in
     let at-clear = c .before .before .before .before .before .before .before .before .clear in
     let d = at-args .d in
-    let l = same-len-mid 16 8 (set (set (set (set (set (set (at-clear .last .0) 0 0x41) 1 0x10) 9 (d .identifier .0)) 12 (d .device % 8 * 16)) 32 (d .far .0)) 44 (d .attribute % 16)) (c .before .before .put-address .last .0) (c .before .before .put-address .kept .0) in
-    omega (arith, at-clear .kept .0, length-stored (at-clear .last .0) 0x41 0x10 (d .identifier .0) (d .device % 8 * 16) (d .far .0) (d .attribute % 16), l)
+    let l = same-len-mid 16 8 (set (set (set (set (set (set (at-clear .last .0) 0 0x41) 1 0x10) 9 (d .identifier .0)) 12 (d .deviceType % 8 * 16)) 32 (d .attachedPhy .0)) 44 (d .attribute % 16)) (c .before .before .put-address .last .0) (c .before .before .put-address .kept .0) in
+    omega (arith, at-clear .kept .0, length-stored (at-clear .last .0) 0x41 0x10 (d .identifier .0) (d .deviceType % 8 * 16) (d .attachedPhy .0) (d .attribute % 16), l)
 
 put-address-requires-2 : tie.Need-put-address-requires-2
 put-address-requires-2 c κs = search needs
@@ -71,10 +71,10 @@ same-length c =
     let at-clear = c .before .before .before .before .before .before .before .before .before .before .before .before .clear in
     let at-put-address = c .before .before .before .before .before .before .put-address in
     let d = at-args .d in
-    let s : List ℕ = set (set (set (set (set (set (at-clear .last .0) 0 0x41) 1 0x10) 9 (d .identifier .0)) 12 (d .device % 8 * 16)) 32 (d .far .0)) 44 (d .attribute % 16) in
+    let s : List ℕ = set (set (set (set (set (set (at-clear .last .0) 0 0x41) 1 0x10) 9 (d .identifier .0)) 12 (d .deviceType % 8 * 16)) 32 (d .attachedPhy .0)) 44 (d .attribute % 16) in
     same-len-mid 24 8 (putMid 16 8 s (at-put-address .last .0)) (c .before .before .put-address2 .last .0) (c .before .before .put-address2 .kept .0)
     ∙ same-len-mid 16 8 s (at-put-address .last .0) (at-put-address .kept .0)
-    ∙ length-stored (at-clear .last .0) 0x41 0x10 (d .identifier .0) (d .device % 8 * 16) (d .far .0) (d .attribute % 16) ∙ at-clear .kept .0
+    ∙ length-stored (at-clear .last .0) 0x41 0x10 (d .identifier .0) (d .deviceType % 8 * 16) (d .attachedPhy .0) (d .attribute % 16) ∙ at-clear .kept .0
 
 returns : tie.Need-returns
 unfolding shortDiscover bytesOf

@@ -6,7 +6,7 @@ use mathlib.Core.Path.{_≡_, refl}
 use lib.ListN.{length, drop}
 use Rattle.files.specs.Rows.{domainIn}
 use Rattle.cards.specs.Card.{expandersSize, cardSize}
-use Rattle.cards.proofs.Puts.{total-next, total-none}
+use Rattle.cards.proofs.CardPuts.{total-next, total-none}
 use Rattle.cards.proofs.sizes.card_size.Statement.{statement}
 use Rattle.cards.proofs.sizes.card_size.Tie as tie
 

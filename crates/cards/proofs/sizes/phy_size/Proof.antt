@@ -3,7 +3,7 @@ use native.Mathlib.Omega.{arith}
 use borrow.Author.Needs.{needs}
 use mathlib.Core.Path.{sym, _∙_, ap}
 use Rattle.cards.specs.Card.{phySize}
-use Rattle.cards.proofs.Puts.{size-more}
+use Rattle.cards.proofs.CardPuts.{size-more}
 use Rattle.cards.proofs.sizes.phy_size.Statement.{statement}
 use Rattle.cards.proofs.sizes.phy_size.Tie as tie
 

@@ -9,7 +9,7 @@ use Rattle.files.specs.declared.Phy.{Phy}
 use Rattle.files.specs.Domain.{expanderAt, phyAt}
 use Rattle.files.specs.Rows.{domainIn}
 use Rattle.cards.specs.Card.{phySize, physSize}
-use Rattle.cards.proofs.Puts.{sizes-next, sizes-none}
+use Rattle.cards.proofs.CardPuts.{sizes-next, sizes-none}
 use Rattle.cards.proofs.sizes.phys_size.Statement.{statement}
 use Rattle.cards.proofs.sizes.phys_size.Tie as tie
 

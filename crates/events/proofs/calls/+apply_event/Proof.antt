@@ -7,7 +7,7 @@ use borrow.Author.Needs.{needs}
 use Prim.Native.Nat.{ℕ, _<_}
 use borrow.Fn.Kinds.{In}
 use borrow.Fn.PlainCycle.{Measures, is, falls, and}
-use Rattle.events.proofs.Applying.{header-done}
+use Rattle.events.proofs.EventOutcomes.{header-done}
 use Rattle.events.proofs.calls.apply_event.Reads as apply-event
 use Rattle.events.proofs.calls.apply_event.Kinds as apply-event-kinds
 use Rattle.events.proofs.calls.+apply_event.Lts-apply_event as apply-event-lts

@@ -1,8 +1,8 @@
 -- apply_in meets its contract: the rows that the file is read into are its domain.
 use mathlib.Core.Path.{sym}
 use lib.Seq.{length-take-le}
-use Rattle.wiring.proofs.Opening.{opened-as, opened-fits}
-use Rattle.events.proofs.OwnEvents.{refused-done}
+use Rattle.wiring.proofs.FileRows.{opened-as, opened-fits}
+use Rattle.events.proofs.EventsByOwnLists.{refused-done}
 use borrow.Author.Needs.{needs}
 use Rattle.events.proofs.calls.apply_in.Statement.{statement}
 use Rattle.events.proofs.calls.apply_in.Tie as tie

@@ -1,8 +1,8 @@
 -- apply_many meets its contract: a file that is read has at most 64 expanders.
 use Prim.Native.Nat.{ℕ}
 use lib.ListN.{length-replicate}
-use Rattle.files.proofs.Read.{read-good}
-use Rattle.wiring.proofs.Opening.{file-room}
+use Rattle.files.proofs.ReadDomain.{read-good}
+use Rattle.wiring.proofs.FileRows.{file-room}
 use native.Mathlib.Omega.{arith}
 use borrow.Author.Needs.{needs}
 use Rattle.events.proofs.calls.apply_many.Statement.{statement}

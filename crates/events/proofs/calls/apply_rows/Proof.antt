@@ -1,6 +1,6 @@
 -- apply_rows meets its contract: the event call on the file's domain is the call over its rows, and the file is edited where that one counts.
 use native.Mathlib.Omega.{arith}
-use Rattle.events.proofs.Applying.{applied-refused, applied-within, applied-counted}
+use Rattle.events.proofs.EventOutcomes.{applied-refused, applied-within, applied-counted}
 use borrow.Author.Needs.{needs}
 use Rattle.events.proofs.calls.apply_rows.Statement.{statement}
 use Rattle.events.proofs.calls.apply_rows.Tie as tie

@@ -1,7 +1,7 @@
 -- attach_at meets its contract: it stores byte 32 and the eight bytes of the address.
 use native.Mathlib.Omega.{arith}
 use lib.ListN.{length-set}
-use Rattle.events.proofs.Plugging.{attach-length, attach-put}
+use Rattle.events.proofs.PluggedAddress.{attach-length, attach-put}
 use borrow.Author.Needs.{needs}
 use Rattle.events.proofs.writing.attach_at.Statement.{statement}
 use Rattle.events.proofs.writing.attach_at.Tie as tie

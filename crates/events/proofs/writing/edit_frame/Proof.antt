@@ -3,7 +3,7 @@ use mathlib.Core.Path.{_∙_}
 use Prim.Native.Nat.{_+_}
 use native.Mathlib.Omega.{arith}
 use lib.ListN.{length-set}
-use Rattle.events.proofs.Plugging.{pull-put, plug-put}
+use Rattle.events.proofs.PluggedAddress.{pull-put, plug-put}
 use borrow.Author.Needs.{needs}
 use Rattle.events.proofs.writing.edit_frame.Statement.{statement}
 use Rattle.events.proofs.writing.edit_frame.Tie as tie

@@ -4,12 +4,12 @@ use mathlib.Core.Path.{refl, sym, _∙_, ap}
 use native.Mathlib.Omega.{arith}
 use lib.ListN.{length-replicate}
 use lib.Seq.{length-take-le}
-use Rattle.files.proofs.Members.{was-false}
+use Rattle.files.proofs.ListMembers.{was-false}
 use Rattle.frames.specs.Refusals.{refused}
 use Rattle.exercises.specs.Rig.{noRig}
-use Rattle.exercises.proofs.Trimmed.{trimmed-few}
+use Rattle.exercises.proofs.TrimmedWords.{trimmed-few}
 use Rattle.exercises.proofs.Exercise.{makable}
-use Rattle.exercises.proofs.Promises.{make-none, make-some}
+use Rattle.exercises.proofs.MakeOutcomes.{make-none, make-some}
 use borrow.Author.Needs.{needs}
 use Rattle.exercises.proofs.making.make.Statement.{statement}
 use Rattle.exercises.proofs.making.make.Tie as tie
@@ -30,7 +30,7 @@ slice-aggregate-put-rig : tie.Need-slice-aggregate-put-rig
 slice-aggregate-put-rig c = search needs
 
 cast-put-rig : tie.Need-cast-put-rig
-cast-put-rig c = let a = (c .before .before .before .before .before .before .args) in let k = makable (a .a) (a .b) (a .list .now) (was-false (noRig (a .a) (a .b) (a .list .now)) (sym ((c .before .before .before .is-no-rig) .ensures) ∙ (c .before .before .if1) .left)) in omega (arith, k .indexes)
+cast-put-rig c = let a = (c .before .before .before .before .before .before .args) in let k = makable (a .a) (a .b) (a .list .now) (was-false (noRig (a .a) (a .b) (a .list .now)) (sym ((c .before .before .before .is-no-rig) .ensures) ∙ (c .before .before .if1) .left)) in omega (arith, k .routeIndexes)
 
 slice-aggregate-put-rig-2 : tie.Need-slice-aggregate-put-rig-2
 slice-aggregate-put-rig-2 c =

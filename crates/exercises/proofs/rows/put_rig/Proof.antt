@@ -52,7 +52,7 @@ returns c =
     let at-pre = c .before .before .before .before .before .before .before .before .before .before .before .before .before .pre in
     let at-toward = c .before .before .before .before .before .before .before .before .before .toward in
     let at-put-row = c .before .before .before .before .before .before .before .put-row in
-    rig-put (at-args .a) (at-args .b) (at-args .indexes) (at-args .words .now) (at-args .rows .now) _ _ _ _ _ _ _ (at-pre .0) (at-pre .1) (at-toward .ensures) ((c .before .before .before .toward2) .ensures) (at-put-row .ensures) ((c .before .before .put-row2) .ensures) refl refl refl
+    rig-put (at-args .a) (at-args .b) (at-args .routeIndexes) (at-args .words .now) (at-args .rows .now) _ _ _ _ _ _ _ (at-pre .0) (at-pre .1) (at-toward .ensures) ((c .before .before .before .toward2) .ensures) (at-put-row .ensures) ((c .before .before .put-row2) .ensures) refl refl refl
 
 pub put-rig-spec : {M : Type 1} → statement M
 put-rig-spec = tie.close (tie.spec cast-t9 add-t10 slice-relend-prefix-put-row slice-aggregate-put-row toward-requires slice-aggregate-put-row-2 put-row-requires sub-put-row part-put-row-start part-put-row-end toward-requires-2 put-row-requires-2 same-length returns)

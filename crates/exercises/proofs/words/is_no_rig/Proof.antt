@@ -1,6 +1,6 @@
 -- is_no_rig tests in the order of the definition.
 use mathlib.Core.Path.{sym, _∙_}
-use Rattle.exercises.proofs.NoRig.{no-first, no-second, no-other, no-word, no-word-2, no-indexes, no-phys}
+use Rattle.exercises.proofs.NoRig.{no-first, no-second, no-other, no-word, no-word-2, no-route-indexes, no-phys}
 use native.Mathlib.Omega.{arith}
 use borrow.Author.Needs.{needs}
 use Rattle.exercises.proofs.words.is_no_rig.Statement.{statement}
@@ -33,7 +33,7 @@ returns-6 : tie.Need-returns-6
 returns-6 c =
     let at-if1 = c .before .before .before .before .before .before .before .if1 in
     let at-if2 = c .before .before .before .before .before .before .if2 in
-    no-indexes _ _ _ (at-if1 .left) (at-if2 .left) (c .before .before .before .before .before .if3 .left) (sym (c .before .before .before .before .has-word .ensures) ∙ c .before .before .before .if4 .left) (sym (c .before .before .has-word2 .ensures) ∙ c .before .if5 .left) (omega arith)
+    no-route-indexes _ _ _ (at-if1 .left) (at-if2 .left) (c .before .before .before .before .before .if3 .left) (sym (c .before .before .before .before .has-word .ensures) ∙ c .before .before .before .if4 .left) (sym (c .before .before .has-word2 .ensures) ∙ c .before .if5 .left) (omega arith)
 
 trimmed-count-requires : tie.Need-trimmed-count-requires
 trimmed-count-requires c κs = search needs

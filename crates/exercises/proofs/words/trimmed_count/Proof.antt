@@ -3,7 +3,7 @@ use Prim.Native.Nat.{_≤_, _-_}
 use mathlib.Core.Path.{_≡_}
 use lib.ListN.{length, take}
 use Rattle.exercises.specs.Rig.{trimmed}
-use Rattle.exercises.proofs.Trimmed.{trim-start, trim-stop, trim-go, trim-end}
+use Rattle.exercises.proofs.TrimmedWords.{trim-start, trim-stop, trim-go, trim-end}
 use native.Mathlib.Omega.{arith}
 use Rattle.exercises.proofs.words.trimmed_count.Statement.{statement}
 use Rattle.exercises.proofs.words.trimmed_count.Tie as tie

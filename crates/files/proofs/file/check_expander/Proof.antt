@@ -1,7 +1,7 @@
 -- check_expander meets its contract: the expander's unit, and then its phys from where the unit ends.
 use mathlib.Core.Path.{sym, _∙_, ap}
 use borrow.Author.Needs.{needs}
-use Rattle.files.specs.Units.{expanderAnswer, physAnswer, expanderChecked}
+use Rattle.files.specs.UnitAnswers.{expanderAnswer, physAnswer, expanderChecked}
 use Rattle.files.proofs.file.check_expander.Statement.{statement}
 use Rattle.files.proofs.file.check_expander.Tie as tie
 

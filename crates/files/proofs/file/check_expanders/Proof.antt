@@ -8,10 +8,10 @@ use lib.ListN.{length, take, length-set}
 use lib.Seq.{length-take-le}
 use borrow.Author.Needs.{needs}
 use Rattle.frames.specs.Refusals.{then}
-use Rattle.files.proofs.Reading.{countFrom, count-all, expander-stop, expander-go, expanders-end, expanders-more}
+use Rattle.files.proofs.UnitReading.{countFrom, count-all, expander-stop, expander-go, expanders-end, expanders-more}
 use Rattle.files.specs.File.{expanders}
 use Rattle.files.specs.Rows.{countOf}
-use Rattle.files.specs.Units.{expanderAnswer}
+use Rattle.files.specs.UnitAnswers.{expanderAnswer}
 use Rattle.files.proofs.file.check_expanders.Statement.{statement}
 use Rattle.files.proofs.file.check_expanders.Tie as tie
 use Rattle.files.proofs.OneMore.{set-next}

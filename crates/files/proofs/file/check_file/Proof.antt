@@ -2,7 +2,7 @@
 use mathlib.Core.Path.{refl, sym, _∙_}
 use borrow.Author.Needs.{needs}
 use borrow.Author.Tests.{eq-eqb, ne-eqb, le-leb, lt-leb, not-true, not-false}
-use Rattle.files.proofs.Reading.{file-by}
+use Rattle.files.proofs.UnitReading.{file-by}
 use Rattle.files.proofs.file.check_file.Statement.{statement}
 use Rattle.files.proofs.file.check_file.Tie as tie
 

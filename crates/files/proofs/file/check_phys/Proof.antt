@@ -4,17 +4,17 @@ use mathlib.Core.Path.{_≡_, sym, _∙_, ap}
 use native.Mathlib.Nat.{sub-zero}
 use native.Mathlib.Omega.{arith}
 use borrow.Author.Needs.{needs}
-use Rattle.files.proofs.Reading.{phys-stop, phys-go, phys-end}
+use Rattle.files.proofs.UnitReading.{phys-stop, phys-go, phys-end}
 use Rattle.files.specs.File.{phyUnits}
-use Rattle.files.specs.Units.{phyAnswer, physNext}
+use Rattle.files.specs.UnitAnswers.{phyAnswer, physNext}
 use Rattle.files.proofs.file.check_phys.Statement.{statement}
 use Rattle.files.proofs.file.check_phys.Tie as tie
 
 abbrev Inv-loop : tie.InvT-loop
-Inv-loop file own i n at p₀ next₀ p next = (p ≤ n) × (physNext (phyUnits file own (i .0) (n - p) p next) ≡ physNext (phyUnits file own (i .0) n 0 at))
+Inv-loop file ownAddress i n at p₀ next₀ p next = (p ≤ n) × (physNext (phyUnits file ownAddress (i .0) (n - p) p next) ≡ physNext (phyUnits file ownAddress (i .0) n 0 at))
 
 abbrev μ-loop : tie.MeasureT-loop
-μ-loop file own i n at p₀ next₀ p next = n - p
+μ-loop file ownAddress i n at p₀ next₀ p next = n - p
 
 loop-holds : tie.Need-loop-holds Inv-loop μ-loop
 loop-holds c = (omega arith, simp sub-zero)

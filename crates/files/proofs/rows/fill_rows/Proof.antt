@@ -6,10 +6,10 @@ use native.Mathlib.Omega.{arith}
 use lib.ListN.{length, length-take, length-drop}
 use borrow.Author.Needs.{needs}
 use borrow.Rule.Slice.PartMut.{same-len-mid}
-use Rattle.files.proofs.Filling.{rows-stop, rows-end, rows-go}
-use Rattle.files.proofs.Read.{few-phys}
-use Rattle.files.specs.Fill.{pasted, domainGot}
-use Rattle.files.specs.Units.{expanderAnswer}
+use Rattle.files.proofs.RowFilling.{rows-stop, rows-end, rows-go}
+use Rattle.files.proofs.ReadDomain.{few-phys}
+use Rattle.files.specs.SecondReading.{pasted, domainGot}
+use Rattle.files.specs.UnitAnswers.{expanderAnswer}
 use Rattle.files.proofs.rows.fill_rows.Statement.{statement}
 use Rattle.files.proofs.rows.fill_rows.Tie as tie
 

@@ -6,22 +6,22 @@ use native.Mathlib.Omega.{arith}
 use lib.ListN.{length, length-set}
 use lib.Seq.{sets}
 use borrow.Author.Needs.{needs}
-use Rattle.files.proofs.Filling.{put-go, put-end, next-go, next-end}
+use Rattle.files.proofs.RowFilling.{put-go, put-end, next-go, next-end}
 use Rattle.files.specs.Domain.{addressOf}
-use Rattle.files.specs.Fill.{phyGot, nextGot, physGot}
+use Rattle.files.specs.SecondReading.{phyGot, nextGot, physGot}
 use Rattle.files.specs.Rows.{phyWord, phyWords}
 use Rattle.files.proofs.rows.put_phys.Statement.{statement}
 use Rattle.files.proofs.rows.put_phys.Tie as tie
 
 abbrev Inv-loop : tie.InvT-loop
-Inv-loop row₀ file own i n at p₀ next₀ row p next =
+Inv-loop row₀ file ownAddress i n at p₀ next₀ row p next =
     (p ≤ n)
     × ((length row ≡ length row₀)
-    × ((sets row (2 + 2 * p) (phyWords (physGot file own (i .0) (n - p) p next .value)) ≡ sets row₀ 2 (phyWords (physGot file own (i .0) n 0 at .value)))
-    × (physGot file own (i .0) (n - p) p next .next ≡ physGot file own (i .0) n 0 at .next)))
+    × ((sets row (2 + 2 * p) (phyWords (physGot file ownAddress (i .0) (n - p) p next .value)) ≡ sets row₀ 2 (phyWords (physGot file ownAddress (i .0) n 0 at .value)))
+    × (physGot file ownAddress (i .0) (n - p) p next .next ≡ physGot file ownAddress (i .0) n 0 at .next)))
 
 abbrev μ-loop : tie.MeasureT-loop
-μ-loop row₀ file own i n at p₀ next₀ row p next = n - p
+μ-loop row₀ file ownAddress i n at p₀ next₀ row p next = n - p
 
 loop-holds : tie.Need-loop-holds Inv-loop μ-loop
 loop-holds c = (omega arith, (refl, (simp sub-zero, simp sub-zero)))
@@ -82,9 +82,9 @@ loop-again c =
       (
         simp length-set (l .inv .1 .0),
         (
-          put-go (a .file .now) (a .own) (a .i .0) (a .n) (l .p) (l .next) (l .row) _ _ _ (c .before .before .phy-address .ensures ∙ ap addressOf g)
+          put-go (a .file .now) (a .ownAddress) (a .i .0) (a .n) (l .p) (l .next) (l .row) _ _ _ (c .before .before .phy-address .ensures ∙ ap addressOf g)
               (c .before .phy-word .ensures ∙ ap phyWord g) q (omega arith) ∙ l .inv .1 .1 .0,
-          next-go (a .file .now) (a .own) (a .i .0) (a .n) (l .p) (l .next) _ q (omega arith) ∙ l .inv .1 .1 .1,
+          next-go (a .file .now) (a .ownAddress) (a .i .0) (a .n) (l .p) (l .next) _ q (omega arith) ∙ l .inv .1 .1 .1,
         ),
       ),
     )
@@ -97,8 +97,8 @@ returns c =
     let l = c .before .loop in
     let a = c .before .before .before .before .args in
     record {
-      words = sym (put-end (a .file .now) (a .own) (a .i .0) (a .n) (l .p) (l .next) (l .row) (omega arith)) ∙ l .inv .1 .1 .0;
-      place = sym (next-end (a .file .now) (a .own) (a .i .0) (a .n) (l .p) (l .next) (omega arith)) ∙ l .inv .1 .1 .1;
+      words = sym (put-end (a .file .now) (a .ownAddress) (a .i .0) (a .n) (l .p) (l .next) (l .row) (omega arith)) ∙ l .inv .1 .1 .0;
+      place = sym (next-end (a .file .now) (a .ownAddress) (a .i .0) (a .n) (l .p) (l .next) (omega arith)) ∙ l .inv .1 .1 .1;
     }
 
 pub put-phys-spec : {M : Type 1} → statement M

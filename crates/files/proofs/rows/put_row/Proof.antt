@@ -5,7 +5,7 @@ use mathlib.Core.Path.{_≡_, _∙_}
 use native.Mathlib.Omega.{arith}
 use lib.ListN.{length, length-set}
 use borrow.Rule.Slice.PartMut.{putMid, same-len-mid}
-use Rattle.files.proofs.Filling.{row-made, tail-cleared}
+use Rattle.files.proofs.RowFilling.{row-made, tail-cleared}
 use Rattle.files.proofs.rows.put_row.Statement.{statement}
 use Rattle.files.proofs.rows.put_row.Tie as tie
 

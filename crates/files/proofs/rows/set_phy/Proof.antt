@@ -2,7 +2,7 @@
 use native.Mathlib.Omega.{arith}
 use lib.ListN.{length-set}
 use borrow.Author.Needs.{needs}
-use Rattle.files.proofs.PhySets.{in-rows, phy-set-by, phy-unset}
+use Rattle.files.proofs.PhyReplaced.{in-rows, phy-set-by, phy-unset}
 use Rattle.files.proofs.rows.set_phy.Statement.{statement}
 use Rattle.files.proofs.rows.set_phy.Tie as tie
 

@@ -10,7 +10,7 @@ use Rattle.frames.specs.Refusals.{refusal}
 use Rattle.frames.specs.Sizes.{sizeAnswer}
 use Rattle.frames.specs.ReportGeneral.{generalAnswer}
 use Rattle.frames.specs.declared.Response.the-variants.{ReportGeneral}
-use Rattle.files.proofs.Reading.{size-cut, size-within, expander-unit-cut, expander-unit-by}
+use Rattle.files.proofs.UnitReading.{size-cut, size-within, expander-unit-cut, expander-unit-by}
 use borrow.Author.Needs.{needs}
 use Rattle.files.proofs.units.expander_unit.Statement.{statement}
 use Rattle.files.proofs.units.expander_unit.Tie as tie

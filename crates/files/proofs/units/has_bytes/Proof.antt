@@ -5,7 +5,7 @@ use native.Mathlib.Omega.{arith}
 use lib.ListN.{length}
 use borrow.Author.Needs.{needs}
 use borrow.Author.Tests.{lt-leb}
-use Rattle.files.proofs.Reading.{bytes-there}
+use Rattle.files.proofs.UnitReading.{bytes-there}
 use Rattle.files.proofs.units.has_bytes.Statement.{statement}
 use Rattle.files.proofs.units.has_bytes.Tie as tie
 

@@ -3,7 +3,7 @@ use Prim.Native.Nat.{_≤_, _-_}
 use mathlib.Core.Path.{_≡_, refl}
 use native.Mathlib.Omega.{arith}
 use lib.ListN.{length, drop}
-use Rattle.files.proofs.Reading.{in-stop, in-go, in-end}
+use Rattle.files.proofs.UnitReading.{in-stop, in-go, in-end}
 use Rattle.files.specs.Lists.{isIn}
 use Rattle.files.proofs.units.is_in.Statement.{statement}
 use Rattle.files.proofs.units.is_in.Tie as tie

@@ -5,7 +5,7 @@ use native.Mathlib.Omega.{arith}
 use Rattle.frames.specs.Sizes.{sizeAnswer}
 use Rattle.frames.specs.Discovery.{discoverAnswer}
 use Rattle.frames.specs.declared.Response.the-variants.{Discover}
-use Rattle.files.proofs.Reading.{size-within, phy-unit-cut, phy-unit-by}
+use Rattle.files.proofs.UnitReading.{size-within, phy-unit-cut, phy-unit-by}
 use borrow.Author.Needs.{needs}
 use Rattle.files.proofs.units.phy_unit.Statement.{statement}
 use Rattle.files.proofs.units.phy_unit.Tie as tie

@@ -3,7 +3,7 @@ use mathlib.Core.Path.{sym, _∙_, ap}
 use native.Mathlib.Omega.{arith}
 use borrow.Author.Tests.{not-true, not-false}
 use Rattle.frames.specs.Sizes.{frameSize, sizeAnswer}
-use Rattle.files.proofs.Reading.{rest-whole, size-cut, size-refused, size-by}
+use Rattle.files.proofs.UnitReading.{rest-whole, size-cut, size-refused, size-by}
 use borrow.Author.Needs.{needs}
 use Rattle.files.proofs.units.size_at.Statement.{statement}
 use Rattle.files.proofs.units.size_at.Tie as tie

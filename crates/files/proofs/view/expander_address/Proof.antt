@@ -2,7 +2,7 @@
 use mathlib.Core.Path.{sym, _∙_, ap}
 use native.Mathlib.Omega.{arith}
 use borrow.Author.Needs.{needs}
-use Rattle.files.proofs.InRows.{no-expander, address-in}
+use Rattle.files.proofs.RowsAsDomain.{no-expander, address-in}
 use Rattle.files.specs.Domain.{Expander}
 use Rattle.files.proofs.view.expander_address.Statement.{statement}
 use Rattle.files.proofs.view.expander_address.Tie as tie

@@ -1,7 +1,7 @@
 -- expander_count meets its contract: whole rows, and at most 64 of them.
 use native.Mathlib.Omega.{arith}
 use borrow.Author.Needs.{needs}
-use Rattle.files.proofs.InRows.{count-of}
+use Rattle.files.proofs.RowsAsDomain.{count-of}
 use Rattle.files.proofs.view.expander_count.Statement.{statement}
 use Rattle.files.proofs.view.expander_count.Tie as tie
 

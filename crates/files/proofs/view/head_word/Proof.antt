@@ -1,7 +1,7 @@
 -- head_word meets its contract: the second word of the row, where there is such a row.
 use native.Mathlib.Omega.{arith}
 use borrow.Author.Needs.{needs}
-use Rattle.files.proofs.InRows.{head-in, no-head}
+use Rattle.files.proofs.RowsAsDomain.{head-in, no-head}
 use Rattle.files.proofs.view.head_word.Statement.{statement}
 use Rattle.files.proofs.view.head_word.Tie as tie
 

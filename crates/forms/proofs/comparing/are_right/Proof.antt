@@ -3,9 +3,9 @@ use Prim.Native.Nat.{_-_, _*_, _≤_}
 use mathlib.Core.Path.{_≡_, refl, sym, _∙_}
 use lib.ListN.{drop}
 use Rattle.files.specs.Rows.{domainIn}
-use Rattle.forms.specs.Opened.{rightExpanders}
+use Rattle.forms.specs.FormRows.{rightExpanders}
 use borrow.Author.Tests.{not-true, not-false}
-use Rattle.forms.proofs.Compared.{heads-address, heads-field, heads-phys, heads-go, heads-end, head-of}
+use Rattle.forms.proofs.WordsCompared.{heads-address, heads-field, heads-phys, heads-go, heads-end, head-of}
 use borrow.Author.Needs.{needs}
 use native.Mathlib.Omega.{arith}
 use Rattle.forms.proofs.comparing.are_right.Statement.{statement}
@@ -46,8 +46,8 @@ add-word-at c =
 word-at-requires-2 : tie.Need-word-at-requires-2 Inv-loop μ-loop
 word-at-requires-2 c κs = search needs
 
-index-count-requires : tie.Need-index-count-requires Inv-loop μ-loop
-index-count-requires c κs = search needs
+route-indexes-requires : tie.Need-route-indexes-requires Inv-loop μ-loop
+route-indexes-requires c κs = search needs
 
 head-field-requires : tie.Need-head-field-requires Inv-loop μ-loop
 head-field-requires c κs = search needs
@@ -59,7 +59,7 @@ returns-2 c =
     let at-expander-count = c .before .before .before .before .before .before .before .before .before .before .expander-count in
     let at-word-at = c .before .before .before .before .before .before .word-at in
     let at-phy-count = c .before .before .before .before .before .before .before .phy-count in
-    heads-field (domainIn (at-args .rows .now)) (domainIn (at-args .rows .now)) (at-loop .i) (at-loop .at) (at-args .ws .now) (at-loop .inv .1 .1) (omega (arith, at-expander-count .ensures .0)) _ (at-word-at .ensures) _ ((c .before .before .before .before .before .expander-address) .ensures) ((c .before .before .before .before .if1) .left) _ ((c .before .before .before .word-at2) .ensures) _ (head-of (domainIn (at-args .rows .now)) (at-loop .i) _ _ _ ((c .before .head-field) .ensures) ((c .before .before .index-count) .ensures) (at-phy-count .ensures .0)) ((c .if2) .taken)
+    heads-field (domainIn (at-args .rows .now)) (domainIn (at-args .rows .now)) (at-loop .i) (at-loop .at) (at-args .ws .now) (at-loop .inv .1 .1) (omega (arith, at-expander-count .ensures .0)) _ (at-word-at .ensures) _ ((c .before .before .before .before .before .expander-address) .ensures) ((c .before .before .before .before .if1) .left) _ ((c .before .before .before .word-at2) .ensures) _ (head-of (domainIn (at-args .rows .now)) (at-loop .i) _ _ _ ((c .before .head-field) .ensures) ((c .before .before .route-indexes) .ensures) (at-phy-count .ensures .0)) ((c .if2) .taken)
 
 add-are-right-phys : tie.Need-add-are-right-phys Inv-loop μ-loop
 add-are-right-phys c =
@@ -80,7 +80,7 @@ returns-3 c =
     let at-expander-address = c .before .before .before .before .before .before .before .expander-address in
     let at-if1 = c .before .before .before .before .before .before .if1 in
     let at-phy-count = c .before .before .before .before .before .before .before .before .before .phy-count in
-    heads-phys (domainIn (at-args .rows .now)) (domainIn (at-args .rows .now)) (at-loop .i) (at-loop .at) (at-args .ws .now) (at-loop .inv .1 .1) (omega (arith, at-expander-count .ensures .0)) _ (at-word-at .ensures) _ (at-expander-address .ensures) (at-if1 .left) _ ((c .before .before .before .before .before .word-at2) .ensures) _ (head-of (domainIn (at-args .rows .now)) (at-loop .i) _ _ _ ((c .before .before .before .head-field) .ensures) ((c .before .before .before .before .index-count) .ensures) (at-phy-count .ensures .0)) ((c .before .before .if2) .left) (sym ((c .before .are-right-phys) .ensures) ∙ not-true _ ((c .if3) .taken))
+    heads-phys (domainIn (at-args .rows .now)) (domainIn (at-args .rows .now)) (at-loop .i) (at-loop .at) (at-args .ws .now) (at-loop .inv .1 .1) (omega (arith, at-expander-count .ensures .0)) _ (at-word-at .ensures) _ (at-expander-address .ensures) (at-if1 .left) _ ((c .before .before .before .before .before .word-at2) .ensures) _ (head-of (domainIn (at-args .rows .now)) (at-loop .i) _ _ _ ((c .before .before .before .head-field) .ensures) ((c .before .before .before .before .route-indexes) .ensures) (at-phy-count .ensures .0)) ((c .before .before .if2) .left) (sym ((c .before .are-right-phys) .ensures) ∙ not-true _ ((c .if3) .taken))
 
 cast-at : tie.Need-cast-at Inv-loop μ-loop
 cast-at c = omega arith
@@ -116,10 +116,10 @@ loop-again c =
     let at-word-at = c .before .before .before .before .before .before .before .before .word-at in
     let at-expander-address = c .before .before .before .before .before .before .before .expander-address in
     let at-if1 = c .before .before .before .before .before .before .if1 in
-    (omega arith, (omega (arith, at-phy-count .ensures .1), heads-go (domainIn (at-args .rows .now)) (domainIn (at-args .rows .now)) (at-loop .i) (at-loop .at) (at-args .ws .now) (at-loop .inv .1 .1) (omega (arith, at-expander-count .ensures .0)) _ (at-word-at .ensures) _ (at-expander-address .ensures) (at-if1 .left) _ ((c .before .before .before .before .before .word-at2) .ensures) _ (head-of (domainIn (at-args .rows .now)) (at-loop .i) _ _ _ ((c .before .before .before .head-field) .ensures) ((c .before .before .before .before .index-count) .ensures) (at-phy-count .ensures .0)) ((c .before .before .if2) .left) _ _ (sym ((c .before .are-right-phys) .ensures) ∙ not-false _ ((c .if3) .left)) (at-phy-count .ensures .0) refl))
+    (omega arith, (omega (arith, at-phy-count .ensures .1), heads-go (domainIn (at-args .rows .now)) (domainIn (at-args .rows .now)) (at-loop .i) (at-loop .at) (at-args .ws .now) (at-loop .inv .1 .1) (omega (arith, at-expander-count .ensures .0)) _ (at-word-at .ensures) _ (at-expander-address .ensures) (at-if1 .left) _ ((c .before .before .before .before .before .word-at2) .ensures) _ (head-of (domainIn (at-args .rows .now)) (at-loop .i) _ _ _ ((c .before .before .before .head-field) .ensures) ((c .before .before .before .before .route-indexes) .ensures) (at-phy-count .ensures .0)) ((c .before .before .if2) .left) _ _ (sym ((c .before .are-right-phys) .ensures) ∙ not-false _ ((c .if3) .left)) (at-phy-count .ensures .0) refl))
 
 returns-4 : tie.Need-returns-4 Inv-loop μ-loop
 returns-4 c = heads-end (domainIn ((c .before .before .before .before .before .args) .rows .now)) (domainIn ((c .before .before .before .before .before .args) .rows .now)) ((c .before .loop) .i) ((c .before .loop) .at) ((c .before .before .before .before .before .args) .ws .now) ((c .before .loop) .inv .1 .1) (omega (arith, (c .before .before .expander-count) .ensures .0))
 
 pub are-right-spec : {M : Type 1} → statement M
-are-right-spec = tie.close (tie.spec Inv-loop μ-loop expander-count-requires loop-holds phy-count-requires word-at-requires expander-address-requires returns add-word-at word-at-requires-2 index-count-requires head-field-requires returns-2 add-are-right-phys are-right-phys-requires returns-3 cast-at mul-at add-at add-at-2 add-i loop-less loop-again returns-4)
+are-right-spec = tie.close (tie.spec Inv-loop μ-loop expander-count-requires loop-holds phy-count-requires word-at-requires expander-address-requires returns add-word-at word-at-requires-2 route-indexes-requires head-field-requires returns-2 add-are-right-phys are-right-phys-requires returns-3 cast-at mul-at add-at add-at-2 add-i loop-less loop-again returns-4)

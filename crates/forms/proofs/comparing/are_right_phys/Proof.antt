@@ -4,9 +4,9 @@ use mathlib.Core.Path.{_≡_, refl, sym, _∙_, ap, subst}
 use lib.ListN.{drop}
 use Rattle.files.specs.Domain.{expanderAt, addressOf}
 use Rattle.files.specs.Rows.{domainIn}
-use Rattle.forms.specs.Opened.{SmallPhy, rightPhys}
+use Rattle.forms.specs.FormRows.{SmallPhy, rightPhys}
 use borrow.Author.Tests.{not-true, not-false}
-use Rattle.forms.proofs.Compared.{rows-small, rights, phys-address, phys-field, phys-go, phys-end}
+use Rattle.forms.proofs.WordsCompared.{rows-small, rights, phys-address, phys-field, phys-go, phys-end}
 use borrow.Author.Needs.{needs}
 use native.Mathlib.Omega.{arith}
 use Rattle.forms.proofs.comparing.are_right_phys.Statement.{statement}

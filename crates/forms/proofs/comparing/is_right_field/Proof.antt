@@ -3,7 +3,7 @@ use Prim.Native.Nat.{_-_}
 use mathlib.Core.Path.{sym, _∙_, ap, subst}
 use Rattle.files.specs.declared.Phy.{Phy}
 use Rattle.files.specs.Rows.{domainIn}
-use Rattle.forms.specs.Opened.{SmallPhy, rightField}
+use Rattle.forms.specs.FormRows.{SmallPhy, rightField}
 use borrow.Author.Needs.{needs}
 use Rattle.forms.proofs.comparing.is_right_field.Statement.{statement}
 use Rattle.forms.proofs.comparing.is_right_field.Tie as tie

@@ -2,7 +2,7 @@
 use Prim.Native.Nat.{_-_}
 use mathlib.Core.Path.{refl, sym, _∙_}
 use Rattle.files.specs.Rows.{domainIn}
-use Rattle.forms.proofs.Compared.{right-low, right-far, wrong-far}
+use Rattle.forms.proofs.WordsCompared.{right-low, right-far, wrong-far}
 use borrow.Author.Needs.{needs}
 use native.Mathlib.Omega.{arith}
 use Rattle.forms.proofs.comparing.is_right_present.Statement.{statement}

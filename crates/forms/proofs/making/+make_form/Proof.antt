@@ -7,8 +7,8 @@ use borrow.Author.Needs.{needs}
 use Prim.Native.Nat.{ℕ, _<_}
 use borrow.Fn.Kinds.{In}
 use borrow.Fn.PlainCycle.{Measures, is, falls, and}
-use Rattle.forms.specs.Formed.{formCall}
-use Rattle.tables.proofs.Wiring.{header-cut, stated-count-asked, stated-count-learnt}
+use Rattle.forms.specs.FormCalls.{formCall}
+use Rattle.tables.proofs.WiringLemmas.{header-cut, stated-count-asked, stated-count-learnt}
 use Rattle.forms.proofs.making.make_form.Reads as make-form
 use Rattle.forms.proofs.making.make_form.Kinds as make-form-kinds
 use Rattle.forms.proofs.making.+make_form.Lts-make_form as make-form-lts

@@ -1,8 +1,8 @@
 -- make_many meets its contract: no domain that is read has more than 64 expanders, so the room is enough.
 use Prim.Native.Nat.{ℕ, _-_}
 use lib.ListN.{length-replicate}
-use Rattle.files.proofs.Read.{read-good}
-use Rattle.wiring.proofs.Opening.{file-room}
+use Rattle.files.proofs.ReadDomain.{read-good}
+use Rattle.wiring.proofs.FileRows.{file-room}
 use borrow.Author.Needs.{needs}
 use native.Mathlib.Omega.{arith}
 use Rattle.forms.proofs.making.make_many.Statement.{statement}

@@ -3,8 +3,8 @@ use Prim.Native.Nat.{_-_}
 use mathlib.Core.Path.{sym, _∙_, ap}
 use Rattle.files.specs.Rows.{domainIn}
 use Rattle.wiring.specs.Checks.{checkAnswer}
-use Rattle.tables.proofs.Judging.{judged-room}
-use Rattle.forms.proofs.Promised.{rows-refused, rows-short, rows-made}
+use Rattle.tables.proofs.CallOutcomes.{judged-room}
+use Rattle.forms.proofs.FormCallOutcomes.{rows-refused, rows-short, rows-made}
 use borrow.Author.Needs.{needs}
 use native.Mathlib.Omega.{arith}
 use Rattle.forms.proofs.making.make_rows.Statement.{statement}

@@ -3,7 +3,7 @@ use Prim.Native.Nat.{ℕ, _+_, _-_, _*_, _≤_}
 use mathlib.Core.Path.{_≡_, ap}
 use lib.ListN.{length, drop}
 use Rattle.forms.specs.Form.{expandersBack, formIn}
-use Rattle.forms.proofs.Held.{count-start, count-go, count-none, count-full}
+use Rattle.forms.proofs.FormRows.{count-start, count-go, count-none, count-full}
 use native.Mathlib.Omega.{arith}
 use Rattle.forms.proofs.reading.count_expanders.Statement.{statement}
 use Rattle.forms.proofs.reading.count_expanders.Tie as tie

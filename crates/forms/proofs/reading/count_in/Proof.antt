@@ -1,5 +1,5 @@
 -- count_in meets its contract by the two cases of the smaller number.
-use Rattle.forms.proofs.Held.{count-small, count-large}
+use Rattle.forms.proofs.FormRows.{count-small, count-large}
 use borrow.Author.Needs.{needs}
 use native.Mathlib.Omega.{arith}
 use Rattle.forms.proofs.reading.count_in.Statement.{statement}

@@ -5,7 +5,7 @@ use lib.ListN.{length, drop, length-set}
 use lib.Seq.{sets}
 use Rattle.files.specs.Rows.{phyWords}
 use Rattle.forms.specs.Form.{physBack}
-use Rattle.forms.proofs.Held.{put-start, put-go, put-end}
+use Rattle.forms.proofs.FormRows.{put-start, put-go, put-end}
 use borrow.Author.Needs.{needs}
 use native.Mathlib.Omega.{arith}
 use Rattle.forms.proofs.reading.put_phys.Statement.{statement}

@@ -2,7 +2,7 @@
 use Prim.Native.Nat.{ℕ, _+_, _-_, _*_, _/_, _%_}
 use mathlib.Core.Path.{refl, _∙_, ap}
 use lib.ListN.{length-set}
-use Rattle.forms.proofs.Held.{row-held}
+use Rattle.forms.proofs.FormRows.{row-held}
 use borrow.Author.Needs.{needs}
 use native.Mathlib.Omega.{arith}
 use Rattle.forms.proofs.reading.put_row.Statement.{statement}

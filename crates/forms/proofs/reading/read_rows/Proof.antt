@@ -4,7 +4,7 @@ use mathlib.Core.Path.{_≡_, refl, _∙_, subst}
 use lib.ListN.{length, take, length-take, length-drop}
 use borrow.Rule.Slice.PartMut.{same-len-mid}
 use Rattle.forms.specs.Form.{formIn}
-use Rattle.forms.proofs.Held.{Filled, form-few, filled-start, filled-go, filled-end}
+use Rattle.forms.proofs.FormRows.{Filled, form-few, filled-start, filled-go, filled-end}
 use Rattle.files.specs.Rows.{domainIn}
 use borrow.Author.Needs.{needs}
 use native.Mathlib.Omega.{arith}

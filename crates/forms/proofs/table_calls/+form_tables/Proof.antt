@@ -7,7 +7,7 @@ use borrow.Author.Needs.{needs}
 use Prim.Native.Nat.{ℕ, _<_}
 use borrow.Fn.Kinds.{In}
 use borrow.Fn.PlainCycle.{Measures, is, falls, and}
-use Rattle.forms.proofs.Excess.{tables-cut}
+use Rattle.forms.proofs.TooManyWords.{tables-cut}
 use Rattle.forms.proofs.reading.count_expanders.Reads as count-expanders-reads
 use Rattle.forms.proofs.table_calls.form_tables.Reads as form-tables
 use Rattle.forms.proofs.table_calls.form_tables.Kinds as form-tables-kinds

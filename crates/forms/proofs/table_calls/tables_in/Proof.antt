@@ -3,8 +3,8 @@ use Prim.Native.Nat.{_-_}
 use mathlib.Core.Path.{sym, _∙_}
 use lib.Seq.{length-take-le}
 use borrow.Author.Tests.{not-true, not-false}
-use Rattle.forms.proofs.Held.{form-few}
-use Rattle.forms.proofs.Promised.{read-outside, read-closed, tables-formed, tables-refused}
+use Rattle.forms.proofs.FormRows.{form-few}
+use Rattle.forms.proofs.FormCallOutcomes.{read-outside, read-closed, tables-formed, tables-refused}
 use borrow.Author.Needs.{needs}
 use native.Mathlib.Omega.{arith}
 use Rattle.forms.proofs.table_calls.tables_in.Statement.{statement}

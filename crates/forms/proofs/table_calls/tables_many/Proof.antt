@@ -1,7 +1,7 @@
 -- tables_many meets its contract: the room is enough for 64 expanders.
 use Prim.Native.Nat.{ℕ, _-_}
 use lib.ListN.{length-replicate}
-use Rattle.forms.proofs.Promised.{form-room}
+use Rattle.forms.proofs.FormCallOutcomes.{form-room}
 use borrow.Author.Needs.{needs}
 use native.Mathlib.Omega.{arith}
 use Rattle.forms.proofs.table_calls.tables_many.Statement.{statement}

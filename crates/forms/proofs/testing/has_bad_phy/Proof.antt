@@ -6,8 +6,8 @@ use Rattle.files.specs.declared.Phy.the-variants.{Vacant}
 use Rattle.files.specs.Lists.{any}
 use Rattle.files.specs.Domain.{expanderAt}
 use Rattle.files.specs.Rows.{domainIn}
-use Rattle.forms.specs.Formed.{badPhy}
-use Rattle.wiring.proofs.Searches.{any-stop, any-go, any-end}
+use Rattle.forms.specs.FormCalls.{badPhy}
+use Rattle.wiring.proofs.PlaceSearches.{any-stop, any-go, any-end}
 use borrow.Author.Needs.{needs}
 use native.Mathlib.Omega.{arith}
 use Rattle.forms.proofs.testing.has_bad_phy.Statement.{statement}

@@ -2,7 +2,7 @@
 use Prim.Native.Nat.{_-_}
 use mathlib.Core.Path.{sym, _∙_, ap}
 use mathlib.Core.Bool.{not}
-use Rattle.forms.specs.Formed.{badPhy}
+use Rattle.forms.specs.FormCalls.{badPhy}
 use borrow.Author.Needs.{needs}
 use Rattle.forms.proofs.testing.is_bad_phy.Statement.{statement}
 use Rattle.forms.proofs.testing.is_bad_phy.Tie as tie

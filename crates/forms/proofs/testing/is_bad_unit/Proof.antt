@@ -5,7 +5,7 @@ use borrow.Author.Tests.{eq-eqb, ne-eqb, not-true, not-false}
 use Rattle.files.specs.Domain.{expanderAt, numberOf}
 use Rattle.files.specs.Settings.{within}
 use Rattle.files.specs.Rows.{domainIn}
-use Rattle.forms.proofs.Tested.{unit-by}
+use Rattle.forms.proofs.BadPlaces.{unit-by}
 use borrow.Author.Needs.{needs}
 use Rattle.forms.proofs.testing.is_bad_unit.Statement.{statement}
 use Rattle.forms.proofs.testing.is_bad_unit.Tie as tie

@@ -6,8 +6,8 @@ use borrow.Author.Tests.{not-true, not-false}
 use Rattle.files.specs.Lists.{any, numbers}
 use Rattle.files.specs.Settings.{within}
 use Rattle.files.specs.Rows.{domainIn}
-use Rattle.forms.specs.Formed.{badUnit}
-use Rattle.forms.proofs.Tested.{numbers-stop, numbers-go, numbers-end, unread-none, unread-some}
+use Rattle.forms.specs.FormCalls.{badUnit}
+use Rattle.forms.proofs.BadPlaces.{numbers-stop, numbers-go, numbers-end, unread-none, unread-some}
 use borrow.Author.Needs.{needs}
 use native.Mathlib.Omega.{arith}
 use Rattle.forms.proofs.testing.is_unread.Statement.{statement}

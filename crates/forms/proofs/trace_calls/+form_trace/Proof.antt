@@ -7,7 +7,7 @@ use borrow.Author.Needs.{needs}
 use Prim.Native.Nat.{ℕ, _<_}
 use borrow.Fn.Kinds.{In}
 use borrow.Fn.PlainCycle.{Measures, is, falls, and}
-use Rattle.forms.proofs.Excess.{trace-cut}
+use Rattle.forms.proofs.TooManyWords.{trace-cut}
 use Rattle.forms.proofs.reading.count_expanders.Reads as count-expanders-reads
 use Rattle.forms.proofs.trace_calls.form_trace.Reads as form-trace
 use Rattle.forms.proofs.trace_calls.form_trace.Kinds as form-trace-kinds

@@ -4,7 +4,7 @@ use mathlib.Core.Path.{_≡_, ap}
 use lib.ListN.{length, drop}
 use Rattle.files.specs.Rows.{domainIn}
 use Rattle.forms.specs.Form.{formExpanders, formOf}
-use Rattle.forms.proofs.Written.{size-next, size-none, form-start}
+use Rattle.forms.proofs.FormWords.{size-next, size-none, form-start}
 use borrow.Author.Needs.{needs}
 use native.Mathlib.Omega.{arith}
 use Rattle.forms.proofs.writing.form_size.Statement.{statement}

@@ -5,8 +5,8 @@ use lib.ListN.{length, drop, length-set}
 use lib.Seq.{sets}
 use Rattle.files.specs.Rows.{domainIn}
 use Rattle.forms.specs.Form.{formExpanders, formOf}
-use Rattle.forms.proofs.Written.{size-next, expanders-go, expanders-end, form-start, form-put}
-use Rattle.forms.proofs.Compared.{head-of}
+use Rattle.forms.proofs.FormWords.{size-next, expanders-go, expanders-end, form-start, form-put}
+use Rattle.forms.proofs.WordsCompared.{head-of}
 use borrow.Author.Needs.{needs}
 use native.Mathlib.Omega.{arith}
 use Rattle.forms.proofs.writing.put_form.Statement.{statement}
@@ -39,8 +39,8 @@ slice-write-words c =
     let at-args = c .before .before .before .before .before .before .before .args in
     omega (arith, at-pre .1, (c .before .before .before .expander-count) .ensures .0, size-next (domainIn (at-args .rows .now)) (domainIn (at-args .rows .now)) ((c .before .before .loop) .i) (omega (arith, (c .before .before .before .expander-count) .ensures .0)))
 
-index-count-requires : tie.Need-index-count-requires Inv-loop μ-loop
-index-count-requires c κs = search needs
+route-indexes-requires : tie.Need-route-indexes-requires Inv-loop μ-loop
+route-indexes-requires c κs = search needs
 
 phy-count-requires : tie.Need-phy-count-requires Inv-loop μ-loop
 phy-count-requires c κs = search needs
@@ -96,8 +96,8 @@ loop-again c =
     let at-args = c .before .before .before .before .before .before .before .before .before .before .before .before .before .before .args in
     let at-expander-count = c .before .before .before .before .before .before .before .before .before .before .expander-count in
     let at-expander-address = c .before .before .before .before .before .before .before .expander-address in
-    let at-index-count = c .before .before .before .before .before .before .index-count in
-    let l = (c .before .before .before .before .before .before .before .before .before .loop) in let u = (c .before .before .put-phys) .ensures in (omega arith, ((c .before .before .put-phys) .kept .1 .1 .1 .0 ∙ simp length-set (l .inv .1 .0), (omega (arith, u .1, size-next (domainIn (at-args .rows .now)) (domainIn (at-args .rows .now)) (l .i) (omega (arith, at-expander-count .ensures .0))), expanders-go (domainIn (at-args .rows .now)) (domainIn (at-args .rows .now)) (l .i) (l .words) _ (l .to) _ _ _ (omega (arith, at-expander-count .ensures .0)) (at-expander-address .ensures) (head-of (domainIn (at-args .rows .now)) (l .i) _ _ _ ((c .before .before .before .before .head-field) .ensures) (at-index-count .ensures) ((c .before .before .before .before .before .phy-count) .ensures .0)) (u .0) (u .1) ∙ l .inv .1 .1 .1)))
+    let at-route-indexes = c .before .before .before .before .before .before .route-indexes in
+    let l = (c .before .before .before .before .before .before .before .before .before .loop) in let u = (c .before .before .put-phys) .ensures in (omega arith, ((c .before .before .put-phys) .kept .1 .1 .1 .0 ∙ simp length-set (l .inv .1 .0), (omega (arith, u .1, size-next (domainIn (at-args .rows .now)) (domainIn (at-args .rows .now)) (l .i) (omega (arith, at-expander-count .ensures .0))), expanders-go (domainIn (at-args .rows .now)) (domainIn (at-args .rows .now)) (l .i) (l .words) _ (l .to) _ _ _ (omega (arith, at-expander-count .ensures .0)) (at-expander-address .ensures) (head-of (domainIn (at-args .rows .now)) (l .i) _ _ _ ((c .before .before .before .before .head-field) .ensures) (at-route-indexes .ensures) ((c .before .before .before .before .before .phy-count) .ensures .0)) (u .0) (u .1) ∙ l .inv .1 .1 .1)))
 
 same-length : tie.Need-same-length Inv-loop μ-loop
 same-length c = search needs
@@ -109,4 +109,4 @@ returns c =
     let l = (c .before .loop) in form-put (domainIn (at-args .rows .now)) (at-args .words .now) _ (at-pre .1) (expanders-end (domainIn (at-args .rows .now)) (domainIn (at-args .rows .now)) (l .i) (l .words) (l .to) (omega (arith, (c .before .before .expander-count) .ensures .0)) ∙ l .inv .1 .1 .1)
 
 pub put-form-spec : {M : Type 1} → statement M
-put-form-spec = tie.close (tie.spec Inv-loop μ-loop expander-count-requires loop-holds expander-address-requires mul-words slice-write-words index-count-requires phy-count-requires head-field-requires add-words mul-words-2 slice-write-words-2 add-put-phys put-phys-requires add-i loop-less loop-again same-length returns)
+put-form-spec = tie.close (tie.spec Inv-loop μ-loop expander-count-requires loop-holds expander-address-requires mul-words slice-write-words route-indexes-requires phy-count-requires head-field-requires add-words mul-words-2 slice-write-words-2 add-put-phys put-phys-requires add-i loop-less loop-again same-length returns)

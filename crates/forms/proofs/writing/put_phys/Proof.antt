@@ -6,7 +6,7 @@ use lib.Seq.{sets}
 use Rattle.files.specs.Domain.{expanderAt, addressOf}
 use Rattle.files.specs.Rows.{domainIn}
 use Rattle.forms.specs.Form.{formPhys}
-use Rattle.forms.proofs.Written.{phys-go, phys-end}
+use Rattle.forms.proofs.FormWords.{phys-go, phys-end}
 use borrow.Author.Needs.{needs}
 use native.Mathlib.Omega.{arith}
 use Rattle.forms.proofs.writing.put_phys.Statement.{statement}

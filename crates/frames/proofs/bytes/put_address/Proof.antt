@@ -3,7 +3,7 @@ use mathlib.Core.Path.{sym, _∙_}
 use native.Mathlib.Omega.{arith}
 use borrow.Author.Needs.{needs}
 use Rattle.frames.specs.Bytes.{bytesOf}
-use Rattle.frames.proofs.Numbers.{length-bytesOf, front-room, front-short}
+use Rattle.frames.proofs.ByteNumbers.{length-bytesOf, front-room, front-short}
 use Rattle.frames.proofs.bytes.put_address.Statement.{statement}
 use Rattle.frames.proofs.bytes.put_address.Tie as tie
 

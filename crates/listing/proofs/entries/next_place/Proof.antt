@@ -6,8 +6,8 @@ use borrow.Author.Needs.{needs}
 use borrow.Author.Tests.{lt-ltb, le-ltb}
 use native.Mathlib.Omega.{arith}
 use lib.ListN.{length}
-use Rattle.tables.specs.Wiring.{expanderAt, domainIn}
-use Rattle.tables.proofs.Wiring.{domain-few}
+use Rattle.tables.specs.WiringDefinitions.{expanderAt, domainIn}
+use Rattle.tables.proofs.WiringLemmas.{domain-few}
 use Rattle.listing.specs.Lines.{cursor}
 use Rattle.listing.proofs.entries.next_place.Statement.{statement}
 use Rattle.listing.proofs.entries.next_place.Tie as tie

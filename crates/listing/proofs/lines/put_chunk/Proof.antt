@@ -6,12 +6,12 @@ use borrow.Author.Needs.{needs}
 use native.Mathlib.Omega.{arith}
 use mathlib.Core.List.{List}
 use lib.ListN.{length, getD}
-use Rattle.tables.specs.Wiring.{Domain, domainIn}
+use Rattle.tables.specs.WiringDefinitions.{Domain, domainIn}
 use Rattle.listing.specs.declared.Cursor.{Cursor}
 use Rattle.listing.specs.Lines.{Entry, entry, entriesOn, entriesFrom, cursor, cursorAt}
 use Rattle.listing.proofs.Cursors.{left, index-less, moved, entry-here, entries-past}
 use Rattle.listing.proofs.Chunks.{Putting, putting-start, putting-line, putting-end, putting-same, fit-full, lines-end, entries-end}
-use Rattle.listing.proofs.Numbers.{line-short}
+use Rattle.listing.proofs.Digits.{line-short}
 use Rattle.listing.proofs.lines.put_chunk.Statement.{statement}
 use Rattle.listing.proofs.lines.put_chunk.Tie as tie
 

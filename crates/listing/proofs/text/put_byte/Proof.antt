@@ -1,5 +1,5 @@
 -- put_byte meets its contract: one store.
-use Rattle.listing.proofs.Puts.{put-one}
+use Rattle.listing.proofs.BytesPut.{put-one}
 use borrow.Author.Needs.{needs}
 use Rattle.listing.proofs.text.put_byte.Statement.{statement}
 use Rattle.listing.proofs.text.put_byte.Tie as tie

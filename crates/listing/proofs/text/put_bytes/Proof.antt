@@ -3,7 +3,7 @@ use Prim.Native.Nat.{ℕ, _+_, _-_, _≤_}
 use mathlib.Core.List.{List, [], _∷_}
 use native.Mathlib.Omega.{arith}
 use lib.ListN.{length, getD, drop, drop-of-length-le}
-use Rattle.listing.proofs.Puts.{Going, go-start, go-fits, go-turn, go-end}
+use Rattle.listing.proofs.BytesPut.{Going, go-start, go-fits, go-turn, go-end}
 use Rattle.listing.proofs.text.put_bytes.Statement.{statement}
 use Rattle.listing.proofs.text.put_bytes.Tie as tie
 use Rattle.files.proofs.OneMore.{drop-next}

@@ -1,7 +1,7 @@
 -- put_entry meets its contract: sixteen digits, and a newline after them.
 use native.Mathlib.Omega.{arith}
-use Rattle.listing.proofs.Puts.{put-then}
-use Rattle.listing.proofs.Numbers.{hex-short}
+use Rattle.listing.proofs.BytesPut.{put-then}
+use Rattle.listing.proofs.Digits.{hex-short}
 use Rattle.listing.specs.Text.{entryOf}
 use borrow.Author.Needs.{needs}
 use Rattle.listing.proofs.text.put_entry.Statement.{statement}

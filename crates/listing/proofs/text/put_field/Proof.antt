@@ -1,7 +1,7 @@
 -- put_field meets its contract: the number's digits, and one byte after them.
 use native.Mathlib.Omega.{arith}
-use Rattle.listing.proofs.Puts.{put-then}
-use Rattle.listing.proofs.Numbers.{decimal-short}
+use Rattle.listing.proofs.BytesPut.{put-then}
+use Rattle.listing.proofs.Digits.{decimal-short}
 use Rattle.listing.specs.Text.{fieldOf}
 use borrow.Author.Needs.{needs}
 use Rattle.listing.proofs.text.put_field.Statement.{statement}

@@ -2,8 +2,8 @@
 use Prim.Native.Nat.{_≤_}
 use mathlib.Core.Path.{_∙_}
 use native.Mathlib.Omega.{arith}
-use Rattle.listing.proofs.Puts.{put-as}
-use Rattle.listing.proofs.Numbers.{digits-few, hex-is}
+use Rattle.listing.proofs.BytesPut.{put-as}
+use Rattle.listing.proofs.Digits.{digits-few, hex-is}
 use borrow.Author.Needs.{needs}
 use Rattle.listing.proofs.text.put_hex.Statement.{statement}
 use Rattle.listing.proofs.text.put_hex.Tie as tie

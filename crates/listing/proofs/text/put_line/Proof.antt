@@ -1,7 +1,7 @@
 -- put_line meets its contract: four puts one after the other are one put of the whole line, and its parts are short enough.
 use native.Mathlib.Omega.{arith}
-use Rattle.listing.proofs.Puts.{put-then}
-use Rattle.listing.proofs.Numbers.{field-short}
+use Rattle.listing.proofs.BytesPut.{put-then}
+use Rattle.listing.proofs.Digits.{field-short}
 use Rattle.listing.specs.Text.{lineOf}
 use borrow.Author.Needs.{needs}
 use Rattle.listing.proofs.text.put_line.Statement.{statement}

@@ -1,6 +1,6 @@
 -- too_long meets its contract: the nine bytes are the line.
 use native.Mathlib.Omega.{arith}
-use Rattle.listing.proofs.Puts.{put-within}
+use Rattle.listing.proofs.BytesPut.{put-within}
 use borrow.Author.Needs.{needs}
 use Rattle.listing.proofs.text.too_long.Statement.{statement}
 use Rattle.listing.proofs.text.too_long.Tie as tie

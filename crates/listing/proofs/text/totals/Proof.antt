@@ -1,7 +1,7 @@
 -- totals meets its contract: two words and two fields, one after the other, are the line, which fits into 80 bytes.
 use native.Mathlib.Omega.{arith}
-use Rattle.listing.proofs.Puts.{put-then, put-within}
-use Rattle.listing.proofs.Numbers.{field-short}
+use Rattle.listing.proofs.BytesPut.{put-then, put-within}
+use Rattle.listing.proofs.Digits.{field-short}
 use Rattle.listing.specs.Text.{totalsOf}
 use borrow.Author.Needs.{needs}
 use Rattle.listing.proofs.text.totals.Statement.{statement}

@@ -5,7 +5,7 @@ use native.Mathlib.Omega.{arith}
 use lib.ListN.{getD}
 use borrow.Author.Tests.{eq-eqb, ne-eqb}
 use Rattle.shelves.specs.Shelf.{kindIn, shelfResult, place, disabledAt}
-use Rattle.shelves.proofs.Steps.{exists}
+use Rattle.shelves.proofs.FrameResults.{exists}
 use borrow.Author.Needs.{needs}
 use Rattle.shelves.proofs.entries.disabled_at.Statement.{statement}
 use Rattle.shelves.proofs.entries.disabled_at.Tie as tie
@@ -25,7 +25,7 @@ place-of-requires c κs = search needs
 element-copy-out-if2 : tie.Need-element-copy-out-if2
 element-copy-out-if2 c =
     let a = c .before .before .before .before .args in
-    let x = exists (min 16 (a .t1 .phys)) (min 64 (a .t1 .indexes)) (kindIn (a .t1 .kinds)) (a .phy .0) (a .index .0) (sym (c .before .before .result-of .ensures) ∙ c .before .if1 .left) in
+    let x = exists (min 16 (a .t1 .phys)) (min 64 (a .t1 .routeIndexes)) (kindIn (a .t1 .kinds)) (a .phy .0) (a .index .0) (sym (c .before .before .result-of .ensures) ∙ c .before .if1 .left) in
     let t = x .there in
     let b = x .below in
     omega arith

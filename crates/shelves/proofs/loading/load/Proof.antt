@@ -5,7 +5,7 @@ use native.Mathlib.Omega.{arith}
 use Rattle.shelves.specs.Shelf.{steppedTo, kindIn, loaded}
 use Rattle.shelves.specs.declared.Shelf.{Shelf}
 use Rattle.shelves.specs.declared.Answer.the-variants.{Result as Answered}
-use Rattle.shelves.proofs.Steps.{exists, after-good, after-other}
+use Rattle.shelves.proofs.FrameResults.{exists, after-good, after-other}
 use borrow.Author.Needs.{needs}
 use Rattle.shelves.proofs.loading.load.Statement.{statement}
 use Rattle.shelves.proofs.loading.load.Tie as tie
@@ -25,7 +25,7 @@ returns c =
 replace-requires : tie.Need-replace-requires
 replace-requires c κs =
     let a = c .before .before .before .args in
-    let x = exists (min 16 (a .shelf .phys)) (min 64 (a .shelf .indexes)) (kindIn (a .shelf .kinds)) (a .q .phy .0) (a .q .index .0) (sym (c .before .result-of .ensures) ∙ c .if1 .left) in
+    let x = exists (min 16 (a .shelf .phys)) (min 64 (a .shelf .routeIndexes)) (kindIn (a .shelf .kinds)) (a .q .phy .0) (a .q .index .0) (sym (c .before .result-of .ensures) ∙ c .if1 .left) in
     let t = x .there in
     let b = x .below in
     omega arith

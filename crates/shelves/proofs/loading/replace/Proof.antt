@@ -32,7 +32,7 @@ returns c =
       entries = set (s .entries) at (q .address);
       disabled = set (s .disabled) at bit;
       kinds = s .kinds;
-      indexes = s .indexes;
+      routeIndexes = s .routeIndexes;
       phys = s .phys;
     } in
     ap₂ with (c .before .place-of .ensures) (c .bit-of .ensures)

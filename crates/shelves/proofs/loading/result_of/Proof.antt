@@ -2,7 +2,7 @@
 use Prim.Native.Nat.{min}
 use native.Mathlib.Omega.{arith}
 use borrow.Author.Tests.{le-leb, lt-leb, le-ltb, lt-ltb, eq-eqb, ne-eqb}
-use Rattle.shelves.specs.Table.{resultOf}
+use Rattle.shelves.specs.PlainTable.{resultOf}
 use Rattle.shelves.specs.Shelf.{kindIn}
 use borrow.Author.Needs.{needs}
 use Rattle.shelves.proofs.loading.result_of.Statement.{statement}
@@ -44,13 +44,13 @@ returns-4 : tie.Need-returns-4
 unfolding resultOf
 returns-4 c =
     let a = c .before .before .before .before .before .before .before .before .args in
-    simp (lt-leb (min 16 (a .phys)) (a .phy .0) (omega arith), eq-eqb (kindIn (a .t3) (a .phy .0)) 1 (c .before .if3 .left), ne-eqb (kindIn (a .t3) (a .phy .0)) 0 (c .before .before .if2 .left), le-ltb (a .index .0) (min 64 (a .indexes)) (omega arith))
+    simp (lt-leb (min 16 (a .phys)) (a .phy .0) (omega arith), eq-eqb (kindIn (a .t3) (a .phy .0)) 1 (c .before .if3 .left), ne-eqb (kindIn (a .t3) (a .phy .0)) 0 (c .before .before .if2 .left), le-ltb (a .index .0) (min 64 (a .routeIndexes)) (omega arith))
 
 returns-5 : tie.Need-returns-5
 unfolding resultOf
 returns-5 c =
     let a = c .before .before .before .before .before .before .before .before .args in
-    simp (lt-leb (min 16 (a .phys)) (a .phy .0) (omega arith), eq-eqb (kindIn (a .t3) (a .phy .0)) 1 (c .before .if3 .left), ne-eqb (kindIn (a .t3) (a .phy .0)) 0 (c .before .before .if2 .left), lt-ltb (a .index .0) (min 64 (a .indexes)) (omega arith))
+    simp (lt-leb (min 16 (a .phys)) (a .phy .0) (omega arith), eq-eqb (kindIn (a .t3) (a .phy .0)) 1 (c .before .if3 .left), ne-eqb (kindIn (a .t3) (a .phy .0)) 0 (c .before .before .if2 .left), lt-ltb (a .index .0) (min 64 (a .routeIndexes)) (omega arith))
 
 pub result-of-spec : {M : Type 1} → statement M
 result-of-spec =

@@ -4,7 +4,7 @@ use mathlib.Core.Path.{_≡_, refl, _∙_, ap}
 use mathlib.Core.List.{List, _++_}
 use native.Mathlib.Omega.{arith}
 use lib.ListN.{length, getD, set, take, replicate}
-use Rattle.shelves.proofs.Telling.{padded-next, padded-end}
+use Rattle.shelves.proofs.ToldKinds.{padded-next, padded-end}
 use Rattle.shelves.proofs.making.all_kinds.Statement.{statement}
 use Rattle.shelves.proofs.making.all_kinds.Tie as tie
 

@@ -4,7 +4,7 @@ use mathlib.Core.Path.{_≡_, refl, sym, _∙_}
 use native.Mathlib.Omega.{arith}
 use lib.ListN.{length, drop}
 use Rattle.shelves.specs.Shelf.{areKinds}
-use Rattle.shelves.proofs.Telling.{kinds-wrong, kinds-next, kinds-end}
+use Rattle.shelves.proofs.ToldKinds.{kinds-wrong, kinds-next, kinds-end}
 use Rattle.shelves.proofs.making.are_kinds.Statement.{statement}
 use Rattle.shelves.proofs.making.are_kinds.Tie as tie
 

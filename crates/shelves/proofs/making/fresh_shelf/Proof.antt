@@ -18,7 +18,7 @@ returns c =
       entries = replicate 1024 0;
       disabled = replicate 1024 1;
       kinds = ks;
-      indexes = a .indexes;
+      routeIndexes = a .routeIndexes;
       phys = a .phys;
     } in
     ap of (c .all-kinds .ensures)

@@ -6,7 +6,7 @@ use Rattle.frames.specs.declared.Refusal.{Refusal}
 use Rattle.shelves.specs.Shelf.{steppedTo}
 use Rattle.shelves.specs.declared.Shelf.{Shelf}
 use Rattle.shelves.specs.declared.Answer.the-variants.{Refused, Result as Answered}
-use Rattle.shelves.proofs.Telling.{told-says, made-fresh, made-refused}
+use Rattle.shelves.proofs.ToldKinds.{told-says, made-fresh, made-refused}
 use borrow.Author.Needs.{needs}
 use Rattle.shelves.proofs.making.make.Statement.{statement}
 use Rattle.shelves.proofs.making.make.Tie as tie
@@ -24,12 +24,12 @@ returns : tie.Need-returns
 returns c =
     let a = c .before .before .before .before .before .args in
     let e = sym (c .before .before .before .is-told .ensures) ∙ not-true _ (c .before .before .if1 .taken) in
-    c .stepped-to .ensures ∙ (ap (λ (r : Refusal). steppedTo (a .shelf) (Refused r)) (c .before .refused .ensures) ∙ sym (made-refused (a .shelf) (a .phys) (a .indexes) (a .kinds .now) e))
+    c .stepped-to .ensures ∙ (ap (λ (r : Refusal). steppedTo (a .shelf) (Refused r)) (c .before .refused .ensures) ∙ sym (made-refused (a .shelf) (a .phys) (a .routeIndexes) (a .kinds .now) e))
 
 fresh-shelf-requires : tie.Need-fresh-shelf-requires
 fresh-shelf-requires c κs =
     let a = c .before .before .before .args in
-    let t = told-says (a .phys) (a .indexes) (a .kinds .now) (sym (c .before .is-told .ensures) ∙ not-false _ (c .if1 .left)) in
+    let t = told-says (a .phys) (a .routeIndexes) (a .kinds .now) (sym (c .before .is-told .ensures) ∙ not-false _ (c .if1 .left)) in
     let f = t .few in
     let g = t .each in
     omega arith
@@ -41,7 +41,7 @@ returns-2 : tie.Need-returns-2
 returns-2 c =
     let a = c .before .before .before .before .before .args in
     let e = sym (c .before .before .before .is-told .ensures) ∙ not-false _ (c .before .before .if1 .left) in
-    c .stepped-to2 .ensures ∙ (ap (λ (s : Shelf). steppedTo s (Answered 0x00)) (c .before .fresh-shelf .ensures) ∙ sym (made-fresh (a .shelf) (a .phys) (a .indexes) (a .kinds .now) e))
+    c .stepped-to2 .ensures ∙ (ap (λ (s : Shelf). steppedTo s (Answered 0x00)) (c .before .fresh-shelf .ensures) ∙ sym (made-fresh (a .shelf) (a .phys) (a .routeIndexes) (a .kinds .now) e))
 
 pub make-spec : {M : Type 1} → statement M
 make-spec =

@@ -5,10 +5,10 @@ use native.Mathlib.Omega.{arith}
 use native.Mathlib.Nat.{sub-zero, zero-add}
 use lib.ListN.{length}
 use Rattle.files.specs.Domain.{Domain}
-use Rattle.wiring.specs.Causes.{phyPlaces}
+use Rattle.wiring.specs.PhyCauses.{phyPlaces}
 use Rattle.files.specs.Rows.{domainIn}
-use Rattle.tables.specs.Filling.{withTables}
-use Rattle.tables.proofs.Puts.{byte-le, phys-last, phys-count, count-none, count-by}
+use Rattle.tables.specs.GrowingLists.{withTables}
+use Rattle.tables.proofs.TablesPut.{byte-le, phys-last, phys-count, count-none, count-by}
 use borrow.Author.Needs.{needs}
 use Rattle.tables.proofs.all_tables.count_at.Statement.{statement}
 use Rattle.tables.proofs.all_tables.count_at.Tie as tie

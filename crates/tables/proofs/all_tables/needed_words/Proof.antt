@@ -2,7 +2,7 @@
 use mathlib.Core.Path.{_∙_}
 use native.Mathlib.Omega.{arith}
 use Rattle.files.specs.Rows.{domainIn}
-use Rattle.tables.proofs.Puts.{before-all}
+use Rattle.tables.proofs.TablesPut.{before-all}
 use borrow.Author.Needs.{needs}
 use Rattle.tables.proofs.all_tables.needed_words.Statement.{statement}
 use Rattle.tables.proofs.all_tables.needed_words.Tie as tie

@@ -6,19 +6,19 @@ use native.Mathlib.Omega.{arith}
 use native.Mathlib.Nat.{zero-add}
 use lib.ListN.{length, drop}
 use Rattle.files.specs.Domain.{Domain}
-use Rattle.wiring.specs.Causes.{Place, placesFrom}
+use Rattle.wiring.specs.PhyCauses.{Place, placesFrom}
 use Rattle.files.specs.Rows.{domainIn}
 use Rattle.tables.specs.Tables.{sizes, needed}
-use Rattle.tables.specs.Filling.{placesAt, overlay}
-use Rattle.tables.specs.Prepared.{ownTablesOf, ownTables}
-use Rattle.tables.proofs.Puts.{from-next, from-last, from-sizes, put-go, put-long, put-end, put-all}
+use Rattle.tables.specs.GrowingLists.{placesAt, overlay}
+use Rattle.tables.specs.PreparedLists.{ownTablesOf, ownTables}
+use Rattle.tables.proofs.TablesPut.{from-next, from-last, from-sizes, put-go, put-long, put-end, put-all}
 use borrow.Author.Needs.{needs}
-use Rattle.tables.proofs.Linked.{fars-known}
+use Rattle.tables.proofs.LinkPhys.{attached-known}
 use Rattle.tables.proofs.all_tables.put_all_in.Statement.{statement}
 use Rattle.tables.proofs.all_tables.put_all_in.Tie as tie
 
 abbrev Inv-loop : tie.InvT-loop
-Inv-loop rows first low lists below order₀ words₀ n to₀ i₀ order words to i =
+Inv-loop rows first low lists downstream order₀ words₀ n to₀ i₀ order words to i =
     (i ≤ n)
     × ((length order ≡ length order₀)
     × ((length words ≡ length words₀)
@@ -26,17 +26,17 @@ Inv-loop rows first low lists below order₀ words₀ n to₀ i₀ order words t
     × (overlay words to (ownTablesOf (domainIn rows) (placesFrom i (drop i (domainIn rows)))) ≡ overlay words₀ 0 (ownTables (domainIn rows))))))
 
 abbrev μ-loop : tie.MeasureT-loop
-μ-loop rows first low lists below order₀ words₀ n to₀ i₀ order words to i = n - i
+μ-loop rows first low lists downstream order₀ words₀ n to₀ i₀ order words to i = n - i
 
 put-owns-requires : tie.Need-put-owns-requires Inv-loop μ-loop
 put-owns-requires c κs =
     let at-pre = c .before .before .before .before .before .before .before .before .pre in
     (at-pre .0 .lows, at-pre .1 .0 .lists)
 
-put-below-requires : tie.Need-put-below-requires Inv-loop μ-loop
-put-below-requires c κs =
+put-downstream-requires : tie.Need-put-downstream-requires Inv-loop μ-loop
+put-downstream-requires c κs =
     let at-pre = c .before .before .before .before .before .before .before .before .before .before .before .before .pre in
-    (fars-known _ _ (at-pre .0 .firsts), at-pre .1 .0 .below)
+    (attached-known _ _ (at-pre .0 .firsts), at-pre .1 .0 .downstream)
 
 expander-count-requires : tie.Need-expander-count-requires Inv-loop μ-loop
 expander-count-requires c κs = search needs
@@ -49,10 +49,10 @@ put-tables-requires c κs =
     let at-pre = c .before .before .before .before .before .before .before .before .before .before .before .before .before .before .before .before .before .before .before .before .before .before .pre in
     let at-args = c .before .before .before .before .before .before .before .before .before .before .before .before .before .before .before .before .before .before .before .before .before .before .args in
     let at-put-owns = c .before .before .before .before .before .before .before .before .before .before .before .before .before .put-owns in
-    let at-put-below = c .before .before .before .before .before .before .before .before .before .put-below in
+    let at-put-downstream = c .before .before .before .before .before .before .before .before .before .put-downstream in
     let f = at-pre .1 .1 in
     let s = from-sizes (domainIn (at-args .rows .now)) ((c .before .before .before .before .before .loop) .i) (omega arith) in
-    (fars-known _ _ (at-pre .0 .firsts), (at-put-owns .ensures, (at-put-below .ensures, (omega (arith, at-pre .1 .0 .order, (c .before .before .before .before .before .loop) .inv .1 .0), (f .0, omega arith)))))
+    (attached-known _ _ (at-pre .0 .firsts), (at-put-owns .ensures, (at-put-downstream .ensures, (omega (arith, at-pre .1 .0 .order, (c .before .before .before .before .before .loop) .inv .1 .0), (f .0, omega arith)))))
 
 add-i : tie.Need-add-i Inv-loop μ-loop
 add-i c = omega arith
@@ -95,4 +95,4 @@ returns c =
     put-end d (l .words) (l .to) _ (l .inv .1 .1 .1 .1) (from-last d (l .i) (omega arith)) ∙ put-all d (at-args .words .now)
 
 pub put-all-in-spec : {M : Type 1} → statement M
-put-all-in-spec = tie.close (tie.spec Inv-loop μ-loop put-owns-requires put-below-requires expander-count-requires loop-holds put-tables-requires add-i loop-less loop-again same-length same-length-2 same-length-3 same-length-4 returns)
+put-all-in-spec = tie.close (tie.spec Inv-loop μ-loop put-owns-requires put-downstream-requires expander-count-requires loop-holds put-tables-requires add-i loop-less loop-again same-length same-length-2 same-length-3 same-length-4 returns)

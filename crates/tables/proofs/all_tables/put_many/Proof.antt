@@ -1,7 +1,7 @@
 -- put_many meets its contract: words give at most 64 expanders.
 use Prim.Native.Nat.{ℕ}
 use lib.ListN.{length-replicate}
-use Rattle.files.proofs.InRows.{domain-few}
+use Rattle.files.proofs.RowsAsDomain.{domain-few}
 use borrow.Author.Needs.{needs}
 use native.Mathlib.Omega.{arith}
 use Rattle.tables.proofs.all_tables.put_many.Statement.{statement}
@@ -21,7 +21,7 @@ put-all-in-requires c κs =
     let at-args = c .before .before .before .before .before .before .before .before .args in
     let at-pre = c .before .before .before .before .before .before .before .before .pre in
     let h = domain-few (at-args .rows .now) in
-    (at-pre .0, (record { lists = omega (arith, length-replicate {A = ℕ} 8256 0); below = omega (arith, length-replicate {A = ℕ} 4224 0); order = omega (arith, length-replicate {A = ℕ} 4161 0) }, at-pre .1))
+    (at-pre .0, (record { lists = omega (arith, length-replicate {A = ℕ} 8256 0); downstream = omega (arith, length-replicate {A = ℕ} 4224 0); order = omega (arith, length-replicate {A = ℕ} 4161 0) }, at-pre .1))
 
 same-length : tie.Need-same-length
 same-length c = search needs

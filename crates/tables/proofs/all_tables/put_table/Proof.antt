@@ -6,9 +6,9 @@ use lib.Seq.{length-take-le}
 use borrow.Author.Tests.{not-true, not-false}
 use Rattle.files.specs.Domain.{Domain}
 use Rattle.files.specs.Rows.{domainIn}
-use Rattle.files.proofs.Members.{was-true}
-use Rattle.tables.specs.Prepared.{orderList, filledTo}
-use Rattle.tables.proofs.Puts.{size-by, put-none, put-one}
+use Rattle.files.proofs.ListMembers.{was-true}
+use Rattle.tables.specs.PreparedLists.{ownWordsOfOrder, filledTo}
+use Rattle.tables.proofs.TablesPut.{size-by, put-none, put-one}
 use borrow.Author.Needs.{needs}
 use native.Mathlib.Omega.{arith}
 use Rattle.tables.proofs.all_tables.put_table.Statement.{statement}
@@ -22,8 +22,8 @@ returns c =
     let at-args = c .before .before .before .before .before .before .args in
     put-none (domainIn (at-args .rows .now)) (at-args .i .0) (at-args .p .0) (at-args .words .now) (at-args .at) (sym ((c .before .is-table) .ensures) ∙ not-true _ (c .if1 .taken))
 
-index-count-requires : tie.Need-index-count-requires
-index-count-requires c κs = search needs
+route-indexes-requires : tie.Need-route-indexes-requires
+route-indexes-requires c κs = search needs
 
 cast-e : tie.Need-cast-e
 cast-e c = search needs
@@ -55,7 +55,7 @@ fill-table-requires c κs =
     let a = (c .before .before .before .before .before .before .before .before .args) in
     let t = sym ((c .before .before .before .is-table) .ensures) ∙ not-false _ ((c .before .before .if1) .left) in
     let s = size-by (domainIn (a .rows .now)) (a .i .0) (a .p .0) t in
-    let k : ℕ = a .at + (c .before .index-count) .result - a .at in
+    let k : ℕ = a .at + (c .before .route-indexes) .result - a .at in
     let n = length-take-le k (drop (a .at) (a .words .now)) (simp length-drop (omega arith)) in
     record { held = at-pre .0; ordered = at-pre .1 .0; fits = omega (arith, at-pre .1 .1 .0 (a .i .0) (a .p .0) (was-true _ t)) }
 
@@ -69,10 +69,10 @@ returns-2 c =
     let d : Domain = domainIn (a .rows .now) in
     let t = sym (at-is-table .ensures) ∙ not-false _ ((c .before .before .before .before .before .if1) .left) in
     let s = size-by d (a .i .0) (a .p .0) t in
-    let r : ℕ = (c .before .before .before .before .index-count) .result in
+    let r : ℕ = (c .before .before .before .before .route-indexes) .result in
     let k : ℕ = a .at + r - a .at in
     let z = length-take-le k (drop (a .at) (a .words .now)) (simp length-drop (omega arith)) in
-    put-one d (a .i .0) (a .p .0) (a .words .now) (a .at) k ((c .before .before .fill-table) .ensures ∙ ap (λ (n : ℕ). filledTo n (orderList d (a .i .0) (a .p .0))) z) t (omega arith) (a .at + r) (omega arith) (omega arith)
+    put-one d (a .i .0) (a .p .0) (a .words .now) (a .at) k ((c .before .before .fill-table) .ensures ∙ ap (λ (n : ℕ). filledTo n (ownWordsOfOrder d (a .i .0) (a .p .0))) z) t (omega arith) (a .at + r) (omega arith) (omega arith)
 
 pub put-table-spec : {M : Type 1} → statement M
-put-table-spec = tie.close (tie.spec is-table-requires returns index-count-requires cast-e add-e mul-fill-table sub-fill-table part-fill-table-start part-fill-table-end fill-table-requires same-length returns-2)
+put-table-spec = tie.close (tie.spec is-table-requires returns route-indexes-requires cast-e add-e mul-fill-table sub-fill-table part-fill-table-start part-fill-table-end fill-table-requires same-length returns-2)

@@ -5,24 +5,24 @@ use mathlib.Core.Path.{_≡_, refl, sym, _∙_, ap}
 use native.Mathlib.Omega.{arith}
 use lib.ListN.{length, List·getD-eq-default}
 use lib.Seq.{length-take-le}
-use Rattle.files.proofs.InRows.{phy-held}
+use Rattle.files.proofs.RowsAsDomain.{phy-held}
 use Rattle.files.specs.declared.Phy.the-variants.{Vacant}
 use Rattle.files.specs.Domain.{Domain, expanderAt, phyAt}
-use Rattle.wiring.specs.Causes.{Place, place, phyPlaces}
+use Rattle.wiring.specs.PhyCauses.{Place, place, phyPlaces}
 use Rattle.files.specs.Rows.{domainIn}
-use Rattle.wiring.proofs.EndDevices.{short-in}
+use Rattle.wiring.proofs.SlotDevices.{short-in}
 use Rattle.tables.specs.Tables.{sizes}
-use Rattle.tables.specs.Filling.{Grown, placesAt, overlay}
-use Rattle.tables.specs.Prepared.{orderOf, ownTablesOf}
-use Rattle.tables.proofs.Growing.{grown-kept, grown-again}
-use Rattle.tables.proofs.Orders.{order-none}
-use Rattle.tables.proofs.Puts.{phys-next, phys-last, phys-sizes, sizes-none, length-tables, put-go, put-long, put-end}
+use Rattle.tables.specs.GrowingLists.{Grown, placesAt, overlay}
+use Rattle.tables.specs.PreparedLists.{orderOf, ownTablesOf}
+use Rattle.tables.proofs.GrowingLists.{grown-kept, grown-again}
+use Rattle.tables.proofs.LevelOrders.{order-none}
+use Rattle.tables.proofs.TablesPut.{phys-next, phys-last, phys-sizes, sizes-none, length-tables, put-go, put-long, put-end}
 use borrow.Author.Needs.{needs}
 use Rattle.tables.proofs.all_tables.put_tables.Statement.{statement}
 use Rattle.tables.proofs.all_tables.put_tables.Tie as tie
 
 abbrev Inv-loop : tie.InvT-loop
-Inv-loop rows first lists below order₀ i words₀ at n to₀ q₀ g₀ m₀ p₀ order words to q g m p =
+Inv-loop rows first lists downstream order₀ i words₀ at n to₀ q₀ g₀ m₀ p₀ order words to q g m p =
     (p ≤ n)
     × ((length order ≡ length order₀)
     × (((g ≡ phyAt (domainIn rows) (i .0) (q .0)) × Grown order order m (orderOf (domainIn rows) g))
@@ -32,7 +32,7 @@ Inv-loop rows first lists below order₀ i words₀ at n to₀ q₀ g₀ m₀ p�
     ≡ overlay words₀ at (ownTablesOf (domainIn rows) (placesAt (domainIn rows) (i .0))))))))
 
 abbrev μ-loop : tie.MeasureT-loop
-μ-loop rows first lists below order₀ i words₀ at n to₀ q₀ g₀ m₀ p₀ order words to q g m p = n - p
+μ-loop rows first lists downstream order₀ i words₀ at n to₀ q₀ g₀ m₀ p₀ order words to q g m p = n - p
 
 phy-count-requires : tie.Need-phy-count-requires Inv-loop μ-loop
 phy-count-requires c κs = search needs
@@ -47,13 +47,13 @@ loop-holds c =
     let none : Vacant 0 ≡ phyAt d (a .i .0) 255 = sym (List·getD-eq-default (expanderAt d (a .i .0) .phys) (Vacant 0) (omega (arith, short-in (a .rows .now) (a .i .0)))) in
     (omega arith, (refl, ((none, o), (refl, (s, ap (λ (x : ℕ). overlay (a .words .now) (a .at) (ownTablesOf d (phyPlaces (a .i .0) 0 x))) e)))))
 
-phy-below-requires : tie.Need-phy-below-requires Inv-loop μ-loop
-phy-below-requires c κs = search needs
+phy-in-row-requires : tie.Need-phy-in-row-requires Inv-loop μ-loop
+phy-in-row-requires c κs = search needs
 
 order-for-requires : tie.Need-order-for-requires Inv-loop μ-loop
 order-for-requires c κs =
     let at-pre = c .before .before .before .before .before .before .before .before .before .before .before .pre in
-    ((record { index = at-pre .0; phy = (c .before .phy-below) .ensures ∙ phy-held _ _ _ (omega arith) }, (c .before .before .before .loop) .inv .1 .1 .0 .0), (at-pre .1 .1 .0, (omega (arith, at-pre .1 .1 .1 .0), (c .before .before .before .loop) .inv .1 .1 .0 .1)))
+    ((record { index = at-pre .0; phy = (c .before .phy-in-row) .ensures ∙ phy-held _ _ _ (omega arith) }, (c .before .before .before .loop) .inv .1 .1 .0 .0), (at-pre .1 .1 .0, (omega (arith, at-pre .1 .1 .1 .0), (c .before .before .before .loop) .inv .1 .1 .0 .1)))
 
 slice-reshare-prefix-put-table : tie.Need-slice-reshare-prefix-put-table Inv-loop μ-loop
 slice-reshare-prefix-put-table c = omega (arith, (c .before .before .order-for) .ensures .same, (c .before .before .order-for) .ensures .fits)
@@ -64,11 +64,11 @@ slice-aggregate-put-table c = sym (length-take-le ((c .before .before .before .o
 put-table-requires : tie.Need-put-table-requires Inv-loop μ-loop
 put-table-requires c κs =
     let at-args = c .before .before .before .before .before .before .before .before .before .before .before .before .before .before .before .before .args in
-    let at-phy-below = c .before .before .before .before .before .before .phy-below in
+    let at-phy-in-row = c .before .before .before .before .before .before .phy-in-row in
     let at-pre = c .before .before .before .before .before .before .before .before .before .before .before .before .before .before .before .before .pre in
     let at-phy-count = c .before .before .before .before .before .before .before .before .before .phy-count in
     let at-loop = c .before .before .before .before .before .before .before .before .loop in
-    let q = (c .before .before .before .before .order-for) .ensures .whole ∙ ap (orderOf (domainIn (at-args .rows .now))) (at-phy-below .ensures ∙ phy-held _ _ _ (omega arith)) in
+    let q = (c .before .before .before .before .order-for) .ensures .whole ∙ ap (orderOf (domainIn (at-args .rows .now))) (at-phy-in-row .ensures ∙ phy-held _ _ _ (omega arith)) in
     (at-pre .1 .0, (q, (at-pre .1 .1 .1 .1 .0, omega (arith, phys-sizes (domainIn (at-args .rows .now)) (at-args .i .0) (at-phy-count .result) (at-loop .p) (omega arith)))))
 
 add-p : tie.Need-add-p Inv-loop μ-loop
@@ -87,7 +87,7 @@ loop-again c =
     let d : Domain = domainIn (a .rows .now) in
     let n : ℕ = at-phy-count .result in
     let o = at-order-for .ensures in
-    let f = (c .before .before .before .before .before .before .before .before .before .phy-below) in
+    let f = (c .before .before .before .before .before .before .before .before .before .phy-in-row) in
     let u = (c .before .before .put-table) .ensures in
     let rest : List Place = phyPlaces (a .i .0) (l .p) (n - l .p) in
     let piece : List Place = place (a .i .0) (l .p) ∷ [] in
@@ -117,4 +117,4 @@ returns c =
     }
 
 pub put-tables-spec : {M : Type 1} → statement M
-put-tables-spec = tie.close (tie.spec Inv-loop μ-loop phy-count-requires loop-holds phy-below-requires order-for-requires slice-reshare-prefix-put-table slice-aggregate-put-table put-table-requires add-p loop-less loop-again same-length same-length-2 returns)
+put-tables-spec = tie.close (tie.spec Inv-loop μ-loop phy-count-requires loop-holds phy-in-row-requires order-for-requires slice-reshare-prefix-put-table slice-aggregate-put-table put-table-requires add-p loop-less loop-again same-length same-length-2 returns)

@@ -5,11 +5,11 @@ use native.Mathlib.Omega.{arith}
 use native.Mathlib.Nat.{zero-add}
 use lib.ListN.{length, drop}
 use Rattle.files.specs.Domain.{Domain}
-use Rattle.wiring.specs.Causes.{placesFrom}
+use Rattle.wiring.specs.PhyCauses.{placesFrom}
 use Rattle.files.specs.Rows.{domainIn}
 use Rattle.tables.specs.Tables.{tablePlaces}
-use Rattle.tables.specs.Filling.{withTables}
-use Rattle.tables.proofs.Puts.{from-last, from-count, count-none, count-all}
+use Rattle.tables.specs.GrowingLists.{withTables}
+use Rattle.tables.proofs.TablesPut.{from-last, from-count, count-none, count-all}
 use borrow.Author.Needs.{needs}
 use Rattle.tables.proofs.all_tables.table_count.Statement.{statement}
 use Rattle.tables.proofs.all_tables.table_count.Tie as tie

@@ -4,10 +4,10 @@ use mathlib.Core.Path.{_≡_, refl, _∙_, ap}
 use native.Mathlib.Omega.{arith}
 use lib.ListN.{take}
 use Rattle.files.specs.Domain.{Domain}
-use Rattle.wiring.specs.Causes.{placesFrom}
+use Rattle.wiring.specs.PhyCauses.{placesFrom}
 use Rattle.files.specs.Rows.{domainIn}
 use Rattle.tables.specs.Tables.{sizes}
-use Rattle.tables.proofs.Puts.{before-none, before-next}
+use Rattle.tables.proofs.TablesPut.{before-none, before-next}
 use borrow.Author.Needs.{needs}
 use Rattle.tables.proofs.all_tables.words_before.Statement.{statement}
 use Rattle.tables.proofs.all_tables.words_before.Tie as tie

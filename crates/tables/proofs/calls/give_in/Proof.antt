@@ -1,9 +1,9 @@
 -- give_in meets its contract: the rows that the file is read into are its domain, and there is room for the entries.
 use mathlib.Core.Path.{sym}
 use lib.Seq.{length-take-le}
-use Rattle.wiring.proofs.Opening.{opened-as, opened-fits}
-use Rattle.tables.proofs.Judging.{call-refused}
-use Rattle.tables.proofs.Lawful.{judged-own, call-done}
+use Rattle.wiring.proofs.FileRows.{opened-as, opened-fits}
+use Rattle.tables.proofs.CallOutcomes.{call-refused}
+use Rattle.tables.proofs.LevelListsByOwn.{judged-own, call-done}
 use borrow.Author.Needs.{needs}
 use Rattle.tables.proofs.calls.give_in.Statement.{statement}
 use Rattle.tables.proofs.calls.give_in.Tie as tie

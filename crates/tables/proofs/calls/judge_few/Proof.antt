@@ -1,8 +1,8 @@
 -- judge_few meets its contract: the second byte states how many expanders there are, so the room is enough.
 use Prim.Native.Nat.{ℕ}
 use lib.ListN.{length-replicate}
-use Rattle.files.proofs.Read.{stated-expanders}
-use Rattle.wiring.proofs.Opening.{file-room}
+use Rattle.files.proofs.ReadDomain.{stated-expanders}
+use Rattle.wiring.proofs.FileRows.{file-room}
 use borrow.Author.Needs.{needs}
 use native.Mathlib.Omega.{arith}
 use Rattle.tables.proofs.calls.judge_few.Statement.{statement}

@@ -1,11 +1,11 @@
 -- judge_in meets its contract: the rows that the file is read into are its domain, and there is room for the entries.
 use mathlib.Core.Path.{sym, _∙_, ap}
 use lib.Seq.{length-take-le}
-use Rattle.wiring.specs.Frames.{good}
+use Rattle.wiring.specs.FrameDefinitions.{good}
 use Rattle.wiring.specs.Checks.{checkAnswer}
-use Rattle.wiring.proofs.Opening.{opened-as, opened-fits}
-use Rattle.tables.proofs.Judging.{judge-refused, judge-by}
-use Rattle.tables.proofs.Lawful.{judged-own}
+use Rattle.wiring.proofs.FileRows.{opened-as, opened-fits}
+use Rattle.tables.proofs.CallOutcomes.{judge-refused, judge-by}
+use Rattle.tables.proofs.LevelListsByOwn.{judged-own}
 use borrow.Author.Needs.{needs}
 use Rattle.tables.proofs.calls.judge_in.Statement.{statement}
 use Rattle.tables.proofs.calls.judge_in.Tie as tie

@@ -4,7 +4,7 @@ use mathlib.Core.List.{_++_}
 use mathlib.Core.Path.{_≡_, refl, _∙_}
 use native.Mathlib.Omega.{arith}
 use lib.ListN.{length, take, drop, length-set}
-use Rattle.tables.proofs.Growing.{copy-go, copy-end}
+use Rattle.tables.proofs.GrowingLists.{copy-go, copy-end}
 use borrow.Author.Needs.{needs}
 use Rattle.tables.proofs.order.append_numbers.Statement.{statement}
 use Rattle.tables.proofs.order.append_numbers.Tie as tie

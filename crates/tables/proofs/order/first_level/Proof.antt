@@ -5,9 +5,9 @@ use mathlib.Core.Path.{_≡_, sym, _∙_, ap}
 use borrow.Author.Tests.{not-true, not-false}
 use Rattle.files.specs.Domain.{Domain, addressOf, numberOf}
 use Rattle.files.specs.Rows.{domainIn}
-use Rattle.tables.proofs.Growing.{grown-kept, grown-more}
-use Rattle.tables.proofs.BelowLists.{below-none, below-one}
-use Rattle.tables.proofs.Linked.{far-down}
+use Rattle.tables.proofs.GrowingLists.{grown-kept, grown-more}
+use Rattle.tables.proofs.DownstreamLists.{downstream-none, downstream-one}
+use Rattle.tables.proofs.LinkPhys.{far-down}
 use borrow.Author.Needs.{needs}
 use native.Mathlib.Omega.{arith}
 use Rattle.tables.proofs.order.first_level.Statement.{statement}
@@ -19,11 +19,11 @@ is-down-requires c κs = (c .before .before .before .pre) .0
 returns : tie.Need-returns
 returns c =
     let a = (c .before .before .before .before .before .args) in
-    let e = below-none (domainIn (a .rows .now)) (a .f) (sym ((c .before .is-down) .ensures) ∙ not-true _ ((c .if1) .taken)) in
+    let e = downstream-none (domainIn (a .rows .now)) (a .f) (sym ((c .before .is-down) .ensures) ∙ not-true _ ((c .if1) .taken)) in
     grown-kept 0 (a .level .now) e (omega arith)
 
-far-number-requires : tie.Need-far-number-requires
-far-number-requires c κs = search needs
+attached-expander-requires : tie.Need-attached-expander-requires
+attached-expander-requires c κs = search needs
 
 slice-write-level : tie.Need-slice-write-level
 slice-write-level c = search needs
@@ -37,9 +37,9 @@ returns-2 c =
     let a = (c .before .before .before .before .before .before .args) in
     let d : Domain = domainIn (a .rows .now) in
     let down = sym ((c .before .before .is-down) .ensures) ∙ not-false _ ((c .before .if1) .left) in
-    let n = (c .far-number) in
+    let n = (c .attached-expander) in
     let j : n .result .0 ≡ numberOf d (addressOf (a .f)) = n .ensures ∙ far-down (a .rows .now) (a .first .now) (a .i .0) (a .p .0) (a .f) (at-pre .0) down in
-    grown-more 0 (a .level .now) (n .result .0) (below-one d (a .f) down ∙ ap (λ (v : ℕ). v ∷ []) (sym j)) (omega (arith, at-pre .1))
+    grown-more 0 (a .level .now) (n .result .0) (downstream-one d (a .f) down ∙ ap (λ (v : ℕ). v ∷ []) (sym j)) (omega (arith, at-pre .1))
 
 pub first-level-spec : {M : Type 1} → statement M
-first-level-spec = tie.close (tie.spec is-down-requires returns far-number-requires slice-write-level same-length returns-2)
+first-level-spec = tie.close (tie.spec is-down-requires returns attached-expander-requires slice-write-level same-length returns-2)

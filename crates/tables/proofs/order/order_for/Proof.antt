@@ -4,9 +4,9 @@ use native.Mathlib.Omega.{arith}
 use borrow.Author.Tests.{lt-leb}
 use Rattle.files.specs.Domain.{typeOf}
 use Rattle.files.specs.Rows.{domainIn}
-use Rattle.files.proofs.Members.{was-true}
-use Rattle.tables.proofs.Growing.{grown-same, grown-kept}
-use Rattle.tables.proofs.Orders.{not-down, order-none, order-linked}
+use Rattle.files.proofs.ListMembers.{was-true}
+use Rattle.tables.proofs.GrowingLists.{grown-same, grown-kept}
+use Rattle.tables.proofs.LevelOrders.{not-down, order-none, order-linked}
 use borrow.Author.Needs.{needs}
 use Rattle.tables.proofs.order.order_for.Statement.{statement}
 use Rattle.tables.proofs.order.order_for.Tie as tie

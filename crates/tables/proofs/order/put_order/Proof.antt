@@ -4,20 +4,20 @@ use mathlib.Core.Path.{_≡_, refl, _∙_}
 use lib.ListN.{length, take}
 use Rattle.files.specs.Domain.{Domain}
 use Rattle.files.specs.Rows.{domainIn}
-use Rattle.files.proofs.InRows.{domain-few}
-use Rattle.tables.proofs.Orders.{Queued, queue-start, queue-go, queue-stop, queue-end, order-by}
-use Rattle.tables.proofs.BelowLists.{first-few}
-use Rattle.tables.proofs.Growing.{grown-length}
+use Rattle.files.proofs.RowsAsDomain.{domain-few}
+use Rattle.tables.proofs.LevelOrders.{Queued, queue-start, queue-go, queue-stop, queue-end, order-by}
+use Rattle.tables.proofs.DownstreamLists.{first-few}
+use Rattle.tables.proofs.GrowingLists.{grown-length}
 use borrow.Author.Needs.{needs}
 use native.Mathlib.Omega.{arith}
 use Rattle.tables.proofs.order.put_order.Statement.{statement}
 use Rattle.tables.proofs.order.put_order.Tie as tie
 
 abbrev Inv-loop : tie.InvT-loop
-Inv-loop rows first below order₀ turns m₀ k₀ order m k = (k ≤ turns) × ((length order ≡ length order₀) × Queued (domainIn rows) (take m₀ order₀) turns k m order)
+Inv-loop rows first downstream order₀ turns m₀ k₀ order m k = (k ≤ turns) × ((length order ≡ length order₀) × Queued (domainIn rows) (take m₀ order₀) turns k m order)
 
 abbrev μ-loop : tie.MeasureT-loop
-μ-loop rows first below order₀ turns m₀ k₀ order m k = turns - k
+μ-loop rows first downstream order₀ turns m₀ k₀ order m k = turns - k
 
 expander-count-requires : tie.Need-expander-count-requires Inv-loop μ-loop
 expander-count-requires c κs = search needs
@@ -51,8 +51,8 @@ returns c =
 slice-read-t16 : tie.Need-slice-read-t16 Inv-loop μ-loop
 slice-read-t16 c = omega (arith, (c .before .before .before .loop) .inv .1 .1 .fits)
 
-append-below-requires : tie.Need-append-below-requires Inv-loop μ-loop
-append-below-requires c κs =
+append-downstream-requires : tie.Need-append-downstream-requires Inv-loop μ-loop
+append-downstream-requires c κs =
     let at-first-level = c .before .before .before .before .before .before .before .first-level in
     let at-pre = c .before .before .before .before .before .before .before .before .before .before .before .before .before .before .pre in
     let at-expander-count = c .before .before .before .before .before .before .before .before .before .expander-count in
@@ -70,7 +70,7 @@ loop-again : tie.Need-loop-again Inv-loop μ-loop
 loop-again c =
     let l = (c .before .before .before .before .before .before .before .loop) in
     let a = (c .before .before .before .before .before .before .before .before .before .before .before .before .before .before .before .before .before .args) in
-    let g = (c .before .before .append-below) .ensures in
+    let g = (c .before .before .append-downstream) .ensures in
     (omega arith, (g .same ∙ l .inv .1 .0, queue-go (domainIn (a .rows .now)) (l .inv .1 .1) g (domain-few (a .rows .now)) (omega arith) (omega arith)))
 
 same-length-2 : tie.Need-same-length-2 Inv-loop μ-loop
@@ -86,4 +86,4 @@ returns-2 c =
     record { same = l .inv .1 .0 ∙ g .same; fits = omega (arith, l .inv .1 .0, g .same, l .inv .1 .1 .fits); whole = order-by d (a .f) (queue-end d (l .inv .1 .1) (omega arith)) (at-expander-count .ensures .0) (g .whole) }
 
 pub put-order-spec : {M : Type 1} → statement M
-put-order-spec = tie.close (tie.spec Inv-loop μ-loop expander-count-requires cast-turns first-level-requires loop-holds same-length returns slice-read-t16 append-below-requires add-k loop-less loop-again same-length-2 returns-2)
+put-order-spec = tie.close (tie.spec Inv-loop μ-loop expander-count-requires cast-turns first-level-requires loop-holds same-length returns slice-read-t16 append-downstream-requires add-k loop-less loop-again same-length-2 returns-2)

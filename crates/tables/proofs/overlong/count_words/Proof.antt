@@ -6,8 +6,8 @@ use native.Mathlib.Omega.{arith}
 use lib.ListN.{length, getD, drop, length-append}
 use Rattle.files.specs.Domain.{Domain}
 use Rattle.files.specs.Rows.{domainIn}
-use Rattle.tables.specs.Own.{own}
-use Rattle.tables.proofs.Growing.{flat-next, flat-last}
+use Rattle.tables.specs.OwnLists.{ownWords}
+use Rattle.tables.proofs.GrowingLists.{flat-next, flat-last}
 use Rattle.tables.proofs.overlong.count_words.Statement.{statement}
 use Rattle.tables.proofs.overlong.count_words.Tie as tie
 
@@ -15,7 +15,7 @@ abbrev Inv-loop : tie.InvT-loop
 Inv-loop rows counts order sum₀ k₀ sum k =
     (k ≤ length order)
     × ((sum ≤ 128 * k)
-    × (sum + length (flatMap (own (domainIn rows)) (drop k order)) ≡ length (flatMap (own (domainIn rows)) order)))
+    × (sum + length (flatMap (ownWords (domainIn rows)) (drop k order)) ≡ length (flatMap (ownWords (domainIn rows)) order)))
 
 abbrev μ-loop : tie.MeasureT-loop
 μ-loop rows counts order sum₀ k₀ sum k = length order - k
@@ -51,9 +51,9 @@ loop-again c =
     let d : Domain = domainIn (a .rows .now) in
     let order : List ℕ = a .order .now in
     let r = c .own-count .ensures in
-    let here : List ℕ = own d (getD order (l .k) 0) in
-    let rest : List ℕ = flatMap (own d) (drop (l .k + 1) order) in
-    let e = ap length (flat-next (own d) 0 order (l .k) (omega arith)) ∙ length-append here rest in
+    let here : List ℕ = ownWords d (getD order (l .k) 0) in
+    let rest : List ℕ = flatMap (ownWords d) (drop (l .k + 1) order) in
+    let e = ap length (flat-next (ownWords d) 0 order (l .k) (omega arith)) ∙ length-append here rest in
     let v = l .inv .1 .1 in
     (omega arith, (omega arith, omega arith))
 
@@ -62,7 +62,7 @@ returns c =
     let a = c .before .before .before .before .before .args in
     let l = c .before .loop in
     let d : Domain = domainIn (a .rows .now) in
-    let e = ap length (flat-last (own d) (a .order .now) (l .k) (omega arith)) in
+    let e = ap length (flat-last (ownWords d) (a .order .now) (l .k) (omega arith)) in
     let v = l .inv .1 .1 in
     omega arith
 

@@ -7,7 +7,7 @@ use lib.Seq.{length-take-le}
 use borrow.Author.Tests.{not-true, not-false}
 use Rattle.files.specs.Domain.{Domain}
 use Rattle.files.specs.Rows.{domainIn}
-use Rattle.tables.proofs.Over.{over-linked, over-none, over-order}
+use Rattle.tables.proofs.OverlongLists.{over-linked, over-none, over-order}
 use borrow.Author.Needs.{needs}
 use native.Mathlib.Omega.{arith}
 use Rattle.tables.proofs.overlong.is_overlong.Statement.{statement}
@@ -36,8 +36,8 @@ put-order-requires c κs =
     let at-pre = c .before .before .before .before .before .before .before .before .before .before .before .pre in
     (record { index = at-pre .0; phy = at-pre .1 .1 .1 .1 .0 }, (at-pre .1 .1 .0, at-pre .1 .1 .1 .0 .0))
 
-index-count-requires : tie.Need-index-count-requires
-index-count-requires c κs = search needs
+route-indexes-requires : tie.Need-route-indexes-requires
+route-indexes-requires c κs = search needs
 
 cast-result : tie.Need-cast-result
 cast-result c = search needs
@@ -69,7 +69,7 @@ returns-3 c =
     let d : Domain = domainIn (a .rows .now) in
     let g = (c .before .before .before .before .before .put-order) .ensures in
     let q = sym (at-is-down .ensures) ∙ not-false _ (at-if2 .left) in
-    simp ((c .before .before .index-count) .ensures, (c .count-words) .ensures) (over-order d (a .i .0) (a .p .0) _ (at-pre .1 .1 .1 .1 .0) _ q (g .whole))
+    simp ((c .before .before .route-indexes) .ensures, (c .count-words) .ensures) (over-order d (a .i .0) (a .p .0) _ (at-pre .1 .1 .1 .1 .0) _ q (g .whole))
 
 pub is-overlong-spec : {M : Type 1} → statement M
-is-overlong-spec = tie.close (tie.spec returns is-down-requires returns-2 put-order-requires index-count-requires cast-result slice-reshare-prefix-count-words slice-aggregate-count-words count-words-requires same-length returns-3)
+is-overlong-spec = tie.close (tie.spec returns is-down-requires returns-2 put-order-requires route-indexes-requires cast-result slice-reshare-prefix-count-words slice-aggregate-count-words count-words-requires same-length returns-3)

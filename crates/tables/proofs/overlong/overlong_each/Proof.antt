@@ -2,20 +2,20 @@
 use Prim.Native.Nat.{_-_, _≤_}
 use mathlib.Core.Path.{_≡_, refl, _∙_}
 use lib.ListN.{length, drop}
-use Rattle.wiring.specs.Causes.{placesFrom, firstIn, firstOf}
+use Rattle.wiring.specs.PhyCauses.{placesFrom, firstIn, firstOf}
 use Rattle.files.specs.Rows.{domainIn}
-use Rattle.wiring.proofs.Searches.{from-next, from-end}
-use Rattle.tables.specs.Prepared.{overOwn}
+use Rattle.wiring.proofs.PlaceSearches.{from-next, from-end}
+use Rattle.tables.specs.PreparedLists.{ownOverlong}
 use borrow.Author.Needs.{needs}
 use native.Mathlib.Omega.{arith}
 use Rattle.tables.proofs.overlong.overlong_each.Statement.{statement}
 use Rattle.tables.proofs.overlong.overlong_each.Tie as tie
 
 abbrev Inv-loop : tie.InvT-loop
-Inv-loop rows first low counts below order₀ n i₀ order i = (i ≤ n) × ((length order ≡ length order₀) × (firstIn 14 (overOwn (domainIn rows)) (placesFrom i (drop i (domainIn rows))) (domainIn rows) ≡ firstOf 14 (overOwn (domainIn rows)) (domainIn rows)))
+Inv-loop rows first low counts downstream order₀ n i₀ order i = (i ≤ n) × ((length order ≡ length order₀) × (firstIn 14 (ownOverlong (domainIn rows)) (placesFrom i (drop i (domainIn rows))) (domainIn rows) ≡ firstOf 14 (ownOverlong (domainIn rows)) (domainIn rows)))
 
 abbrev μ-loop : tie.MeasureT-loop
-μ-loop rows first low counts below order₀ n i₀ order i = n - i
+μ-loop rows first low counts downstream order₀ n i₀ order i = n - i
 
 expander-count-requires : tie.Need-expander-count-requires Inv-loop μ-loop
 expander-count-requires c κs = search needs
@@ -40,7 +40,7 @@ returns : tie.Need-returns Inv-loop μ-loop
 returns c =
     let at-args = c .before .before .before .before .before .before .before .before .before .before .before .before .before .before .before .before .args in
     let at-loop = c .before .before .before .before .before .before .before .before .loop in
-    from-next 14 (overOwn (domainIn (at-args .rows .now))) (domainIn (at-args .rows .now)) (at-loop .i) (at-loop .inv .1 .1) ((c .before .before .before .before .before .overlong-phy) .ensures) ((c .before .r) .given .1) (omega arith)
+    from-next 14 (ownOverlong (domainIn (at-args .rows .now))) (domainIn (at-args .rows .now)) (at-loop .i) (at-loop .inv .1 .1) ((c .before .before .before .before .before .overlong-phy) .ensures) ((c .before .r) .given .1) (omega arith)
 
 enum-told : tie.Need-enum-told Inv-loop μ-loop
 enum-told c = search needs
@@ -55,7 +55,7 @@ loop-again : tie.Need-loop-again Inv-loop μ-loop
 loop-again c =
     let at-loop = c .before .before .before .before .before .before .before .loop in
     let at-args = c .before .before .before .before .before .before .before .before .before .before .before .before .before .before .before .args in
-    (omega arith, ((c .before .before .before .before .overlong-phy) .kept .1 .1 .1 .1 .1 .1 .0 ∙ at-loop .inv .1 .0, from-next 14 (overOwn (domainIn (at-args .rows .now))) (domainIn (at-args .rows .now)) (at-loop .i) (at-loop .inv .1 .1) ((c .before .before .before .before .overlong-phy) .ensures) ((c .enum-told) .given .1) (omega arith)))
+    (omega arith, ((c .before .before .before .before .overlong-phy) .kept .1 .1 .1 .1 .1 .1 .0 ∙ at-loop .inv .1 .0, from-next 14 (ownOverlong (domainIn (at-args .rows .now))) (domainIn (at-args .rows .now)) (at-loop .i) (at-loop .inv .1 .1) ((c .before .before .before .before .overlong-phy) .ensures) ((c .enum-told) .given .1) (omega arith)))
 
 same-length-2 : tie.Need-same-length-2 Inv-loop μ-loop
 same-length-2 c = (c .before .loop) .inv .1 .0
@@ -63,7 +63,7 @@ same-length-2 c = (c .before .loop) .inv .1 .0
 returns-2 : tie.Need-returns-2 Inv-loop μ-loop
 returns-2 c =
     let at-args = c .before .before .before .before .before .before .before .before .before .args in
-    from-end 14 (overOwn (domainIn (at-args .rows .now))) (domainIn (at-args .rows .now)) ((c .before .loop) .i) ((c .before .loop) .inv .1 .1) (omega arith)
+    from-end 14 (ownOverlong (domainIn (at-args .rows .now))) (domainIn (at-args .rows .now)) ((c .before .loop) .i) ((c .before .loop) .inv .1 .1) (omega arith)
 
 pub overlong-each-spec : {M : Type 1} → statement M
 overlong-each-spec = tie.close (tie.spec Inv-loop μ-loop expander-count-requires loop-holds overlong-phy-requires enum-known-r same-length returns enum-told add-i loop-less loop-again same-length-2 returns-2)

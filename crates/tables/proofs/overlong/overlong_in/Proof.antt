@@ -1,6 +1,6 @@
--- overlong_in meets its contract: the own lists are counted, the expanders below each collected, and then every phy is tested.
+-- overlong_in meets its contract: the own lists are counted, the expanders downstream of each collected, and then every phy is tested.
 use borrow.Author.Needs.{needs}
-use Rattle.tables.proofs.Linked.{fars-known}
+use Rattle.tables.proofs.LinkPhys.{attached-known}
 use Rattle.tables.proofs.overlong.overlong_in.Statement.{statement}
 use Rattle.tables.proofs.overlong.overlong_in.Tie as tie
 
@@ -10,10 +10,10 @@ slice-aggregate-put-counts c = search needs
 put-counts-requires : tie.Need-put-counts-requires
 put-counts-requires c κs = search needs
 
-put-below-requires : tie.Need-put-below-requires
-put-below-requires c κs =
+put-downstream-requires : tie.Need-put-downstream-requires
+put-downstream-requires c κs =
     let at-pre = c .before .before .before .before .before .before .before .before .before .pre in
-    (fars-known _ _ (at-pre .0 .firsts), at-pre .1 .0)
+    (attached-known _ _ (at-pre .0 .firsts), at-pre .1 .0)
 
 slice-aggregate-overlong-each : tie.Need-slice-aggregate-overlong-each
 slice-aggregate-overlong-each c = search needs
@@ -22,7 +22,7 @@ overlong-each-requires : tie.Need-overlong-each-requires
 overlong-each-requires c κs =
     let at-pre = c .before .before .before .before .before .before .before .before .before .before .before .before .before .before .before .pre in
     let at-put-counts = c .before .before .before .before .before .before .before .before .put-counts in
-    (fars-known _ _ (at-pre .0 .firsts), (at-put-counts .ensures, ((c .before .before .before .before .before .put-below) .ensures, (at-pre .1 .1 .0, at-pre .1 .1 .1))))
+    (attached-known _ _ (at-pre .0 .firsts), (at-put-counts .ensures, ((c .before .before .before .before .before .put-downstream) .ensures, (at-pre .1 .1 .0, at-pre .1 .1 .1))))
 
 same-length : tie.Need-same-length
 same-length c = search needs
@@ -34,4 +34,4 @@ returns : tie.Need-returns
 returns c = search needs
 
 pub overlong-in-spec : {M : Type 1} → statement M
-overlong-in-spec = tie.close (tie.spec slice-aggregate-put-counts put-counts-requires put-below-requires slice-aggregate-overlong-each overlong-each-requires same-length same-length-2 returns)
+overlong-in-spec = tie.close (tie.spec slice-aggregate-put-counts put-counts-requires put-downstream-requires slice-aggregate-overlong-each overlong-each-requires same-length same-length-2 returns)

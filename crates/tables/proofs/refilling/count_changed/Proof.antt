@@ -4,8 +4,8 @@ use mathlib.Core.Path.{_≡_}
 use native.Mathlib.Omega.{arith}
 use native.Mathlib.Nat.{zero-add}
 use lib.ListN.{length, drop}
-use Rattle.tables.specs.Refilling.{changed}
-use Rattle.tables.proofs.Changes.{words-turn, words-last}
+use Rattle.tables.specs.TouchedTables.{changed}
+use Rattle.tables.proofs.WordsChanged.{words-turn, words-last}
 use borrow.Author.Needs.{needs}
 use Rattle.tables.proofs.refilling.count_changed.Statement.{statement}
 use Rattle.tables.proofs.refilling.count_changed.Tie as tie

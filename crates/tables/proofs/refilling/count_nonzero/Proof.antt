@@ -3,8 +3,8 @@ use Prim.Native.Nat.{_+_, _-_, _≤_}
 use mathlib.Core.Path.{_≡_}
 use native.Mathlib.Omega.{arith}
 use lib.ListN.{length, drop, replicate}
-use Rattle.tables.specs.Refilling.{changed}
-use Rattle.tables.proofs.Changes.{zeros-first, zeros-turn, zeros-last}
+use Rattle.tables.specs.TouchedTables.{changed}
+use Rattle.tables.proofs.WordsChanged.{zeros-first, zeros-turn, zeros-last}
 use borrow.Author.Needs.{needs}
 use Rattle.tables.proofs.refilling.count_nonzero.Statement.{statement}
 use Rattle.tables.proofs.refilling.count_nonzero.Tie as tie

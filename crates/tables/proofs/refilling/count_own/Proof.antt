@@ -8,24 +8,24 @@ use native.Mathlib.Decide.{decLt}
 use lib.ListN.{length, take, drop}
 use Rattle.files.specs.Domain.{Domain}
 use Rattle.files.specs.Rows.{domainIn}
-use Rattle.tables.specs.Own.{own}
-use Rattle.tables.specs.Prepared.{OwnHeld}
-use Rattle.tables.specs.Refilling.{changed}
-use Rattle.tables.proofs.Owns.{own-list, own-fits, own-none}
-use Rattle.tables.proofs.Changes.{changed-empty}
+use Rattle.tables.specs.OwnLists.{ownWords}
+use Rattle.tables.specs.PreparedLists.{OwnListsHeld}
+use Rattle.tables.specs.TouchedTables.{changed}
+use Rattle.tables.proofs.OwnListLoops.{own-list, own-fits, own-none}
+use Rattle.tables.proofs.WordsChanged.{changed-empty}
 use borrow.Author.Needs.{needs}
 use Rattle.tables.proofs.refilling.count_own.Statement.{statement}
 use Rattle.tables.proofs.refilling.count_own.Tie as tie
 
 -- an expander with a list is one of the domain
-one-of : (d : Domain) (i n : ℕ) → n ≡ length (own d i) → (n ≡ 0 → ⊥) → i < length d
+one-of : (d : Domain) (i n : ℕ) → n ≡ length (ownWords d i) → (n ≡ 0 → ⊥) → i < length d
 one-of d i n e h = by-cases (decLt i (length d)) (λ k. k) (λ k. absurd (h (e ∙ ap length (own-none d i (omega arith)))))
 
 -- its list as a part of the lent words
-part-own : (d : Domain) (words : List ℕ) → OwnHeld d words → (i n : ℕ) → n ≡ length (own d i) → i < length d
-    → take (129 * i + 1 + n - (129 * i + 1)) (drop (129 * i + 1) words) ≡ own d i
+part-own : (d : Domain) (words : List ℕ) → OwnListsHeld d words → (i n : ℕ) → n ≡ length (ownWords d i) → i < length d
+    → take (129 * i + 1 + n - (129 * i + 1)) (drop (129 * i + 1) words) ≡ ownWords d i
 part-own d words held i n e h =
-    let k : 129 * i + 1 + n - (129 * i + 1) ≡ length (own d i) = omega arith in
+    let k : 129 * i + 1 + n - (129 * i + 1) ≡ length (ownWords d i) = omega arith in
     ap (λ (m : ℕ). take m (drop (129 * i + 1) words)) k ∙ own-list d words held i h
 
 returns : tie.Need-returns

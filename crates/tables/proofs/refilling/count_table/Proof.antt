@@ -6,15 +6,15 @@ use native.Mathlib.Omega.{arith}
 use native.Mathlib.Nat.{zero-add}
 use lib.ListN.{length, getD, drop, replicate, length-drop}
 use Rattle.files.specs.Rows.{domainIn}
-use Rattle.tables.specs.Own.{own}
-use Rattle.tables.specs.Refilling.{changed}
-use Rattle.tables.proofs.Changes.{rest-is, sizes-turn, lists-turn, lists-last}
+use Rattle.tables.specs.OwnLists.{ownWords}
+use Rattle.tables.specs.TouchedTables.{changed}
+use Rattle.tables.proofs.WordsChanged.{rest-is, sizes-turn, lists-turn, lists-last}
 use borrow.Author.Needs.{needs}
 use Rattle.tables.proofs.refilling.count_table.Statement.{statement}
 use Rattle.tables.proofs.refilling.count_table.Tie as tie
 
 abbrev Inv-loop : tie.InvT-loop
-Inv-loop rows lists order part sum₀ m₀ k₀ sum m k = (k ≤ length order) × ((sum ≤ m) × ((m + length (flatMap (own (domainIn rows)) (drop k order)) ≡ length (flatMap (own (domainIn rows)) order)) × (sum + changed (drop m part) (flatMap (own (domainIn rows)) (drop k order)) ≡ changed part (flatMap (own (domainIn rows)) order))))
+Inv-loop rows lists order part sum₀ m₀ k₀ sum m k = (k ≤ length order) × ((sum ≤ m) × ((m + length (flatMap (ownWords (domainIn rows)) (drop k order)) ≡ length (flatMap (ownWords (domainIn rows)) order)) × (sum + changed (drop m part) (flatMap (ownWords (domainIn rows)) (drop k order)) ≡ changed part (flatMap (ownWords (domainIn rows)) order))))
 
 abbrev μ-loop : tie.MeasureT-loop
 μ-loop rows lists order part sum₀ m₀ k₀ sum m k = length order - k
@@ -48,20 +48,20 @@ count-own-requires c κs =
     let l = c .before .before .before .before .loop in
     let n = c .before .own-length in
     let pre = c .before .before .before .before .before .before .before .before .before .pre in
-    let s = sizes-turn (own (domainIn (a .rows .now))) (a .order .now) (l .k) (l .m) (l .inv .1 .1 .0) (n .ensures) (omega arith) in
+    let s = sizes-turn (ownWords (domainIn (a .rows .now))) (a .order .now) (l .k) (l .m) (l .inv .1 .1 .0) (n .ensures) (omega arith) in
     (pre .0, (n .ensures, omega (arith, ap length (rest-is (a .part .now) (l .m)), length-drop (l .m) (a .part .now), pre .1)))
 
 add-sum : tie.Need-add-sum Inv-loop μ-loop
 add-sum c =
     let at-args = c .before .before .before .before .before .before .before .before .before .before .args in
     let at-pre = c .before .before .before .before .before .before .before .before .before .before .pre in
-    omega (arith, sizes-turn (own (domainIn (at-args .rows .now))) (at-args .order .now) ((c .before .before .before .before .before .loop) .k) ((c .before .before .before .before .before .loop) .m) ((c .before .before .before .before .before .loop) .inv .1 .1 .0) ((c .before .before .own-length) .ensures) (omega arith), at-pre .1, (c .count-own) .ensures .1, (c .before .before .before .before .before .loop) .inv .1 .0)
+    omega (arith, sizes-turn (ownWords (domainIn (at-args .rows .now))) (at-args .order .now) ((c .before .before .before .before .before .loop) .k) ((c .before .before .before .before .before .loop) .m) ((c .before .before .before .before .before .loop) .inv .1 .1 .0) ((c .before .before .own-length) .ensures) (omega arith), at-pre .1, (c .count-own) .ensures .1, (c .before .before .before .before .before .loop) .inv .1 .0)
 
 add-m : tie.Need-add-m Inv-loop μ-loop
 add-m c =
     let at-args = c .before .before .before .before .before .before .before .before .before .before .args in
     let at-pre = c .before .before .before .before .before .before .before .before .before .before .pre in
-    omega (arith, sizes-turn (own (domainIn (at-args .rows .now))) (at-args .order .now) ((c .before .before .before .before .before .loop) .k) ((c .before .before .before .before .before .loop) .m) ((c .before .before .before .before .before .loop) .inv .1 .1 .0) ((c .before .before .own-length) .ensures) (omega arith), at-pre .1, (c .count-own) .ensures .1, (c .before .before .before .before .before .loop) .inv .1 .0)
+    omega (arith, sizes-turn (ownWords (domainIn (at-args .rows .now))) (at-args .order .now) ((c .before .before .before .before .before .loop) .k) ((c .before .before .before .before .before .loop) .m) ((c .before .before .before .before .before .loop) .inv .1 .1 .0) ((c .before .before .own-length) .ensures) (omega arith), at-pre .1, (c .count-own) .ensures .1, (c .before .before .before .before .before .loop) .inv .1 .0)
 
 add-k : tie.Need-add-k Inv-loop μ-loop
 add-k c = omega arith
@@ -74,7 +74,7 @@ loop-again c =
     let a = c .before .before .before .before .before .before .before .before .before .before .args in
     let own-count = c .count-own in
     let l = c .before .before .before .before .before .loop in
-    let f : ℕ → List ℕ = own (domainIn (a .rows .now)) in
+    let f : ℕ → List ℕ = ownWords (domainIn (a .rows .now)) in
     let n = c .before .before .own-length in
     (omega arith, (omega (arith, own-count .ensures .1), (sizes-turn f (a .order .now) (l .k) (l .m) (l .inv .1 .1 .0) (n .ensures) (omega arith), lists-turn f (a .order .now) (a .part .now) (l .k) (l .m) (l .sum) (own-count .result) (n .result) (l .inv .1 .1 .1) (own-count .ensures .0 ∙ ap (λ (x : List ℕ). changed x (f (getD (a .order .now) (l .k) 0))) (rest-is (a .part .now) (l .m))) (n .ensures) (omega arith))))
 
@@ -102,7 +102,7 @@ returns c =
     let a = c .before .before .before .before .before .before .before .before .args in
     let zeros = c .count-nonzero in
     let l = c .before .before .before .loop in
-    let f : ℕ → List ℕ = own (domainIn (a .rows .now)) in
+    let f : ℕ → List ℕ = ownWords (domainIn (a .rows .now)) in
     (lists-last f (a .order .now) (a .part .now) (l .k) (l .m) (l .sum) (zeros .result) (l .inv .1 .1 .1) (l .inv .1 .1 .0) (zeros .ensures .0 ∙ ap (λ (x : List ℕ). changed x (replicate (length x) 0)) (rest-is (a .part .now) (l .m))) (omega arith), omega (arith, zeros .ensures .1, ap length (rest-is (a .part .now) (l .m)), length-drop (l .m) (a .part .now), at-pre .1, l .inv .1 .1 .0))
 
 pub count-table-spec : {M : Type 1} → statement M

@@ -5,7 +5,7 @@ use borrow.Author.Tests.{eq-eqb, ne-eqb}
 use mathlib.Core.Bool.{false}
 use lib.Dec.{leb}
 use Rattle.files.specs.Domain.{attributeOf}
-use Rattle.tables.specs.Rewriting.{tableLink}
+use Rattle.tables.specs.TablesRewritten.{tableLink}
 use borrow.Author.Needs.{needs}
 use Rattle.tables.proofs.refilling.is_table_link.Statement.{statement}
 use Rattle.tables.proofs.refilling.is_table_link.Tie as tie

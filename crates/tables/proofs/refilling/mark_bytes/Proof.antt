@@ -1,5 +1,5 @@
 -- mark_bytes meets its contract: whole bytes of disable bits are those bits in a row.
-use Rattle.tables.proofs.BitSets.{marked-part}
+use Rattle.tables.proofs.BitsReplaced.{marked-part}
 use borrow.Author.Needs.{needs}
 use Rattle.tables.proofs.refilling.mark_bytes.Statement.{statement}
 use Rattle.tables.proofs.refilling.mark_bytes.Tie as tie

@@ -4,8 +4,8 @@ use mathlib.Core.Path.{_≡_, refl, _∙_}
 use native.Mathlib.Omega.{arith}
 use lib.ListN.{length, drop}
 use lib.Seq.{sets}
-use Rattle.wiring.specs.Frames.{bitsOf, zeroBits}
-use Rattle.tables.proofs.BitSets.{mark-first, mark-turn, mark-last}
+use Rattle.wiring.specs.FrameDefinitions.{bitsOf, zeroBits}
+use Rattle.tables.proofs.BitsReplaced.{mark-first, mark-turn, mark-last}
 use borrow.Author.Needs.{needs}
 use Rattle.tables.proofs.refilling.mark_each.Statement.{statement}
 use Rattle.tables.proofs.refilling.mark_each.Tie as tie

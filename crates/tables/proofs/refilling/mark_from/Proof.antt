@@ -4,7 +4,7 @@ use mathlib.Core.Path.{sym}
 use native.Mathlib.Omega.{arith}
 use lib.ListN.{length}
 use lib.Seq.{length-take-le}
-use Rattle.tables.proofs.BitSets.{marked-parts}
+use Rattle.tables.proofs.BitsReplaced.{marked-parts}
 use borrow.Author.Needs.{needs}
 use Rattle.tables.proofs.refilling.mark_from.Statement.{statement}
 use Rattle.tables.proofs.refilling.mark_from.Tie as tie

@@ -3,23 +3,23 @@ use Prim.Native.Nat.{_+_, _-_, _*_, _≤_}
 use mathlib.Core.Path.{_≡_, refl, _∙_, ap}
 use native.Mathlib.Omega.{arith}
 use lib.ListN.{length, take}
-use Rattle.frames.proofs.Packing.{Bytes}
+use Rattle.frames.proofs.PackedRows.{Bytes}
 use Rattle.files.specs.Domain.{Domain}
-use Rattle.wiring.specs.Causes.{placesFrom}
+use Rattle.wiring.specs.PhyCauses.{placesFrom}
 use Rattle.files.specs.Rows.{domainIn}
 use Rattle.tables.specs.Entries.{Room, entries}
-use Rattle.tables.specs.Rewriting.{Near, Rewritten}
+use Rattle.tables.specs.TablesRewritten.{TallyBounds, Rewritten}
 use Rattle.tables.specs.declared.refilling.Tally.{Tally}
-use Rattle.tables.proofs.Rewrites.{all-refilled, all-answered, expanders-all, expanders-fit, expanders-start, expanders-turn, near-none, near-then}
+use Rattle.tables.proofs.TablesRewritten.{all-refilled, all-answered, expanders-all, expanders-fit, expanders-start, expanders-turn, near-none, near-then}
 use borrow.Author.Needs.{needs}
 use Rattle.tables.proofs.refilling.refill_all.Statement.{statement}
 use Rattle.tables.proofs.refilling.refill_all.Tie as tie
 
 abbrev Inv-loop : tie.InvT-loop
-Inv-loop rows first lists below order₀ e words₀ bits₀ n s₀ i₀ order words bits s i = (i ≤ n) × ((length order ≡ length order₀) × (Bytes bits × (Near (128 * i) s₀ s × Rewritten (domainIn rows) (e .0) (placesFrom 0 (take i (domainIn rows))) s₀ s (entries words₀ bits₀) (entries words bits))))
+Inv-loop rows first lists downstream order₀ e words₀ bits₀ n s₀ i₀ order words bits s i = (i ≤ n) × ((length order ≡ length order₀) × (Bytes bits × (TallyBounds (128 * i) s₀ s × Rewritten (domainIn rows) (e .0) (placesFrom 0 (take i (domainIn rows))) s₀ s (entries words₀ bits₀) (entries words bits))))
 
 abbrev μ-loop : tie.MeasureT-loop
-μ-loop rows first lists below order₀ e words₀ bits₀ n s₀ i₀ order words bits s i = n - i
+μ-loop rows first lists downstream order₀ e words₀ bits₀ n s₀ i₀ order words bits s i = n - i
 
 expander-count-requires : tie.Need-expander-count-requires Inv-loop μ-loop
 expander-count-requires c κs = search needs

@@ -5,11 +5,11 @@ use native.Mathlib.Omega.{arith}
 use lib.ListN.{length}
 use borrow.Author.Tests.{not-true, not-false}
 use Rattle.files.specs.Domain.{Domain}
-use Rattle.wiring.specs.Causes.{Place, place}
+use Rattle.wiring.specs.PhyCauses.{Place, place}
 use Rattle.files.specs.Rows.{domainIn}
-use Rattle.files.proofs.Members.{was-true}
+use Rattle.files.proofs.ListMembers.{was-true}
 use Rattle.tables.specs.Entries.{Room, entries}
-use Rattle.tables.proofs.Rewrites.{touched-routes, touched-size, touched-is, rewritten-old, rewritten-new}
+use Rattle.tables.proofs.TablesRewritten.{touched-attribute, touched-size, touched-is, rewritten-old, rewritten-new}
 use borrow.Author.Needs.{needs}
 use Rattle.tables.proofs.refilling.refill_table.Statement.{statement}
 use Rattle.tables.proofs.refilling.refill_table.Tie as tie
@@ -40,7 +40,7 @@ renew-table-requires c κs =
     let v : Place = place (a .i .0) (a .p .0) in
     let z = (c .before .before .before .before .before .size-at) .ensures in
     let q = touched-is d (a .e .0) (a .i .0) (a .p .0) (a .order .now) (pre .1 .0) ((c .before .before .before .has-number) .ensures) ∙ not-false _ ((c .before .before .if1) .left) in
-    let f = pre .1 .1 .0 (a .i .0) (a .p .0) (was-true _ (touched-routes d (a .e .0) (a .i .0) (a .p .0) q)) in
+    let f = pre .1 .1 .0 (a .i .0) (a .p .0) (was-true _ (touched-attribute d (a .e .0) (a .i .0) (a .p .0) q)) in
     let w = touched-size d (a .e .0) v (was-true _ q) in
     (record { held = pre .0; ordered = pre .1 .0; fits = omega arith }, (omega arith, (omega (arith, pre .1 .1 .1 .1 .0), omega (arith, pre .1 .1 .1 .1 .1))))
 

@@ -7,10 +7,10 @@ use lib.ListN.{length, take, drop, length-drop}
 use lib.Seq.{length-take-le}
 use Rattle.files.specs.Domain.{Domain}
 use Rattle.files.specs.Rows.{domainIn}
-use Rattle.tables.specs.Prepared.{orderList, filledTo}
-use Rattle.tables.specs.Refilling.{changed}
-use Rattle.tables.proofs.Fills.{from-order, filled-room}
-use Rattle.tables.proofs.Rewrites.{renew-words, renew-changed, renew-bits}
+use Rattle.tables.specs.PreparedLists.{ownWordsOfOrder, filledTo}
+use Rattle.tables.specs.TouchedTables.{changed}
+use Rattle.tables.proofs.FilledTable.{from-order, filled-room}
+use Rattle.tables.proofs.TablesRewritten.{renew-words, renew-changed, renew-bits}
 use borrow.Author.Needs.{needs}
 use Rattle.tables.proofs.refilling.renew_table.Statement.{statement}
 use Rattle.tables.proofs.refilling.renew_table.Tie as tie
@@ -79,7 +79,7 @@ returns c =
     let d : Domain = domainIn (a .rows .now) in
     let p = c .before .before .before .before .before .before .before .before .before .before .before .before .before .before .before .before .before .before .pre in
     let n = length-take-le (a .to - a .at) (drop (a .at) (a .words .now)) (omega (arith, length-drop (a .at) (a .words .now))) in
-    (renew-words (a .words .now) (a .at) (a .to) (p .1 .0) (p .1 .1 .0) _ (orderList d (a .i .0) (a .p .0)) (filled .ensures), (renew-bits (a .words .now) (a .at) (a .to) (p .1 .0) (p .1 .1 .0) _ (orderList d (a .i .0) (a .p .0)) (filled .ensures) (a .bits .now) _ ((c .before .before .mark-from) .ensures) (p .1 .1 .1), (counted .ensures .0 ∙ ap (λ (l : List ℕ). changed (take (a .to - a .at) (drop (a .at) (a .words .now))) (filledTo (length (take (a .to - a .at) (drop (a .at) (a .words .now)))) l)) (from-order d (a .i .0) (a .p .0) (p .0)) ∙ renew-changed (a .words .now) (a .at) (a .to) (p .1 .0) (p .1 .1 .0) _ (orderList d (a .i .0) (a .p .0)) (filled .ensures), omega (arith, counted .ensures .1))))
+    (renew-words (a .words .now) (a .at) (a .to) (p .1 .0) (p .1 .1 .0) _ (ownWordsOfOrder d (a .i .0) (a .p .0)) (filled .ensures), (renew-bits (a .words .now) (a .at) (a .to) (p .1 .0) (p .1 .1 .0) _ (ownWordsOfOrder d (a .i .0) (a .p .0)) (filled .ensures) (a .bits .now) _ ((c .before .before .mark-from) .ensures) (p .1 .1 .1), (counted .ensures .0 ∙ ap (λ (l : List ℕ). changed (take (a .to - a .at) (drop (a .at) (a .words .now))) (filledTo (length (take (a .to - a .at) (drop (a .at) (a .words .now)))) l)) (from-order d (a .i .0) (a .p .0) (p .0)) ∙ renew-changed (a .words .now) (a .at) (a .to) (p .1 .0) (p .1 .1 .0) _ (ownWordsOfOrder d (a .i .0) (a .p .0)) (filled .ensures), omega (arith, counted .ensures .1))))
 
 pub renew-table-spec : {M : Type 1} → statement M
 renew-table-spec = tie.close (tie.spec mul-count-table sub-count-table part-count-table-start part-count-table-end count-table-requires mul-fill-table sub-fill-table part-fill-table-start part-fill-table-end fill-table-requires mul-mark-from sub-mark-from part-mark-from-start part-mark-from-end mark-from-requires same-length same-length-2 returns)

@@ -1,5 +1,5 @@
 -- set_bit writes the byte that bit k stands in with the bit in it.
-use Rattle.tables.proofs.BitSets.{bit-replaced}
+use Rattle.tables.proofs.BitsReplaced.{bit-replaced}
 use borrow.Author.Needs.{needs}
 use Rattle.tables.proofs.refilling.set_bit.Statement.{statement}
 use Rattle.tables.proofs.refilling.set_bit.Tie as tie

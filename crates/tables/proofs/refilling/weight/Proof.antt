@@ -1,6 +1,6 @@
 -- weight shifts 1 by 7 less the bit's place.
 use native.Mathlib.Omega.{arith}
-use Rattle.tables.proofs.BitSets.{weighed}
+use Rattle.tables.proofs.BitsReplaced.{weighed}
 use Rattle.tables.proofs.refilling.weight.Statement.{statement}
 use Rattle.tables.proofs.refilling.weight.Tie as tie
 

@@ -4,7 +4,7 @@ use mathlib.Core.Path.{sym, subst}
 use native.Mathlib.Omega.{arith}
 use lib.Bits.{and-le-l}
 use borrow.Author.Needs.{needs}
-use Rattle.tables.proofs.BitSets.{bit-worth, with-is, withBit-lt}
+use Rattle.tables.proofs.BitsReplaced.{bit-worth, with-is, withBit-lt}
 use Rattle.tables.proofs.refilling.with_bit.Statement.{statement}
 use Rattle.tables.proofs.refilling.with_bit.Tie as tie
 

@@ -6,7 +6,7 @@ use borrow.Author.Needs.{needs}
 use borrow.Fn.Kinds.{In}
 use borrow.Fn.PlainCycle.{Measures, is, falls, and}
 use Rattle.files.specs.Rows.{domainIn}
-use Rattle.tables.proofs.Replugs.{run-past}
+use Rattle.tables.proofs.ReplugOutcomes.{run-past}
 use Rattle.tables.proofs.replugging.replug_checked.Reads as replug-checked
 use Rattle.tables.proofs.replugging.replug_checked.Kinds as replug-checked-kinds
 use Rattle.tables.proofs.replugging.+replug_checked.Lts-replug_checked as replug-checked-lts

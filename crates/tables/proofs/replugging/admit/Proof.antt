@@ -2,8 +2,8 @@
 use mathlib.Core.Path.{_∙_, ap}
 use native.Mathlib.Omega.{arith}
 use borrow.Author.Needs.{needs}
-use Rattle.tables.specs.Replugging.{pluggable}
-use Rattle.tables.proofs.Replugs.{admit-20, admit-16, admit-18, admit-all}
+use Rattle.tables.specs.ReplugCall.{pluggable}
+use Rattle.tables.proofs.ReplugOutcomes.{admit-20, admit-16, admit-18, admit-all}
 use Rattle.tables.proofs.replugging.admit.Statement.{statement}
 use Rattle.tables.proofs.replugging.admit.Tie as tie
 

@@ -1,6 +1,6 @@
 -- is_pluggable goes by the phy: a vacant one takes no drive, another goes by its type.
 use mathlib.Core.Path.{sym, ap}
-use Rattle.tables.specs.Replugging.{pluggable}
+use Rattle.tables.specs.ReplugCall.{pluggable}
 use borrow.Author.Needs.{needs}
 use Rattle.tables.proofs.replugging.is_pluggable.Statement.{statement}
 use Rattle.tables.proofs.replugging.is_pluggable.Tie as tie

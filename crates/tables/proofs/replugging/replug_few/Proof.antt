@@ -18,7 +18,7 @@ slice-aggregate-replug-in-3 c = search needs
 replug-in-requires : tie.Need-replug-in-requires
 replug-in-requires c κs =
     let at-pre = c .before .before .before .before .before .before .before .before .before .before .before .pre in
-    (at-pre .1, (record { lists = omega (arith, at-pre .0, length-replicate {A = ℕ} 1032 0); below = omega (arith, at-pre .0, length-replicate {A = ℕ} 528 0); order = omega (arith, at-pre .0, length-replicate {A = ℕ} 521 0) }, omega (arith, length-replicate {A = ℕ} 521 0)))
+    (at-pre .1, (record { lists = omega (arith, at-pre .0, length-replicate {A = ℕ} 1032 0); downstream = omega (arith, at-pre .0, length-replicate {A = ℕ} 528 0); order = omega (arith, at-pre .0, length-replicate {A = ℕ} 521 0) }, omega (arith, length-replicate {A = ℕ} 521 0)))
 
 same-length : tie.Need-same-length
 same-length c = search needs

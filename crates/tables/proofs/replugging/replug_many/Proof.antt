@@ -2,7 +2,7 @@
 use Prim.Native.Nat.{ℕ}
 use native.Mathlib.Omega.{arith}
 use lib.ListN.{length-replicate}
-use Rattle.files.proofs.InRows.{domain-few}
+use Rattle.files.proofs.RowsAsDomain.{domain-few}
 use borrow.Author.Needs.{needs}
 use Rattle.tables.proofs.replugging.replug_many.Statement.{statement}
 use Rattle.tables.proofs.replugging.replug_many.Tie as tie
@@ -20,7 +20,7 @@ replug-in-requires : tie.Need-replug-in-requires
 replug-in-requires c κs =
     let at-args = c .before .before .before .before .before .before .before .before .before .before .before .args in
     let at-pre = c .before .before .before .before .before .before .before .before .before .before .before .pre in
-    let h = domain-few (at-args .rows .now) in (at-pre, (record { lists = omega (arith, length-replicate {A = ℕ} 8256 0); below = omega (arith, length-replicate {A = ℕ} 4224 0); order = omega (arith, length-replicate {A = ℕ} 4161 0) }, omega (arith, length-replicate {A = ℕ} 4161 0)))
+    let h = domain-few (at-args .rows .now) in (at-pre, (record { lists = omega (arith, length-replicate {A = ℕ} 8256 0); downstream = omega (arith, length-replicate {A = ℕ} 4224 0); order = omega (arith, length-replicate {A = ℕ} 4161 0) }, omega (arith, length-replicate {A = ℕ} 4161 0)))
 
 same-length : tie.Need-same-length
 same-length c = search needs

@@ -3,14 +3,14 @@ use Prim.Native.Nat.{ℕ}
 use mathlib.Core.Path.{sym, ap, _∙_}
 use Rattle.files.specs.declared.Phy.{Phy}
 use Rattle.files.specs.declared.Phy.the-variants.{Present}
-use Rattle.tables.specs.Replugging.{replug}
+use Rattle.tables.specs.ReplugCall.{replug}
 use borrow.Author.Needs.{needs}
 use Rattle.tables.proofs.replugging.replug_phy.Statement.{statement}
 use Rattle.tables.proofs.replugging.replug_phy.Tie as tie
 
 -- a phy with this attribute, attached address and type
 abbrev drive : ℕ → ℕ → ℕ → Phy
-drive k a n = Present (record { device = n; attribute = k; address = a; far = record { 0 = 0 } })
+drive k a n = Present (record { deviceType = n; attribute = k; address = a; attachedPhy = record { 0 = 0 } })
 
 enum-known-f : tie.Need-enum-known-f
 enum-known-f c = search needs

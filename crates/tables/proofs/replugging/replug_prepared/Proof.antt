@@ -2,9 +2,9 @@
 use mathlib.Core.Path.{sym, ap, _∙_}
 use native.Mathlib.Omega.{arith}
 use Rattle.wiring.specs.Checks.{checkAnswer}
-use Rattle.files.specs.PhySet.{withWords}
-use Rattle.tables.specs.Replugging.{replug, retested}
-use Rattle.tables.proofs.Replugs.{rows-are, fars-then, owns-then, below-then, ready-then, size-then, enough-then, retested-fills, replug-refused, replug-done}
+use Rattle.files.specs.PhyReplaced.{withWords}
+use Rattle.tables.specs.ReplugCall.{replug, retested}
+use Rattle.tables.proofs.ReplugOutcomes.{rows-are, fars-then, owns-then, below-then, ready-then, size-then, enough-then, retested-fills, replug-refused, replug-done}
 use borrow.Author.Needs.{needs}
 use Rattle.tables.proofs.replugging.replug_prepared.Statement.{statement}
 use Rattle.tables.proofs.replugging.replug_prepared.Tie as tie
@@ -53,7 +53,7 @@ refill-all-requires c κs =
     let at-set-phy = c .before .before .before .before .before .before .before .before .before .before .before .before .before .before .before .before .before .before .before .before .set-phy in
     let at-renew-own = c .before .before .before .before .before .before .before .before .before .before .before .before .before .before .before .renew-own in
     let at-retest = c .before .before .before .before .before .before .before .before .before .retest in
-    let is = rows-are (at-args .rows .now) (at-args .e .0) (at-args .p .0) (at-args .a) (at-pre .1 .0) _ _ _ (at-phy-at .ensures) (at-replug-phy .ensures) (at-set-phy .ensures) in (fars-then (at-args .rows .now) (at-args .e .0) (at-args .p .0) (at-args .a) (at-pre .1 .0) _ is (at-args .first .now) (at-pre .0 .fars), (at-renew-own .ensures, (below-then (at-args .rows .now) (at-args .e .0) (at-args .p .0) (at-args .a) (at-pre .1 .0) _ is (at-args .below .now) (at-pre .0 .below), (omega (arith, at-retest .kept .1 .1 .1 .1 .1 .0, size-then (at-args .rows .now) (at-args .e .0) (at-args .p .0) (at-args .a) (at-pre .1 .0) _ is, at-pre .0 .room), (retested-fills (at-args .e .0) (at-args .a) _ _ (sym (at-retest .ensures) ∙ ap (checkAnswer _) ((c .before .before .before .before .before .enum-told) .given .1)), enough-then (at-args .rows .now) (at-args .e .0) (at-args .p .0) (at-args .a) (at-pre .1 .0) _ is _ (at-pre .1 .1))))))
+    let is = rows-are (at-args .rows .now) (at-args .e .0) (at-args .p .0) (at-args .a) (at-pre .1 .0) _ _ _ (at-phy-at .ensures) (at-replug-phy .ensures) (at-set-phy .ensures) in (fars-then (at-args .rows .now) (at-args .e .0) (at-args .p .0) (at-args .a) (at-pre .1 .0) _ is (at-args .first .now) (at-pre .0 .fars), (at-renew-own .ensures, (below-then (at-args .rows .now) (at-args .e .0) (at-args .p .0) (at-args .a) (at-pre .1 .0) _ is (at-args .downstream .now) (at-pre .0 .downstream), (omega (arith, at-retest .kept .1 .1 .1 .1 .1 .0, size-then (at-args .rows .now) (at-args .e .0) (at-args .p .0) (at-args .a) (at-pre .1 .0) _ is, at-pre .0 .room), (retested-fills (at-args .e .0) (at-args .a) _ _ (sym (at-retest .ensures) ∙ ap (checkAnswer _) ((c .before .before .before .before .before .enum-told) .given .1)), enough-then (at-args .rows .now) (at-args .e .0) (at-args .p .0) (at-args .a) (at-pre .1 .0) _ is _ (at-pre .1 .1))))))
 
 same-length : tie.Need-same-length
 same-length c = search needs

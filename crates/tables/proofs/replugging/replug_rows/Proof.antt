@@ -2,8 +2,8 @@
 use mathlib.Core.Path.{sym, ap, _∙_}
 use Rattle.files.specs.Rows.{domainIn}
 use Rattle.wiring.specs.Checks.{checkAnswer}
-use Rattle.wiring.proofs.Calls.{room-checked}
-use Rattle.tables.proofs.Replugs.{unchecked, as-run, replug-refused, replug-as, rows-stay, rows-as}
+use Rattle.wiring.proofs.CheckOutcomes.{room-checked}
+use Rattle.tables.proofs.ReplugOutcomes.{unchecked, as-run, replug-refused, replug-as, rows-stay, rows-as}
 use borrow.Author.Needs.{needs}
 use Rattle.tables.proofs.replugging.replug_rows.Statement.{statement}
 use Rattle.tables.proofs.replugging.replug_rows.Tie as tie

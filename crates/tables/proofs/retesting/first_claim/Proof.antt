@@ -3,12 +3,12 @@ use Prim.Native.Nat.{_-_, _≤_}
 use mathlib.Core.Path.{_≡_, refl}
 use lib.ListN.{drop}
 use Rattle.files.specs.Domain.{Domain}
-use Rattle.wiring.specs.Causes.{placesFrom, firstIn, firstOf}
-use Rattle.wiring.specs.Addresses.{isTaken}
+use Rattle.wiring.specs.PhyCauses.{placesFrom, firstIn, firstOf}
+use Rattle.wiring.specs.AddressIndex.{isTaken}
 use Rattle.files.specs.Rows.{domainIn}
-use Rattle.wiring.proofs.Searches.{from-end}
-use Rattle.tables.specs.Replugging.{claimedWith}
-use Rattle.tables.proofs.Retests.{taken-start, taken-next, claim-stop, claim-go}
+use Rattle.wiring.proofs.PlaceSearches.{from-end}
+use Rattle.tables.specs.ReplugCall.{claimedWith}
+use Rattle.tables.proofs.RetestLoops.{taken-start, taken-next, claim-stop, claim-go}
 use borrow.Author.Needs.{needs}
 use native.Mathlib.Omega.{arith}
 use Rattle.tables.proofs.retesting.first_claim.Statement.{statement}

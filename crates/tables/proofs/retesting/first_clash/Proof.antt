@@ -3,10 +3,10 @@ use Prim.Native.Nat.{ℕ, _-_, _≤_}
 use mathlib.Core.Path.{_≡_, sym, _∙_, ap}
 use native.Mathlib.Nat.{sub-zero}
 use Rattle.files.specs.Domain.{Domain}
-use Rattle.wiring.specs.Causes.{clashing, phyPlaces, firstIn}
+use Rattle.wiring.specs.PhyCauses.{clashing, phyPlaces, firstIn}
 use Rattle.files.specs.Rows.{domainIn}
-use Rattle.wiring.proofs.Searches.{phy-stop, phy-go, phy-end}
-use Rattle.tables.specs.Filling.{placesAt}
+use Rattle.wiring.proofs.PlaceSearches.{phy-stop, phy-go, phy-end}
+use Rattle.tables.specs.GrowingLists.{placesAt}
 use Rattle.wiring.specs.Checks.{checkAnswer}
 use borrow.Author.Needs.{needs}
 use native.Mathlib.Omega.{arith}

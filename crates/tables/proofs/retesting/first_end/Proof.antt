@@ -2,13 +2,13 @@
 use Prim.Native.Nat.{ℕ, _-_, _≤_}
 use mathlib.Core.Path.{_≡_, sym, _∙_, ap}
 use native.Mathlib.Nat.{sub-zero}
-use Rattle.files.proofs.InRows.{phy-held}
+use Rattle.files.proofs.RowsAsDomain.{phy-held}
 use Rattle.files.specs.Domain.{Domain}
-use Rattle.wiring.specs.Causes.{phyPlaces, firstIn}
+use Rattle.wiring.specs.PhyCauses.{phyPlaces, firstIn}
 use Rattle.files.specs.Rows.{domainIn}
-use Rattle.wiring.proofs.Searches.{phy-stop, phy-go, phy-end}
-use Rattle.tables.specs.Filling.{placesAt}
-use Rattle.tables.specs.Retests.{isEnd, endsAt}
+use Rattle.wiring.proofs.PlaceSearches.{phy-stop, phy-go, phy-end}
+use Rattle.tables.specs.GrowingLists.{placesAt}
+use Rattle.tables.specs.EndDeviceTests.{isEnd, endsAt}
 use Rattle.wiring.specs.Checks.{checkAnswer}
 use borrow.Author.Needs.{needs}
 use native.Mathlib.Omega.{arith}
@@ -30,8 +30,8 @@ loop-holds c =
     let e = sub-zero ((c .phy-count) .result) ∙ (c .phy-count) .ensures .0 in
     (omega arith, ap (λ (k : ℕ). firstIn 8 (endsAt ((c .before .before .args) .s) d) (phyPlaces ((c .before .before .args) .i .0) 0 k) d) e)
 
-phy-below-requires : tie.Need-phy-below-requires Inv-loop μ-loop
-phy-below-requires c κs = search needs
+phy-in-row-requires : tie.Need-phy-in-row-requires Inv-loop μ-loop
+phy-in-row-requires c κs = search needs
 
 is-end-requires : tie.Need-is-end-requires Inv-loop μ-loop
 is-end-requires c κs = search needs
@@ -44,7 +44,7 @@ unfolding endsAt
 returns c =
     let at-args = c .before .before .before .before .before .before .before .before .args in
     let d : Domain = domainIn (at-args .rows .now) in
-    ap (checkAnswer d) ((c .check-refused) .ensures) ∙ phy-stop 8 (endsAt (at-args .s) d) d (at-args .i .0) ((c .before .before .before .before .before .before .phy-count) .result) ((c .before .before .before .before .before .loop) .p) ((c .before .before .before .before .before .loop) .inv .1) (ap (isEnd (at-args .s)) (sym ((c .before .before .before .phy-below) .ensures ∙ phy-held _ _ _ (omega (arith, (c .before .before .before .before .before .before .phy-count) .ensures .0)))) ∙ sym ((c .before .before .is-end) .ensures) ∙ (c .before .if1) .taken) (omega arith)
+    ap (checkAnswer d) ((c .check-refused) .ensures) ∙ phy-stop 8 (endsAt (at-args .s) d) d (at-args .i .0) ((c .before .before .before .before .before .before .phy-count) .result) ((c .before .before .before .before .before .loop) .p) ((c .before .before .before .before .before .loop) .inv .1) (ap (isEnd (at-args .s)) (sym ((c .before .before .before .phy-in-row) .ensures ∙ phy-held _ _ _ (omega (arith, (c .before .before .before .before .before .before .phy-count) .ensures .0)))) ∙ sym ((c .before .before .is-end) .ensures) ∙ (c .before .if1) .taken) (omega arith)
 
 add-p : tie.Need-add-p Inv-loop μ-loop
 add-p c = omega arith
@@ -57,7 +57,7 @@ unfolding endsAt
 loop-again c =
     let at-args = c .before .before .before .before .before .before .before .args in
     let d : Domain = domainIn (at-args .rows .now) in
-    (omega arith, phy-go 8 (endsAt (at-args .s) d) d (at-args .i .0) ((c .before .before .before .before .before .phy-count) .result) ((c .before .before .before .before .loop) .p) ((c .before .before .before .before .loop) .inv .1) (ap (isEnd (at-args .s)) (sym ((c .before .before .phy-below) .ensures ∙ phy-held _ _ _ (omega (arith, (c .before .before .before .before .before .phy-count) .ensures .0)))) ∙ sym ((c .before .is-end) .ensures) ∙ (c .if1) .left) (omega arith))
+    (omega arith, phy-go 8 (endsAt (at-args .s) d) d (at-args .i .0) ((c .before .before .before .before .before .phy-count) .result) ((c .before .before .before .before .loop) .p) ((c .before .before .before .before .loop) .inv .1) (ap (isEnd (at-args .s)) (sym ((c .before .before .phy-in-row) .ensures ∙ phy-held _ _ _ (omega (arith, (c .before .before .before .before .before .phy-count) .ensures .0)))) ∙ sym ((c .before .is-end) .ensures) ∙ (c .if1) .left) (omega arith))
 
 returns-2 : tie.Need-returns-2 Inv-loop μ-loop
 returns-2 c =
@@ -65,4 +65,4 @@ returns-2 c =
     phy-end 8 (endsAt ((c .before .before .before .before .args) .s) d) d ((c .before .before .before .before .args) .i .0) ((c .before .before .phy-count) .result) ((c .before .loop) .p) ((c .before .loop) .inv .1) (omega arith)
 
 pub first-end-spec : {M : Type 1} → statement M
-first-end-spec = tie.close (tie.spec Inv-loop μ-loop phy-count-requires loop-holds phy-below-requires is-end-requires check-refused-requires returns add-p loop-less loop-again returns-2)
+first-end-spec = tie.close (tie.spec Inv-loop μ-loop phy-count-requires loop-holds phy-in-row-requires is-end-requires check-refused-requires returns add-p loop-less loop-again returns-2)

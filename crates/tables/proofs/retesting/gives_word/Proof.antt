@@ -8,7 +8,7 @@ use Rattle.files.specs.declared.Phy.{Phy}
 use Rattle.files.specs.Lists.{any}
 use Rattle.files.specs.Domain.{expanderAt, typeOf, attributeOf, bears}
 use Rattle.files.specs.Rows.{domainIn}
-use Rattle.tables.specs.Own.{lower, owns}
+use Rattle.tables.specs.OwnLists.{lower, owns}
 use borrow.Author.Needs.{needs}
 use native.Mathlib.Omega.{arith}
 use Rattle.tables.proofs.retesting.gives_word.Statement.{statement}

@@ -1,12 +1,12 @@
 -- is_borne meets its contract. The loop's invariant: no phy from q on and below p bears the address.
 use Prim.Native.Nat.{_≤_}
 use mathlib.Core.Path.{_≡_, refl, sym, _∙_}
-use Rattle.files.proofs.InRows.{phy-held}
+use Rattle.files.proofs.RowsAsDomain.{phy-held}
 use Rattle.files.specs.Lists.{any}
 use Rattle.files.specs.Domain.{Domain, expanderAt, bears}
 use Rattle.files.specs.Rows.{domainIn}
-use Rattle.tables.specs.Own.{lower}
-use Rattle.tables.proofs.Retests.{lower-stop, lower-go, lower-end}
+use Rattle.tables.specs.OwnLists.{lower}
+use Rattle.tables.proofs.RetestLoops.{lower-stop, lower-go, lower-end}
 use borrow.Author.Needs.{needs}
 use native.Mathlib.Omega.{arith}
 use Rattle.tables.proofs.retesting.is_borne.Statement.{statement}
@@ -24,8 +24,8 @@ loop-holds c = (omega arith, refl)
 sub-q : tie.Need-sub-q Inv-loop μ-loop
 sub-q c = omega arith
 
-phy-below-requires : tie.Need-phy-below-requires Inv-loop μ-loop
-phy-below-requires c κs = search needs
+phy-in-row-requires : tie.Need-phy-in-row-requires Inv-loop μ-loop
+phy-in-row-requires c κs = search needs
 
 phy-bears-requires : tie.Need-phy-bears-requires Inv-loop μ-loop
 phy-bears-requires c κs = search needs
@@ -36,7 +36,7 @@ returns c =
     let l = (c .before .before .before .before .loop) in
     let d : Domain = domainIn (a .rows .now) in
     let h = (c .before .before .before .before .before .before .pre) in
-    lower-stop (expanderAt d (a .i .0) .phys) (a .s) (l .q) (l .inv .1) (omega arith) ((c .before .before .phy-below) .ensures ∙ phy-held _ _ _ (omega arith)) (sym ((c .before .phy-bears) .ensures) ∙ (c .if1) .taken)
+    lower-stop (expanderAt d (a .i .0) .phys) (a .s) (l .q) (l .inv .1) (omega arith) ((c .before .before .phy-in-row) .ensures ∙ phy-held _ _ _ (omega arith)) (sym ((c .before .phy-bears) .ensures) ∙ (c .if1) .taken)
 
 loop-less : tie.Need-loop-less Inv-loop μ-loop
 loop-less c = omega arith
@@ -47,7 +47,7 @@ loop-again c =
     let l = (c .before .before .before .before .loop) in
     let d : Domain = domainIn (a .rows .now) in
     let h = (c .before .before .before .before .before .before .pre) in
-    (omega arith, lower-go (expanderAt d (a .i .0) .phys) (a .s) (l .q) (l .inv .1) (omega arith) ((c .before .before .phy-below) .ensures ∙ phy-held _ _ _ (omega arith)) (sym ((c .before .phy-bears) .ensures) ∙ (c .if1) .left))
+    (omega arith, lower-go (expanderAt d (a .i .0) .phys) (a .s) (l .q) (l .inv .1) (omega arith) ((c .before .before .phy-in-row) .ensures ∙ phy-held _ _ _ (omega arith)) (sym ((c .before .phy-bears) .ensures) ∙ (c .if1) .left))
 
 returns-2 : tie.Need-returns-2 Inv-loop μ-loop
 returns-2 c =
@@ -57,4 +57,4 @@ returns-2 c =
     lower-end (expanderAt d (a .i .0) .phys) (a .s) (l .q) (l .inv .1) (omega arith)
 
 pub is-borne-spec : {M : Type 1} → statement M
-is-borne-spec = tie.close (tie.spec Inv-loop μ-loop loop-holds sub-q phy-below-requires phy-bears-requires returns loop-less loop-again returns-2)
+is-borne-spec = tie.close (tie.spec Inv-loop μ-loop loop-holds sub-q phy-in-row-requires phy-bears-requires returns loop-less loop-again returns-2)

@@ -4,7 +4,7 @@ use mathlib.Core.Bool.{not}
 use lib.Dec.{eqb}
 use borrow.Author.Tests.{eq-eqb, ne-eqb}
 use Rattle.files.specs.Domain.{typeOf, addressOf, attributeOf}
-use Rattle.wiring.specs.Causes.{clash}
+use Rattle.wiring.specs.PhyCauses.{clash}
 use borrow.Author.Needs.{needs}
 use native.Mathlib.Omega.{arith}
 use Rattle.tables.proofs.retesting.is_clash.Statement.{statement}

@@ -4,7 +4,7 @@ use mathlib.Core.Path.{_≡_, sym, _∙_}
 use lib.ListN.{drop}
 use Rattle.files.specs.Domain.{numberOf}
 use Rattle.files.specs.Rows.{domainIn}
-use Rattle.tables.proofs.Retests.{expander-stop, expander-go, expander-end}
+use Rattle.tables.proofs.RetestLoops.{expander-stop, expander-go, expander-end}
 use borrow.Author.Needs.{needs}
 use native.Mathlib.Omega.{arith}
 use Rattle.tables.proofs.retesting.is_expander.Statement.{statement}

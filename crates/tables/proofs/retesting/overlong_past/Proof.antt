@@ -2,7 +2,7 @@
 use mathlib.Core.Path.{sym}
 use native.Mathlib.Omega.{arith}
 use Rattle.files.specs.Rows.{domainIn}
-use Rattle.tables.proofs.Judging.{by-fillable}
+use Rattle.tables.proofs.CallOutcomes.{by-fillable}
 use borrow.Author.Needs.{needs}
 use Rattle.tables.proofs.retesting.overlong_past.Statement.{statement}
 use Rattle.tables.proofs.retesting.overlong_past.Tie as tie

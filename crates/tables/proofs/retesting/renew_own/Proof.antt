@@ -7,9 +7,9 @@ use lib.ListN.{length, take, drop, length-drop, length-set}
 use lib.Seq.{length-take-le}
 use Rattle.files.specs.Domain.{Domain}
 use Rattle.files.specs.Rows.{domainIn}
-use Rattle.tables.specs.Own.{own}
-use Rattle.tables.proofs.Owns.{own-few}
-use Rattle.tables.proofs.Retests.{own-renewed}
+use Rattle.tables.specs.OwnLists.{ownWords}
+use Rattle.tables.proofs.OwnListLoops.{own-few}
+use Rattle.tables.proofs.RetestLoops.{own-renewed}
 use borrow.Author.Needs.{needs}
 use native.Mathlib.Omega.{arith}
 use Rattle.tables.proofs.retesting.renew_own.Statement.{statement}
@@ -75,7 +75,7 @@ returns-2 c =
     let mid : List ℕ = take (a + 1) ws ++ (r .last .1 .1 .0 ++ drop k (drop (a + 1) ws)) in
     let long : length (take k (drop (a + 1) ws)) ≡ k = length-take-le k (drop (a + 1) ws) (omega (arith, length-drop (a + 1) ws)) in
     let s = length-set mid a (r .result) ∙ same-len-mid (a + 1) k ws (r .last .1 .1 .0) (g .same) in
-    let few : (j : ℕ) → length (own d j) < 129 = λ j. omega (arith, own-few (x .rows .now) j) in
+    let few : (j : ℕ) → length (ownWords d j) < 129 = λ j. omega (arith, own-few (x .rows .now) j) in
     record { enough = omega arith; cell = own-renewed d (x .e .0) ws h few (omega arith) g a k refl long (omega arith) (omega arith) }
 
 pub renew-own-spec : {M : Type 1} → statement M

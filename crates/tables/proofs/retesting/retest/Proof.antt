@@ -2,8 +2,8 @@
 use mathlib.Core.Path.{refl, sym}
 use Rattle.files.specs.Domain.{Domain}
 use Rattle.files.specs.Rows.{domainIn}
-use Rattle.wiring.proofs.Searches.{told}
-use Rattle.tables.proofs.Retests.{retested-by}
+use Rattle.wiring.proofs.PlaceSearches.{told}
+use Rattle.tables.proofs.RetestLoops.{retested-by}
 use borrow.Author.Needs.{needs}
 use Rattle.tables.proofs.retesting.retest.Statement.{statement}
 use Rattle.tables.proofs.retesting.retest.Tie as tie

@@ -1,8 +1,8 @@
 -- needed answers the counts of the survey, whatever word it asks for.
 use mathlib.Core.Path.{sym, _∙_, ap}
-use Rattle.wiring.specs.Frames.{Result, good, then}
-use Rattle.tables.specs.Judge.{Counted, judged}
-use Rattle.tables.specs.Words.{Surveyed, surveyAnswer}
+use Rattle.wiring.specs.FrameDefinitions.{Result, good, then}
+use Rattle.tables.specs.JudgingCall.{Counted, judged}
+use Rattle.tables.specs.WordEntries.{Surveyed, surveyAnswer}
 use Rattle.tables.proofs.WordPlaces.{survey-counts}
 use borrow.Author.Needs.{needs}
 use Rattle.tables.proofs.surveys.needed.Statement.{statement}

@@ -1,8 +1,8 @@
 -- survey_in: the rows that the file is read into are its domain, and there is room for the entries.
 use mathlib.Core.Path.{sym, _∙_}
 use lib.Seq.{length-take-le}
-use Rattle.wiring.proofs.Opening.{opened-as, opened-fits}
-use Rattle.tables.proofs.Lawful.{judged-own}
+use Rattle.wiring.proofs.FileRows.{opened-as, opened-fits}
+use Rattle.tables.proofs.LevelListsByOwn.{judged-own}
 use Rattle.tables.proofs.WordPlaces.{file-refused, file-done}
 use borrow.Author.Needs.{needs}
 use Rattle.tables.proofs.surveys.survey_in.Statement.{statement}

@@ -1,9 +1,9 @@
 -- word_place answers the place of the survey for the word asked for.
 use mathlib.Core.Path.{sym, _∙_, ap}
-use Rattle.wiring.specs.Frames.{Result, then}
-use Rattle.tables.specs.Judge.{judged}
+use Rattle.wiring.specs.FrameDefinitions.{Result, then}
+use Rattle.tables.specs.JudgingCall.{judged}
 use Rattle.tables.specs.declared.Entry.{Entry}
-use Rattle.tables.specs.Words.{Surveyed, surveyAnswer}
+use Rattle.tables.specs.WordEntries.{Surveyed, surveyAnswer}
 use Rattle.tables.proofs.WordPlaces.{survey-place}
 use borrow.Author.Needs.{needs}
 use Rattle.tables.proofs.surveys.word_place.Statement.{statement}

@@ -4,10 +4,10 @@ use mathlib.Core.Path.{_≡_, refl, ap, _∙_}
 use native.Mathlib.Omega.{arith}
 use lib.ListN.{drop}
 use Rattle.files.specs.Domain.{Domain}
-use Rattle.wiring.specs.Causes.{placesFrom}
-use Rattle.wiring.specs.Frames.{refused}
+use Rattle.wiring.specs.PhyCauses.{placesFrom}
+use Rattle.wiring.specs.FrameDefinitions.{refused}
 use Rattle.files.specs.Rows.{domainIn}
-use Rattle.tables.specs.Words.{wordIn, wordPlace}
+use Rattle.tables.specs.WordEntries.{wordIn, wordPlace}
 use Rattle.tables.proofs.WordPlaces.{find-next, find-end}
 use borrow.Author.Needs.{needs}
 use Rattle.tables.proofs.word_places.place_of_word.Statement.{statement}

@@ -5,9 +5,9 @@ use mathlib.Core.List.{List, _++_}
 use native.Mathlib.Omega.{arith}
 use native.Mathlib.Nat.{sub-zero}
 use Rattle.files.specs.Domain.{Domain}
-use Rattle.wiring.specs.Causes.{Place, phyPlaces}
+use Rattle.wiring.specs.PhyCauses.{Place, phyPlaces}
 use Rattle.files.specs.Rows.{domainIn}
-use Rattle.tables.specs.Words.{wordIn}
+use Rattle.tables.specs.WordEntries.{wordIn}
 use Rattle.tables.proofs.WordPlaces.{seek-stop, seek-go, seek-end}
 use borrow.Author.Needs.{needs}
 use Rattle.tables.proofs.word_places.seek_at.Statement.{statement}

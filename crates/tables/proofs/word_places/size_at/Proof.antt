@@ -4,7 +4,7 @@ use native.Mathlib.Omega.{arith}
 use borrow.Author.Tests.{not-true, not-false}
 use Rattle.files.specs.Domain.{Domain}
 use Rattle.files.specs.Rows.{domainIn}
-use Rattle.tables.proofs.Puts.{size-by}
+use Rattle.tables.proofs.TablesPut.{size-by}
 use borrow.Author.Needs.{needs}
 use Rattle.tables.proofs.word_places.size_at.Statement.{statement}
 use Rattle.tables.proofs.word_places.size_at.Tie as tie
@@ -19,8 +19,8 @@ returns c =
     let e = size-by d (a .i .0) (a .p .0) (sym (c .before .is-table .ensures) ∙ not-true _ (c .if1 .taken)) in
     omega arith
 
-index-count-requires : tie.Need-index-count-requires
-index-count-requires c κs = search needs
+route-indexes-requires : tie.Need-route-indexes-requires
+route-indexes-requires c κs = search needs
 
 cast-result : tie.Need-cast-result
 cast-result c = search needs
@@ -33,4 +33,4 @@ returns-2 c =
     omega arith
 
 pub size-at-spec : {M : Type 1} → statement M
-size-at-spec = tie.close (tie.spec is-table-requires returns index-count-requires cast-result returns-2)
+size-at-spec = tie.close (tie.spec is-table-requires returns route-indexes-requires cast-result returns-2)

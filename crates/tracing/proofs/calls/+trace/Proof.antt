@@ -3,7 +3,7 @@ use mathlib.Core.Path.{sym}
 use native.Mathlib.Omega.{arith}
 use lib.ListN.{length}
 use lib.Seq.{length-take-le}
-use Rattle.tables.proofs.Wiring.{header-cut, stated-count-asked, stated-count-learnt}
+use Rattle.tables.proofs.WiringLemmas.{header-cut, stated-count-asked, stated-count-learnt}
 use Rattle.tracing.specs.Trace.{traceCall}
 use borrow.Author.Needs.{needs}
 use Prim.Native.Nat.{ℕ, _<_}

@@ -1,8 +1,8 @@
 -- request_rows meets its contract: the judging call's causes by own lists, and the request past them.
 use mathlib.Core.Path.{sym, _∙_, ap}
-use Rattle.tables.specs.Wiring.{checkAnswer}
-use Rattle.tables.proofs.Judging.{judged-room}
-use Rattle.tracing.proofs.Asked.{rows-refused, rows-done}
+use Rattle.tables.specs.WiringDefinitions.{checkAnswer}
+use Rattle.tables.proofs.CallOutcomes.{judged-room}
+use Rattle.tracing.proofs.RequestCauses.{rows-refused, rows-done}
 use borrow.Author.Needs.{needs}
 use Rattle.tracing.proofs.calls.request_rows.Statement.{statement}
 use Rattle.tracing.proofs.calls.request_rows.Tie as tie

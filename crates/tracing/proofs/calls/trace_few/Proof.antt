@@ -1,7 +1,7 @@
 -- trace_few meets its contract: the second byte states how many expanders there are, so the room is enough.
 use Prim.Native.Nat.{ℕ}
 use lib.ListN.{length-replicate}
-use Rattle.tables.proofs.Wiring.{stated-expanders, file-room}
+use Rattle.tables.proofs.WiringLemmas.{stated-expanders, file-room}
 use borrow.Author.Needs.{needs}
 use native.Mathlib.Omega.{arith}
 use Rattle.tracing.proofs.calls.trace_few.Statement.{statement}

@@ -1,7 +1,7 @@
 -- trace_many meets its contract: a file that is read has at most 64 expanders.
 use Prim.Native.Nat.{ℕ}
 use lib.ListN.{length-replicate}
-use Rattle.tables.proofs.Wiring.{read-good, file-room}
+use Rattle.tables.proofs.WiringLemmas.{read-good, file-room}
 use borrow.Author.Needs.{needs}
 use native.Mathlib.Omega.{arith}
 use Rattle.tracing.proofs.calls.trace_many.Statement.{statement}

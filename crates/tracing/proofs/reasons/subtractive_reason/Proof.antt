@@ -2,9 +2,9 @@
 use mathlib.Core.Path.{sym, _∙_, ap}
 use borrow.Author.Needs.{needs}
 use borrow.Author.Tests.{eq-eqb, ne-eqb}
-use Rattle.tables.specs.Wiring.{Domain, domainIn, addressOf}
+use Rattle.tables.specs.WiringDefinitions.{Domain, domainIn, addressOf}
 use Rattle.tracing.specs.Answers.{pickAnswer}
-use Rattle.tracing.proofs.WhichRule.{subtraction-at, subtraction-none}
+use Rattle.tracing.proofs.StepRules.{subtraction-at, subtraction-none}
 use Rattle.tracing.proofs.reasons.subtractive_reason.Statement.{statement}
 use Rattle.tracing.proofs.reasons.subtractive_reason.Tie as tie
 

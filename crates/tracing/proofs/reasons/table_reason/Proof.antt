@@ -2,12 +2,12 @@
 use mathlib.Core.Path.{sym, _∙_, ap}
 use native.Mathlib.Omega.{arith}
 use borrow.Author.Needs.{needs}
-use Rattle.tables.specs.Wiring.{Domain, domainIn}
+use Rattle.tables.specs.WiringDefinitions.{Domain, domainIn}
 use Rattle.tables.specs.Entries.{entries, counted}
 use Rattle.tracing.specs.Answers.{pickAnswer, subtractingPick}
 use Rattle.tracing.specs.Reasons.{because, bySubtraction}
-use Rattle.tracing.proofs.Picks.{listing-range}
-use Rattle.tracing.proofs.WhichRule.{entry-at, entry-none, index-stretch}
+use Rattle.tracing.proofs.PhyPicks.{listing-range}
+use Rattle.tracing.proofs.StepRules.{entry-at, entry-none, index-stretch}
 use Rattle.tracing.proofs.reasons.table_reason.Statement.{statement}
 use Rattle.tracing.proofs.reasons.table_reason.Tie as tie
 
@@ -27,7 +27,7 @@ returns c =
     let d : Domain = domainIn (a .rows .now) in
     let w = counted (entries (a .words .now) (a .bits .now)) in
     let e = ap pickAnswer (sym (c .before .before .before .before .before .p .given .1)) ∙ at-pick-listing .ensures in
-    c .told .ensures ∙ ap (because 3 _) (c .before .index-of .ensures ∙ index-stretch d w (a .i .0) _ (a .s) (c .before .before .index-count .ensures) (c .before .before .before .stretch-start .ensures .0))
+    c .told .ensures ∙ ap (because 3 _) (c .before .index-of .ensures ∙ index-stretch d w (a .i .0) _ (a .s) (c .before .before .route-indexes .ensures) (c .before .before .before .stretch-start .ensures .0))
     ∙ entry-at d w (a .i .0) (a .s) (bySubtraction d (a .i .0) (a .came) (subtractingPick d (a .i .0))) e
 
 returns-2 : tie.Need-returns-2
@@ -44,8 +44,8 @@ pick-listing-requires c κs = search needs
 enum-known-p : tie.Need-enum-known-p
 enum-known-p c = search needs
 
-index-count-requires : tie.Need-index-count-requires
-index-count-requires c κs = search needs
+route-indexes-requires : tie.Need-route-indexes-requires
+route-indexes-requires c κs = search needs
 
 told-requires : tie.Need-told-requires
 told-requires c κs = search needs
@@ -57,4 +57,4 @@ subtractive-reason-requires : tie.Need-subtractive-reason-requires
 subtractive-reason-requires c κs = search needs
 
 pub table-reason-spec : {M : Type 1} → statement M
-table-reason-spec = tie.close (tie.spec pick-listing-requires enum-known-p stretch-start-requires index-count-requires index-of-requires told-requires enum-told subtractive-reason-requires returns returns-2)
+table-reason-spec = tie.close (tie.spec pick-listing-requires enum-known-p stretch-start-requires route-indexes-requires index-of-requires told-requires enum-told subtractive-reason-requires returns returns-2)

@@ -3,10 +3,10 @@ use mathlib.Core.Path.{refl, sym, _∙_, ap}
 use native.Mathlib.Omega.{arith}
 use lib.ListN.{length}
 use borrow.Author.Tests.{eq-eqb, ne-eqb, le-leb, lt-leb, not-true, not-false}
-use Rattle.tables.specs.Wiring.{bytesFor, Domain, domainIn, checkAnswer}
+use Rattle.tables.specs.WiringDefinitions.{bytesFor, Domain, domainIn, checkAnswer}
 use Rattle.tables.specs.Tables.{needed}
 use Rattle.tracing.specs.Trace.{request}
-use Rattle.tracing.proofs.Asked.{requested-by}
+use Rattle.tracing.proofs.RequestCauses.{requested-by}
 use borrow.Author.Needs.{needs}
 use Rattle.tracing.proofs.requests.check_request.Statement.{statement}
 use Rattle.tracing.proofs.requests.check_request.Tie as tie

@@ -5,9 +5,9 @@ use native.Mathlib.Omega.{arith}
 use lib.Dec.{eqb}
 use lib.ListN.{length}
 use borrow.Author.Tests.{eq-eqb, ne-eqb, lt-ltb, le-ltb}
-use Rattle.tables.specs.Wiring.{Domain, typeOf}
-use Rattle.tables.specs.Wiring.{domainIn}
-use Rattle.tracing.proofs.Asked.{allowed-by}
+use Rattle.tables.specs.WiringDefinitions.{Domain, typeOf}
+use Rattle.tables.specs.WiringDefinitions.{domainIn}
+use Rattle.tracing.proofs.RequestCauses.{allowed-by}
 use borrow.Author.Needs.{needs}
 use Rattle.tracing.proofs.requests.is_allowed.Statement.{statement}
 use Rattle.tracing.proofs.requests.is_allowed.Tie as tie

@@ -1,12 +1,12 @@
 -- trace_rows meets its contract: past causes 15 to 18 there is a byte for each expander, as walk wants.
 use mathlib.Core.Path.{sym, _∙_, ap}
 use lib.ListN.{length}
-use Rattle.tables.specs.Wiring.{Domain}
-use Rattle.tables.specs.Wiring.{domainIn}
-use Rattle.tables.specs.Wiring.{checkAnswer}
+use Rattle.tables.specs.WiringDefinitions.{Domain}
+use Rattle.tables.specs.WiringDefinitions.{domainIn}
+use Rattle.tables.specs.WiringDefinitions.{checkAnswer}
 use Rattle.tables.specs.Entries.{entries, roomOf}
 use Rattle.tracing.specs.Trace.{request}
-use Rattle.tracing.proofs.Asked.{room, answer-no, answer-yes}
+use Rattle.tracing.proofs.RequestCauses.{room, answer-no, answer-yes}
 use borrow.Author.Needs.{needs}
 use Rattle.tracing.proofs.requests.trace_rows.Statement.{statement}
 use Rattle.tracing.proofs.requests.trace_rows.Tie as tie

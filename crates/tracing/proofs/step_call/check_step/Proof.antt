@@ -3,10 +3,10 @@ use mathlib.Core.Path.{refl, sym, _∙_, ap}
 use native.Mathlib.Omega.{arith}
 use borrow.Author.Needs.{needs}
 use borrow.Author.Tests.{eq-eqb, ne-eqb, le-leb, lt-leb, not-true, not-false}
-use Rattle.tables.specs.Wiring.{bytesFor, Domain, domainIn, checkAnswer}
+use Rattle.tables.specs.WiringDefinitions.{bytesFor, Domain, domainIn, checkAnswer}
 use Rattle.tables.specs.Tables.{needed}
 use Rattle.tracing.specs.Trace.{request}
-use Rattle.tracing.proofs.WhichRule.{stepRequested-by}
+use Rattle.tracing.proofs.StepRules.{stepRequested-by}
 use Rattle.tracing.proofs.step_call.check_step.Statement.{statement}
 use Rattle.tracing.proofs.step_call.check_step.Tie as tie
 

@@ -1,9 +1,9 @@
 -- judged_step meets its contract: the judging call's causes by own lists, and the step past them.
 use mathlib.Core.Path.{sym, _∙_, ap}
 use borrow.Author.Needs.{needs}
-use Rattle.tables.specs.Wiring.{checkAnswer}
-use Rattle.tables.proofs.Judging.{judged-room}
-use Rattle.tracing.proofs.WhichRule.{rows-no, rows-yes}
+use Rattle.tables.specs.WiringDefinitions.{checkAnswer}
+use Rattle.tables.proofs.CallOutcomes.{judged-room}
+use Rattle.tracing.proofs.StepRules.{rows-no, rows-yes}
 use Rattle.tracing.proofs.step_call.judged_step.Statement.{statement}
 use Rattle.tracing.proofs.step_call.judged_step.Tie as tie
 

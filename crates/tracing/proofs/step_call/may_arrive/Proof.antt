@@ -7,8 +7,8 @@ use lib.Dec.{eqb}
 use lib.ListN.{length}
 use borrow.Author.Needs.{needs}
 use borrow.Author.Tests.{eq-eqb, ne-eqb, lt-ltb, le-ltb}
-use Rattle.tables.specs.Wiring.{Domain, domainIn, typeOf}
-use Rattle.tracing.proofs.WhichRule.{stepAllowed-by}
+use Rattle.tables.specs.WiringDefinitions.{Domain, domainIn, typeOf}
+use Rattle.tracing.proofs.StepRules.{stepAllowed-by}
 use Rattle.tracing.proofs.step_call.may_arrive.Statement.{statement}
 use Rattle.tracing.proofs.step_call.may_arrive.Tie as tie
 

@@ -1,9 +1,9 @@
 -- step_in meets its contract: the rows that the file is read into are its domain, and there is room for the entries.
 use mathlib.Core.Path.{sym}
 use lib.Seq.{length-take-le}
-use Rattle.tables.proofs.Wiring.{opened-as, opened-fits}
-use Rattle.tables.proofs.Lawful.{judged-own}
-use Rattle.tracing.proofs.WhichRule.{file-no, file-yes}
+use Rattle.tables.proofs.WiringLemmas.{opened-as, opened-fits}
+use Rattle.tables.proofs.LevelListsByOwn.{judged-own}
+use Rattle.tracing.proofs.StepRules.{file-no, file-yes}
 use borrow.Author.Needs.{needs}
 use Rattle.tracing.proofs.step_call.step_in.Statement.{statement}
 use Rattle.tracing.proofs.step_call.step_in.Tie as tie

@@ -1,12 +1,12 @@
 -- step_rows: past the causes, the reason and the step are those of the definitions.
 use mathlib.Core.Path.{sym, _∙_, ap, ap₂}
 use borrow.Author.Needs.{needs}
-use Rattle.tables.specs.Wiring.{Domain, domainIn, checkAnswer}
+use Rattle.tables.specs.WiringDefinitions.{Domain, domainIn, checkAnswer}
 use Rattle.tables.specs.Entries.{entries}
 use Rattle.tracing.specs.declared.Reason.{Reason}
 use Rattle.tracing.specs.Steps.{Step}
 use Rattle.tracing.specs.Trace.{request}
-use Rattle.tracing.proofs.WhichRule.{asked-no, asked-yes}
+use Rattle.tracing.proofs.StepRules.{asked-no, asked-yes}
 use Rattle.tracing.proofs.step_call.step_rows.Statement.{statement}
 use Rattle.tracing.proofs.step_call.step_rows.Tie as tie
 

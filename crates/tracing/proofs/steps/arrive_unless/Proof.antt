@@ -1,8 +1,8 @@
 -- arrive_unless meets its contract: an attached phy that is not attached to an end device is attached to an expander.
 use mathlib.Core.Path.{sym, _∙_, ap}
 use borrow.Author.Tests.{eq-eqb, ne-eqb}
-use Rattle.tables.specs.Wiring.{domainIn, Phy, phyAt, typeOf, addressOf}
-use Rattle.tracing.proofs.Picks.{far-attached}
+use Rattle.tables.specs.WiringDefinitions.{domainIn, Phy, phyAt, typeOf, addressOf}
+use Rattle.tracing.proofs.PhyPicks.{far-attached}
 use borrow.Author.Needs.{needs}
 use Rattle.tracing.proofs.steps.arrive_unless.Statement.{statement}
 use Rattle.tracing.proofs.steps.arrive_unless.Tie as tie

@@ -1,7 +1,7 @@
 -- came_from meets its contract: by whether the request came in over a phy.
 use mathlib.Core.Path.{_∙_, ap}
 use borrow.Author.Tests.{eq-eqb, ne-eqb}
-use Rattle.tables.specs.Wiring.{addressOf}
+use Rattle.tables.specs.WiringDefinitions.{addressOf}
 use borrow.Author.Needs.{needs}
 use Rattle.tracing.proofs.steps.came_from.Statement.{statement}
 use Rattle.tracing.proofs.steps.came_from.Tie as tie

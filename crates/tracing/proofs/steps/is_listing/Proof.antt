@@ -2,11 +2,11 @@
 use mathlib.Core.Path.{_≡_, _∙_, ap}
 use native.Mathlib.Omega.{arith}
 use borrow.Author.Tests.{eq-eqb, ne-eqb, le-leb, lt-leb}
-use Rattle.tables.specs.Wiring.{Phy}
-use Rattle.tables.specs.Wiring.{Domain, phyAt, typeOf, attributeOf}
-use Rattle.tables.specs.Wiring.{domainIn}
+use Rattle.tables.specs.WiringDefinitions.{Phy}
+use Rattle.tables.specs.WiringDefinitions.{Domain, phyAt, typeOf, attributeOf}
+use Rattle.tables.specs.WiringDefinitions.{domainIn}
 use Rattle.tables.specs.Entries.{entries, counted}
-use Rattle.tracing.proofs.Picks.{in-stretch}
+use Rattle.tracing.proofs.PhyPicks.{in-stretch}
 use borrow.Author.Needs.{needs}
 use Rattle.tracing.proofs.steps.is_listing.Statement.{statement}
 use Rattle.tracing.proofs.steps.is_listing.Tie as tie
@@ -39,8 +39,8 @@ returns-2 c =
     let z : r .result ≡ attributeOf φ = r .ensures ∙ ap attributeOf e in
     rw (le-leb 2 (typeOf φ) (omega arith), ne-eqb (attributeOf φ) 2 (λ e. omega arith))
 
-index-count-requires : tie.Need-index-count-requires
-index-count-requires c κs = search needs
+route-indexes-requires : tie.Need-route-indexes-requires
+route-indexes-requires c κs = search needs
 
 cast-lists : tie.Need-cast-lists
 cast-lists c = search needs
@@ -61,7 +61,7 @@ returns-3 c =
     let r = c .before .before .before .phy-attribute in
     let z : r .result ≡ attributeOf φ = r .ensures ∙ ap attributeOf e in
     rw (le-leb 2 (typeOf φ) (omega arith), eq-eqb (attributeOf φ) 2 (omega arith))
-    (c .lists .ensures ∙ in-stretch d (counted (entries (a .words .now) (a .bits .now))) (a .i .0) (a .p .0) (a .s) (c .before .index-count .ensures) o)
+    (c .lists .ensures ∙ in-stretch d (counted (entries (a .words .now) (a .bits .now))) (a .i .0) (a .p .0) (a .s) (c .before .route-indexes .ensures) o)
 
 pub is-listing-spec : {M : Type 1} → statement M
-is-listing-spec = tie.close (tie.spec phy-at-requires phy-type-requires returns phy-attribute-requires returns-2 index-count-requires cast-lists lists-requires returns-3)
+is-listing-spec = tie.close (tie.spec phy-at-requires phy-type-requires returns phy-attribute-requires returns-2 route-indexes-requires cast-lists lists-requires returns-3)

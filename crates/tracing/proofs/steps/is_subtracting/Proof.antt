@@ -1,7 +1,7 @@
 -- is_subtracting meets its contract: type 2 or 3, and attribute 1.
 use native.Mathlib.Omega.{arith}
 use borrow.Author.Tests.{le-leb, lt-leb}
-use Rattle.tables.specs.Wiring.{typeOf}
+use Rattle.tables.specs.WiringDefinitions.{typeOf}
 use borrow.Author.Needs.{needs}
 use Rattle.tracing.proofs.steps.is_subtracting.Statement.{statement}
 use Rattle.tracing.proofs.steps.is_subtracting.Tie as tie

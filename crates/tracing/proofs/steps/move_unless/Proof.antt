@@ -1,9 +1,9 @@
 -- move_unless meets its contract: the entry of phy p has the number of the expander that is attached to it.
 use mathlib.Core.Path.{_∙_, ap}
-use Rattle.tables.specs.Wiring.{domainIn, addressOf, farOf}
-use Rattle.tables.proofs.Wiring.{far-in}
+use Rattle.tables.specs.WiringDefinitions.{domainIn, addressOf, attachedPhyOf}
+use Rattle.tables.proofs.WiringLemmas.{far-in}
 use Rattle.tracing.specs.Answers.{stepAnswer}
-use Rattle.tracing.proofs.Picks.{move-back, move-on}
+use Rattle.tracing.proofs.PhyPicks.{move-back, move-on}
 use borrow.Author.Needs.{needs}
 use Rattle.tracing.proofs.steps.move_unless.Statement.{statement}
 use Rattle.tracing.proofs.steps.move_unless.Tie as tie
@@ -19,11 +19,11 @@ returns c =
     let a = c .before .before .before .before .before .args in
     move-back (domainIn (a .rows .now)) (a .i .0) (a .p .0) (a .came) (stepAnswer (a .back)) (c .before .phy-address .ensures ∙ ap addressOf (c .before .before .phy-at .ensures)) (c .if1 .taken)
 
-far-number-requires : tie.Need-far-number-requires
-far-number-requires c κs = search needs
+attached-expander-requires : tie.Need-attached-expander-requires
+attached-expander-requires c κs = search needs
 
-phy-far-requires : tie.Need-phy-far-requires
-phy-far-requires c κs = search needs
+attached-phy-requires : tie.Need-attached-phy-requires
+attached-phy-requires c κs = search needs
 
 returns-2 : tie.Need-returns-2
 returns-2 c =
@@ -31,7 +31,7 @@ returns-2 c =
     let pre = c .before .before .before .before .before .before .before .pre in
     let e = c .before .before .before .before .phy-at .ensures in
     move-on (domainIn (a .rows .now)) (a .i .0) (a .p .0) (a .came) (stepAnswer (a .back)) (c .before .before .before .phy-address .ensures ∙ ap addressOf e) (c .before .before .if1 .left)
-    (c .before .far-number .ensures ∙ far-in (a .rows .now) (a .first .now) (a .i .0) (a .p .0) (pre .0) (pre .1)) (c .phy-far .ensures ∙ ap farOf e)
+    (c .before .attached-expander .ensures ∙ far-in (a .rows .now) (a .first .now) (a .i .0) (a .p .0) (pre .0) (pre .1)) (c .attached-phy .ensures ∙ ap attachedPhyOf e)
 
 pub move-unless-spec : {M : Type 1} → statement M
-move-unless-spec = tie.close (tie.spec phy-at-requires phy-address-requires returns far-number-requires phy-far-requires returns-2)
+move-unless-spec = tie.close (tie.spec phy-at-requires phy-address-requires returns attached-expander-requires attached-phy-requires returns-2)

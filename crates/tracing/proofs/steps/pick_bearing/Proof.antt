@@ -3,12 +3,12 @@ use Prim.Native.Nat.{ℕ, _-_, _≤_}
 use mathlib.Core.Path.{_≡_, sym, _∙_, ap}
 use native.Mathlib.Omega.{arith}
 use native.Mathlib.Nat.{sub-zero}
-use Rattle.tables.specs.Wiring.{numbers}
-use Rattle.tables.specs.Wiring.{Domain, bears}
-use Rattle.tables.specs.Wiring.{domainIn}
+use Rattle.tables.specs.WiringDefinitions.{numbers}
+use Rattle.tables.specs.WiringDefinitions.{Domain, bears}
+use Rattle.tables.specs.WiringDefinitions.{domainIn}
 use Rattle.tracing.specs.Steps.{pick, bearing}
 use Rattle.tracing.specs.Answers.{bearingPick}
-use Rattle.tracing.proofs.Picks.{pick-stop, pick-go, pick-end}
+use Rattle.tracing.proofs.PhyPicks.{pick-stop, pick-go, pick-end}
 use borrow.Author.Needs.{needs}
 use Rattle.tracing.proofs.steps.pick_bearing.Statement.{statement}
 use Rattle.tracing.proofs.steps.pick_bearing.Tie as tie

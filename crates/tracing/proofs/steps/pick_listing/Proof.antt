@@ -3,16 +3,16 @@ use Prim.Native.Nat.{ℕ, _+_, _-_, _*_, _≤_}
 use mathlib.Core.Path.{_≡_, sym, _∙_, ap}
 use native.Mathlib.Omega.{arith}
 use native.Mathlib.Nat.{sub-zero}
-use Rattle.tables.specs.Wiring.{numbers}
-use Rattle.tables.specs.Wiring.{Domain}
-use Rattle.tables.specs.Wiring.{domainIn}
-use Rattle.tables.specs.Wiring.{phyPlaces}
+use Rattle.tables.specs.WiringDefinitions.{numbers}
+use Rattle.tables.specs.WiringDefinitions.{Domain}
+use Rattle.tables.specs.WiringDefinitions.{domainIn}
+use Rattle.tables.specs.WiringDefinitions.{phyPlaces}
 use Rattle.tables.specs.Tables.{sizes}
 use Rattle.tables.specs.Entries.{entries, counted}
 use Rattle.tracing.specs.Steps.{pick, listing}
 use Rattle.tracing.specs.Answers.{listingPick, wordsBefore}
-use Rattle.tracing.proofs.Offsets.{phys-none, phys-next, offset-is}
-use Rattle.tracing.proofs.Picks.{pick-stop, pick-go, pick-end}
+use Rattle.tracing.proofs.StretchOffsets.{phys-none, phys-next, offset-is}
+use Rattle.tracing.proofs.PhyPicks.{pick-stop, pick-go, pick-end}
 use borrow.Author.Needs.{needs}
 use Rattle.tracing.proofs.steps.pick_listing.Statement.{statement}
 use Rattle.tracing.proofs.steps.pick_listing.Tie as tie

@@ -3,14 +3,14 @@ use Prim.Native.Nat.{ℕ, _-_, _≤_}
 use mathlib.Core.Path.{_≡_, sym, _∙_, ap}
 use native.Mathlib.Omega.{arith}
 use native.Mathlib.Nat.{sub-zero}
-use Rattle.tables.specs.Wiring.{numbers}
+use Rattle.tables.specs.WiringDefinitions.{numbers}
 use mathlib.Core.Bool.{_&&_}
-use Rattle.tables.specs.Wiring.{Phy}
-use Rattle.tables.specs.Wiring.{Domain, routes, toExpander}
-use Rattle.tables.specs.Wiring.{domainIn}
+use Rattle.tables.specs.WiringDefinitions.{Phy}
+use Rattle.tables.specs.WiringDefinitions.{Domain, isSubtractive, toExpander}
+use Rattle.tables.specs.WiringDefinitions.{domainIn}
 use Rattle.tracing.specs.Steps.{pick, subtracting}
 use Rattle.tracing.specs.Answers.{subtractingPick}
-use Rattle.tracing.proofs.Picks.{pick-stop, pick-go, pick-end}
+use Rattle.tracing.proofs.PhyPicks.{pick-stop, pick-go, pick-end}
 use borrow.Author.Needs.{needs}
 use Rattle.tracing.proofs.steps.pick_subtracting.Statement.{statement}
 use Rattle.tracing.proofs.steps.pick_subtracting.Tie as tie
@@ -42,7 +42,7 @@ returns c =
     let a = c .before .before .before .before .before .before .before .args in
     let d : Domain = domainIn (a .rows .now) in
     let l = c .before .before .before .before .loop in
-    let e = sym (c .before .is-subtracting .ensures ∙ ap (λ (φ : Phy). toExpander φ && routes 1 φ) (c .before .before .phy-at .ensures)) ∙ c .if1 .taken in
+    let e = sym (c .before .is-subtracting .ensures ∙ ap (λ (φ : Phy). toExpander φ && isSubtractive φ) (c .before .before .phy-at .ensures)) ∙ c .if1 .taken in
     pick-stop (subtracting d (a .i .0)) (c .before .before .before .before .before .phy-count .result) (l .p) (l .inv .1) e (omega arith)
 
 add-p : tie.Need-add-p Inv-loop μ-loop
@@ -56,7 +56,7 @@ loop-again c =
     let a = c .before .before .before .before .before .before .before .args in
     let d : Domain = domainIn (a .rows .now) in
     let l = c .before .before .before .before .loop in
-    let e = sym (c .before .is-subtracting .ensures ∙ ap (λ (φ : Phy). toExpander φ && routes 1 φ) (c .before .before .phy-at .ensures)) ∙ c .if1 .left in
+    let e = sym (c .before .is-subtracting .ensures ∙ ap (λ (φ : Phy). toExpander φ && isSubtractive φ) (c .before .before .phy-at .ensures)) ∙ c .if1 .left in
     (omega arith, pick-go (subtracting d (a .i .0)) (c .before .before .before .before .before .phy-count .result) (l .p) (l .inv .1) e (omega arith))
 
 returns-2 : tie.Need-returns-2 Inv-loop μ-loop

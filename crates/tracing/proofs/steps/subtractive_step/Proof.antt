@@ -1,8 +1,8 @@
 -- subtractive_step meets its contract: the phy that (iv) picks is attached to an expander.
 use mathlib.Core.Path.{sym, _∙_, ap}
-use Rattle.tables.specs.Wiring.{domainIn}
+use Rattle.tables.specs.WiringDefinitions.{domainIn}
 use Rattle.tracing.specs.Answers.{pickAnswer}
-use Rattle.tracing.proofs.Picks.{subtracting-far, subtractively-at, subtractively-none}
+use Rattle.tracing.proofs.PhyPicks.{subtracting-far, subtractively-at, subtractively-none}
 use borrow.Author.Needs.{needs}
 use Rattle.tracing.proofs.steps.subtractive_step.Statement.{statement}
 use Rattle.tracing.proofs.steps.subtractive_step.Tie as tie

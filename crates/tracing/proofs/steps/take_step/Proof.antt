@@ -2,11 +2,11 @@
 use Prim.Native.Nat.{ℕ}
 use mathlib.Core.Path.{sym, _∙_, ap}
 use borrow.Author.Tests.{eq-eqb, ne-eqb}
-use Rattle.tables.specs.Wiring.{Domain, expanderAt}
-use Rattle.tables.specs.Wiring.{domainIn}
+use Rattle.tables.specs.WiringDefinitions.{Domain, expanderAt}
+use Rattle.tables.specs.WiringDefinitions.{domainIn}
 use Rattle.tables.specs.Entries.{entries, counted}
 use Rattle.tracing.specs.Answers.{directStep}
-use Rattle.tracing.proofs.Picks.{step-by}
+use Rattle.tracing.proofs.PhyPicks.{step-by}
 use borrow.Author.Needs.{needs}
 use Rattle.tracing.proofs.steps.take_step.Statement.{statement}
 use Rattle.tracing.proofs.steps.take_step.Tie as tie

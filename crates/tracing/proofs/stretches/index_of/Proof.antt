@@ -5,11 +5,11 @@ use native.Mathlib.Omega.{arith}
 use native.Mathlib.Nat.{zero-add, sub-zero}
 use lib.ListN.{take, drop}
 use borrow.Author.Tests.{eqb-true, eqb-false}
-use Rattle.tables.specs.Wiring.{bitsOf}
+use Rattle.tables.specs.WiringDefinitions.{bitsOf}
 use Rattle.tables.specs.Entries.{entries, counted}
 use Rattle.tables.proofs.CountedWords.{counted-length}
 use Rattle.tracing.specs.Reasons.{indexOf}
-use Rattle.tracing.proofs.WhichRule.{index-out, index-stop, index-go, index-end}
+use Rattle.tracing.proofs.StepRules.{index-out, index-stop, index-go, index-end}
 use borrow.Author.Needs.{needs}
 use Rattle.tracing.proofs.stretches.index_of.Statement.{statement}
 use Rattle.tracing.proofs.stretches.index_of.Tie as tie

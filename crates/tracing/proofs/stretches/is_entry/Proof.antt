@@ -4,7 +4,7 @@ use mathlib.Core.Bool.{not}
 use native.Mathlib.Omega.{arith}
 use lib.Dec.{eqb}
 use borrow.Author.Needs.{needs}
-use Rattle.tracing.proofs.Offsets.{entry-clear, entry-set, entry-other, entry-zero}
+use Rattle.tracing.proofs.StretchOffsets.{entry-clear, entry-set, entry-other, entry-zero}
 use Rattle.tracing.proofs.stretches.is_entry.Statement.{statement}
 use Rattle.tracing.proofs.stretches.is_entry.Tie as tie
 

@@ -3,10 +3,10 @@ use mathlib.Core.Path.{_≡_, refl, sym, _∙_}
 use native.Mathlib.Omega.{arith}
 use lib.ListN.{take, drop}
 use borrow.Author.Tests.{eqb-true, eqb-false}
-use Rattle.tables.specs.Wiring.{isIn, bitsOf}
+use Rattle.tables.specs.WiringDefinitions.{isIn, bitsOf}
 use Rattle.tables.specs.Entries.{entries, counted}
 use Rattle.tables.proofs.CountedWords.{counted-length}
-use Rattle.tracing.proofs.Offsets.{lists-out, lists-stop, lists-go, lists-end}
+use Rattle.tracing.proofs.StretchOffsets.{lists-out, lists-stop, lists-go, lists-end}
 use Rattle.tracing.proofs.stretches.lists.Statement.{statement}
 use Rattle.tracing.proofs.stretches.lists.Tie as tie
 

@@ -2,10 +2,10 @@
 use Prim.Native.Nat.{_+_, _-_, _*_, _≤_}
 use mathlib.Core.Path.{_≡_, sym, _∙_}
 use native.Mathlib.Omega.{arith}
-use Rattle.tables.specs.Wiring.{domainIn, phyPlaces}
+use Rattle.tables.specs.WiringDefinitions.{domainIn, phyPlaces}
 use Rattle.tables.specs.Tables.{sizes}
 use Rattle.tracing.specs.Answers.{wordsBefore}
-use Rattle.tracing.proofs.Offsets.{phys-none, phys-next, offset-is}
+use Rattle.tracing.proofs.StretchOffsets.{phys-none, phys-next, offset-is}
 use borrow.Author.Needs.{needs}
 use Rattle.tracing.proofs.stretches.stretch_start.Statement.{statement}
 use Rattle.tracing.proofs.stretches.stretch_start.Tie as tie

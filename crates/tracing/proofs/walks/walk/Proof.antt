@@ -4,13 +4,13 @@ use mathlib.Core.Path.{_≡_, refl, sym, _∙_, ap}
 use native.Mathlib.Omega.{arith}
 use native.Mathlib.Nat.{sub-zero}
 use lib.ListN.{length, take, drop, length-set}
-use Rattle.tables.specs.Wiring.{Domain}
-use Rattle.tables.specs.Wiring.{domainIn}
+use Rattle.tables.specs.WiringDefinitions.{Domain}
+use Rattle.tables.specs.WiringDefinitions.{domainIn}
 use Rattle.tables.specs.Entries.{entries, counted}
 use Rattle.tracing.specs.declared.Outcome.the-variants.{Arrived, NoDestination, BadDestination}
 use Rattle.tracing.specs.Trace.{after, afterStep, traceFrom, request, traced}
 use Rattle.tracing.specs.Answers.{stepAnswer}
-use Rattle.tracing.proofs.Turns.{kept, walk-stop, walk-go, walk-end}
+use Rattle.tracing.proofs.WalkTurns.{kept, walk-stop, walk-go, walk-end}
 use borrow.Author.Needs.{needs}
 use Rattle.tracing.proofs.walks.walk.Statement.{statement}
 use Rattle.tracing.proofs.walks.walk.Tie as tie

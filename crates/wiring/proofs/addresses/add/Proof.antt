@@ -1,6 +1,6 @@
 -- add meets its contract: where the walk ends at a slot, that is the lowest with the address; else the new slot goes into the free cell.
 use mathlib.Core.Path.{refl}
-use Rattle.wiring.proofs.Indexing.{can-search, added-same, added-new}
+use Rattle.wiring.proofs.IndexWriting.{can-search, added-same, added-new}
 use borrow.Author.Needs.{needs}
 use native.Mathlib.Omega.{arith}
 use Rattle.wiring.proofs.addresses.add.Statement.{statement}

@@ -1,7 +1,7 @@
 -- add_first meets its contract: by what is attached, an end device goes into the tree, and who has the address is written.
 use mathlib.Core.Path.{sym, _∙_}
-use Rattle.wiring.proofs.Indexing.{phy-few, here-few, first-nothing, first-can, first-device, first-look, first-other}
-use Rattle.wiring.proofs.Kept.{kept-none, first-kept}
+use Rattle.wiring.proofs.IndexWriting.{phy-few, here-few, first-nothing, first-can, first-device, first-look, first-other}
+use Rattle.wiring.proofs.IndexKept.{kept-none, first-kept}
 use borrow.Author.Needs.{needs}
 use native.Mathlib.Omega.{arith}
 use Rattle.wiring.proofs.addresses.add_first.Statement.{statement}

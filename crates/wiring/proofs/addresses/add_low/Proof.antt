@@ -1,7 +1,7 @@
 -- add_low meets its contract: an attached phy goes into the tree of its expander, and the lowest with its address is written.
 use mathlib.Core.Path.{sym, _∙_}
-use Rattle.wiring.proofs.Indexing.{phy-few, here-few, low-none, low-can, low-next}
-use Rattle.wiring.proofs.Kept.{kept-none, low-kept}
+use Rattle.wiring.proofs.IndexWriting.{phy-few, here-few, low-none, low-can, low-next}
+use Rattle.wiring.proofs.IndexKept.{kept-none, low-kept}
 use borrow.Author.Needs.{needs}
 use native.Mathlib.Omega.{arith}
 use Rattle.wiring.proofs.addresses.add_low.Statement.{statement}

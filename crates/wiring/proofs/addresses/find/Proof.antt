@@ -4,8 +4,8 @@ use Prim.Native.Nat.{_+_, _-_, _*_, _%_}
 use mathlib.Core.Path.{sym, _∙_}
 use lib.ListN.{length}
 use Rattle.files.specs.Rows.{domainIn}
-use Rattle.wiring.specs.Addresses.{addressFrom}
-use Rattle.wiring.proofs.EndDevices.{listed-at}
+use Rattle.wiring.specs.AddressIndex.{addressFrom}
+use Rattle.wiring.proofs.SlotDevices.{listed-at}
 use Rattle.wiring.proofs.SearchTrees.{Going, left, going-first, going-end, going-slot, going-found, next-within, going-next, going-less}
 use native.Mathlib.Omega.{arith}
 use Rattle.wiring.proofs.addresses.find.Statement.{statement}

@@ -1,5 +1,5 @@
 -- index_few meets its contract: each tree has room for the slots of so many expanders.
-use Rattle.wiring.proofs.Indexing.{none-yet, no-lows}
+use Rattle.wiring.proofs.IndexWriting.{none-yet, no-lows}
 use borrow.Author.Needs.{needs}
 use native.Mathlib.Omega.{arith}
 use Rattle.wiring.proofs.addresses.index_few.Statement.{statement}

@@ -1,6 +1,6 @@
 -- index_many meets its contract: the tree has room for the slots of all expanders.
-use Rattle.files.proofs.InRows.{domain-few}
-use Rattle.wiring.proofs.Indexing.{none-yet, no-lows}
+use Rattle.files.proofs.RowsAsDomain.{domain-few}
+use Rattle.wiring.proofs.IndexWriting.{none-yet, no-lows}
 use borrow.Author.Needs.{needs}
 use native.Mathlib.Omega.{arith}
 use Rattle.wiring.proofs.addresses.index_many.Statement.{statement}

@@ -4,7 +4,7 @@ use mathlib.Core.Path.{_≡_, sym, _∙_}
 use lib.ListN.{drop}
 use Rattle.files.specs.Domain.{numberOf}
 use Rattle.files.specs.Rows.{domainIn}
-use Rattle.wiring.proofs.Finding.{number-stop, number-go, number-end}
+use Rattle.wiring.proofs.ExpanderNumbers.{number-stop, number-go, number-end}
 use borrow.Author.Needs.{needs}
 use native.Mathlib.Omega.{arith}
 use Rattle.wiring.proofs.addresses.number_of.Statement.{statement}

@@ -3,16 +3,16 @@ use Prim.Native.Nat.{_-_, _≤_}
 use mathlib.Core.Path.{_≡_, refl, _∙_}
 use lib.ListN.{length}
 use Rattle.files.specs.Rows.{domainIn}
-use Rattle.wiring.specs.Addresses.{slotsBefore, FirstsTo, LowsBefore, tells, attachedAt, KeptBut}
-use Rattle.wiring.proofs.Indexing.{phys-start, all-indexed}
-use Rattle.wiring.proofs.Kept.{kept-none, kept-then}
+use Rattle.wiring.specs.AddressIndex.{slotsBefore, FirstsTo, LowsBefore, tells, attachedAt, EntriesKeptBut}
+use Rattle.wiring.proofs.IndexWriting.{phys-start, all-indexed}
+use Rattle.wiring.proofs.IndexKept.{kept-none, kept-then}
 use borrow.Author.Needs.{needs}
 use native.Mathlib.Omega.{arith}
 use Rattle.wiring.proofs.addresses.put_all.Statement.{statement}
 use Rattle.wiring.proofs.addresses.put_all.Tie as tie
 
 abbrev Inv-loop : tie.InvT-loop
-Inv-loop rows cells₀ size first₀ low₀ n i₀ cells first low i = (i ≤ n) × ((length cells ≡ length cells₀) × ((length first ≡ length first₀) × ((length low ≡ length low₀) × ((FirstsTo (domainIn rows) (slotsBefore i) size cells first × KeptBut (tells (domainIn rows)) first₀ first) × (LowsBefore (domainIn rows) i low × KeptBut (attachedAt (domainIn rows)) low₀ low)))))
+Inv-loop rows cells₀ size first₀ low₀ n i₀ cells first low i = (i ≤ n) × ((length cells ≡ length cells₀) × ((length first ≡ length first₀) × ((length low ≡ length low₀) × ((FirstsTo (domainIn rows) (slotsBefore i) size cells first × EntriesKeptBut (tells (domainIn rows)) first₀ first) × (LowsBefore (domainIn rows) i low × EntriesKeptBut (attachedAt (domainIn rows)) low₀ low)))))
 
 abbrev μ-loop : tie.MeasureT-loop
 μ-loop rows cells₀ size first₀ low₀ n i₀ cells first low i = n - i

@@ -3,16 +3,16 @@ use Prim.Native.Nat.{_-_, _≤_}
 use mathlib.Core.Path.{_≡_, refl, _∙_}
 use lib.ListN.{length, length-set}
 use Rattle.files.specs.Rows.{domainIn}
-use Rattle.wiring.specs.Addresses.{FirstsTo, tells, KeptBut}
-use Rattle.wiring.proofs.Indexing.{expander-can, expander-next, expanders-end}
-use Rattle.wiring.proofs.Kept.{kept-none, kept-then, expander-kept}
+use Rattle.wiring.specs.AddressIndex.{FirstsTo, tells, EntriesKeptBut}
+use Rattle.wiring.proofs.IndexWriting.{expander-can, expander-next, expanders-end}
+use Rattle.wiring.proofs.IndexKept.{kept-none, kept-then, expander-kept}
 use borrow.Author.Needs.{needs}
 use native.Mathlib.Omega.{arith}
 use Rattle.wiring.proofs.addresses.put_expanders.Statement.{statement}
 use Rattle.wiring.proofs.addresses.put_expanders.Tie as tie
 
 abbrev Inv-loop : tie.InvT-loop
-Inv-loop rows cells₀ size first₀ n j₀ cells first j = (j ≤ n) × ((length cells ≡ length cells₀) × ((length first ≡ length first₀) × (FirstsTo (domainIn rows) j size cells first × KeptBut (tells (domainIn rows)) first₀ first)))
+Inv-loop rows cells₀ size first₀ n j₀ cells first j = (j ≤ n) × ((length cells ≡ length cells₀) × ((length first ≡ length first₀) × (FirstsTo (domainIn rows) j size cells first × EntriesKeptBut (tells (domainIn rows)) first₀ first)))
 
 abbrev μ-loop : tie.MeasureT-loop
 μ-loop rows cells₀ size first₀ n j₀ cells first j = n - j

@@ -2,18 +2,18 @@
 use Prim.Native.Nat.{_-_, _≤_}
 use mathlib.Core.Path.{_≡_, refl, _∙_}
 use lib.ListN.{length}
-use Rattle.files.proofs.InRows.{phy-held}
+use Rattle.files.proofs.RowsAsDomain.{phy-held}
 use Rattle.files.specs.Rows.{domainIn}
-use Rattle.wiring.specs.Addresses.{slotOf, FirstsTo, tells, KeptBut}
-use Rattle.wiring.proofs.Indexing.{firsts-start, phys-end}
-use Rattle.wiring.proofs.Kept.{kept-none, kept-then}
+use Rattle.wiring.specs.AddressIndex.{slotOf, FirstsTo, tells, EntriesKeptBut}
+use Rattle.wiring.proofs.IndexWriting.{firsts-start, phys-end}
+use Rattle.wiring.proofs.IndexKept.{kept-none, kept-then}
 use borrow.Author.Needs.{needs}
 use native.Mathlib.Omega.{arith}
 use Rattle.wiring.proofs.addresses.put_first.Statement.{statement}
 use Rattle.wiring.proofs.addresses.put_first.Tie as tie
 
 abbrev Inv-loop : tie.InvT-loop
-Inv-loop rows cells₀ size i first₀ n p₀ cells first p = (p ≤ n) × ((length cells ≡ length cells₀) × ((length first ≡ length first₀) × (FirstsTo (domainIn rows) (slotOf (i .0) p) size cells first × KeptBut (tells (domainIn rows)) first₀ first)))
+Inv-loop rows cells₀ size i first₀ n p₀ cells first p = (p ≤ n) × ((length cells ≡ length cells₀) × ((length first ≡ length first₀) × (FirstsTo (domainIn rows) (slotOf (i .0) p) size cells first × EntriesKeptBut (tells (domainIn rows)) first₀ first)))
 
 abbrev μ-loop : tie.MeasureT-loop
 μ-loop rows cells₀ size i first₀ n p₀ cells first p = n - p
@@ -24,11 +24,11 @@ phy-count-requires c κs = search needs
 loop-holds : tie.Need-loop-holds Inv-loop μ-loop
 loop-holds c = (omega arith, (refl, (refl, (firsts-start _ _ _ _ _ (c .before .before .before .before .pre .0), kept-none _))))
 
-phy-below-requires : tie.Need-phy-below-requires Inv-loop μ-loop
-phy-below-requires c κs = search needs
+phy-in-row-requires : tie.Need-phy-in-row-requires Inv-loop μ-loop
+phy-in-row-requires c κs = search needs
 
 add-first-requires : tie.Need-add-first-requires Inv-loop μ-loop
-add-first-requires c κs = (c .before .before .before .before .loop .inv .1 .1 .1 .0, (c .before .before .phy-below .ensures ∙ phy-held _ _ _ (omega (arith, c .before .before .before .before .before .phy-count .ensures .0)), omega (arith, c .before .before .before .before .before .phy-count .ensures .0)))
+add-first-requires c κs = (c .before .before .before .before .loop .inv .1 .1 .1 .0, (c .before .before .phy-in-row .ensures ∙ phy-held _ _ _ (omega (arith, c .before .before .before .before .before .phy-count .ensures .0)), omega (arith, c .before .before .before .before .before .phy-count .ensures .0)))
 
 add-p : tie.Need-add-p Inv-loop μ-loop
 add-p c = omega arith
@@ -51,4 +51,4 @@ returns c =
     (phys-end _ _ _ _ _ _ (at-pre .1) (omega (arith, c .before .before .phy-count .ensures .1)) (omega (arith, c .before .before .phy-count .ensures .0)) (c .before .loop .inv .1 .1 .1 .0), c .before .loop .inv .1 .1 .1 .1)
 
 pub put-first-spec : {M : Type 1} → statement M
-put-first-spec = tie.close (tie.spec Inv-loop μ-loop phy-count-requires loop-holds phy-below-requires add-first-requires add-p loop-less loop-again same-length same-length-2 returns)
+put-first-spec = tie.close (tie.spec Inv-loop μ-loop phy-count-requires loop-holds phy-in-row-requires add-first-requires add-p loop-less loop-again same-length same-length-2 returns)

@@ -1,7 +1,7 @@
 -- check_wiring meets its contract: the answers of the four searches in order.
 use mathlib.Core.Path.{refl, sym}
 use Rattle.files.specs.Rows.{domainIn}
-use Rattle.wiring.proofs.Searches.{told, wired-by}
+use Rattle.wiring.proofs.PlaceSearches.{told, wired-by}
 use borrow.Author.Needs.{needs}
 use Rattle.wiring.proofs.causes.check_wiring.Statement.{statement}
 use Rattle.wiring.proofs.causes.check_wiring.Tie as tie

@@ -2,10 +2,10 @@
 use Prim.Native.Nat.{_-_, _≤_}
 use mathlib.Core.Path.{_≡_, refl}
 use lib.ListN.{drop}
-use Rattle.wiring.specs.Causes.{placesFrom, firstIn, firstOf}
+use Rattle.wiring.specs.PhyCauses.{placesFrom, firstIn, firstOf}
 use Rattle.wiring.specs.Checks.{causeOf}
 use Rattle.files.specs.Rows.{domainIn}
-use Rattle.wiring.proofs.Searches.{from-next, from-end}
+use Rattle.wiring.proofs.PlaceSearches.{from-next, from-end}
 use borrow.Author.Needs.{needs}
 use native.Mathlib.Omega.{arith}
 use Rattle.wiring.proofs.causes.first_of.Statement.{statement}

@@ -5,7 +5,7 @@ use mathlib.Core.Bool.{false}
 use borrow.Author.Count.{below-more}
 use Rattle.wiring.specs.Checks.{checkAnswer, causeOf}
 use Rattle.files.specs.Rows.{domainIn}
-use Rattle.wiring.proofs.Searches.{phy-skip, phy-stop, phy-end}
+use Rattle.wiring.proofs.PlaceSearches.{phy-skip, phy-stop, phy-end}
 use borrow.Author.Needs.{needs}
 use native.Mathlib.Omega.{arith}
 use Rattle.wiring.proofs.causes.first_phy.Statement.{statement}

@@ -20,14 +20,14 @@ returns-2 c =
     let a = c .before .before .before .before .args in
     simp (le-leb 2 (typeOf (a .f)) (omega arith), ne-eqb (addressOf (a .f)) (a .s) (λ e. omega arith))
 
-phy-far-requires : tie.Need-phy-far-requires
-phy-far-requires c κs = search needs
+attached-phy-requires : tie.Need-attached-phy-requires
+attached-phy-requires c κs = search needs
 
 returns-3 : tie.Need-returns-3
 returns-3 c =
     let a = c .before .before .before .before .before .before .before .args in
-    let phy-far = c .before .before .phy-far in
-    simp (le-leb 2 (typeOf (a .f)) (omega arith), eq-eqb (addressOf (a .f)) (a .s) (omega arith), phy-far .ensures)
+    let attached-phy = c .before .before .attached-phy in
+    simp (le-leb 2 (typeOf (a .f)) (omega arith), eq-eqb (addressOf (a .f)) (a .s) (omega arith), attached-phy .ensures)
 
 pub is-naming-spec : {M : Type 1} → statement M
-is-naming-spec = tie.close (tie.spec phy-type-requires returns phy-address-requires returns-2 phy-far-requires returns-3)
+is-naming-spec = tie.close (tie.spec phy-type-requires returns phy-address-requires returns-2 attached-phy-requires returns-3)

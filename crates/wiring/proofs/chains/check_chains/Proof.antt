@@ -3,8 +3,8 @@ use Prim.Native.Nat.{_/_}
 use mathlib.Core.Path.{sym, _∙_, ap}
 use native.Mathlib.Omega.{arith}
 use borrow.Author.Needs.{needs}
-use Rattle.wiring.proofs.Bitsets.{all-below, left-count}
-use Rattle.wiring.proofs.Calls.{chains-few, chains-long, chains-short}
+use Rattle.wiring.proofs.RoundSets.{all-below, left-count}
+use Rattle.wiring.proofs.CheckOutcomes.{chains-few, chains-long, chains-short}
 use Rattle.wiring.specs.Checks.{checkAnswer}
 use Rattle.files.specs.Rows.{domainIn}
 use Rattle.wiring.proofs.chains.check_chains.Statement.{statement}

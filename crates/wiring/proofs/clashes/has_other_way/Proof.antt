@@ -1,16 +1,16 @@
 -- has_other_way meets its contract. The loop's invariant: no phy from q on and below p is subtractive and attached. The first that is tells,
--- because those below it lead where it leads.
+-- because those downstream of it lead where it leads.
 use Prim.Native.Nat.{ℕ, _-_, _≤_, _<_}
 use mathlib.Core.Path.{_≡_, sym, _∙_, ap}
 use mathlib.Core.Logic.{by-cases}
 use mathlib.Core.Bool.{false, not}
 use native.Mathlib.Decide.{ℕ-discrete}
 use lib.Dec.{eqb}
-use Rattle.files.proofs.InRows.{phy-held}
+use Rattle.files.proofs.RowsAsDomain.{phy-held}
 use Rattle.files.specs.Domain.{phyAt, addressOf}
 use Rattle.files.specs.Rows.{domainIn}
 use Rattle.wiring.specs.Clashes.{subtractive}
-use Rattle.files.proofs.Members.{was-true}
+use Rattle.files.proofs.ListMembers.{was-true}
 use Rattle.wiring.proofs.LowerPhys.{way-found, way-none}
 use borrow.Author.Needs.{needs}
 use native.Mathlib.Omega.{arith}
@@ -29,8 +29,8 @@ loop-holds c = (omega arith, λ r h k. absurd (omega arith))
 sub-q : tie.Need-sub-q Inv-loop μ-loop
 sub-q c = omega arith
 
-phy-below-requires : tie.Need-phy-below-requires Inv-loop μ-loop
-phy-below-requires c κs = search needs
+phy-in-row-requires : tie.Need-phy-in-row-requires Inv-loop μ-loop
+phy-in-row-requires c κs = search needs
 
 is-subtractive-requires : tie.Need-is-subtractive-requires Inv-loop μ-loop
 is-subtractive-requires c κs = search needs
@@ -45,7 +45,7 @@ returns c =
     let l = c .before .before .before .before .before .loop in
     let d = domainIn (a .rows .now) in
     let w = pre .within in
-    let e = c .before .before .before .phy-below .ensures ∙ phy-held _ _ _ (omega arith) in
+    let e = c .before .before .before .phy-in-row .ensures ∙ phy-held _ _ _ (omega arith) in
     ap (λ (x : ℕ). not (eqb x (a .s))) (c .phy-address .ensures ∙ ap addressOf e)
     ∙ way-found d (a .i .0) (a .p .0) pre (a .s) (l .q - 1) (omega arith)
     (was-true _ (sym (c .before .before .is-subtractive .ensures ∙ ap subtractive e) ∙ c .before .if1 .taken)) (λ r h k. l .inv .1 r (omega arith) k)
@@ -60,7 +60,7 @@ loop-again c =
     let l = c .before .before .before .before .loop in
     let d = domainIn (a .rows .now) in
     let w = at-pre .within in
-    let e = c .before .before .phy-below .ensures ∙ phy-held _ _ _ (omega arith) in (
+    let e = c .before .before .phy-in-row .ensures ∙ phy-held _ _ _ (omega arith) in (
       omega arith,
       λ r h k. by-cases (ℕ-discrete r (l .q - 1))
           (λ z. ap (λ (x : ℕ). subtractive (phyAt d (a .i .0) x)) z ∙ sym (c .before .is-subtractive .ensures ∙ ap subtractive e) ∙ c .if1 .left)
@@ -71,4 +71,4 @@ returns-2 : tie.Need-returns-2 Inv-loop μ-loop
 returns-2 c = way-none _ _ _ (c .before .before .before .pre) (c .before .before .before .args .s) (λ r h. c .before .loop .inv .1 r (omega arith) h)
 
 pub has-other-way-spec : {M : Type 1} → statement M
-has-other-way-spec = tie.close (tie.spec Inv-loop μ-loop loop-holds sub-q phy-below-requires is-subtractive-requires phy-address-requires returns loop-less loop-again returns-2)
+has-other-way-spec = tie.close (tie.spec Inv-loop μ-loop loop-holds sub-q phy-in-row-requires is-subtractive-requires phy-address-requires returns loop-less loop-again returns-2)

@@ -5,8 +5,8 @@ use borrow.Author.Needs.{needs}
 use Rattle.wiring.proofs.clashes.is_clashing.Statement.{statement}
 use Rattle.wiring.proofs.clashes.is_clashing.Tie as tie
 
-phy-below-requires : tie.Need-phy-below-requires
-phy-below-requires c κs = search needs
+phy-in-row-requires : tie.Need-phy-in-row-requires
+phy-in-row-requires c κs = search needs
 
 phy-attribute-requires : tie.Need-phy-attribute-requires
 phy-attribute-requires c κs = search needs
@@ -17,34 +17,34 @@ phy-type-requires c κs = search needs
 returns : tie.Need-returns
 returns c =
     let at-pre = c .before .before .before .before .before .before .pre in
-    none-clash _ _ _ (at-pre .1) _ (c .before .before .before .phy-below .ensures) _ (c .before .phy-type .ensures) (c .if1 .taken)
+    none-clash _ _ _ (at-pre .1) _ (c .before .before .before .phy-in-row .ensures) _ (c .before .phy-type .ensures) (c .if1 .taken)
 
 lowest-phy-requires : tie.Need-lowest-phy-requires
 lowest-phy-requires c κs = search needs
 
-phy-below-requires-2 : tie.Need-phy-below-requires-2
-phy-below-requires-2 c κs = search needs
+phy-in-row-requires-2 : tie.Need-phy-in-row-requires-2
+phy-in-row-requires-2 c κs = search needs
 
 phy-attribute-requires-2 : tie.Need-phy-attribute-requires-2
 phy-attribute-requires-2 c κs = search needs
 
 returns-2 : tie.Need-returns-2
 returns-2 c =
-    let at-phy-below = c .before .before .before .before .before .before .before .phy-below in
+    let at-phy-in-row = c .before .before .before .before .before .before .before .phy-in-row in
     let at-phy-attribute = c .before .before .before .before .before .before .phy-attribute in
     let pre = c .before .before .before .before .before .before .before .before .before .before .pre in
-    let s = at-phy-below .ensures in
-    other-clash _ _ _ (pre .1) _ s _ (c .before .before .before .before .before .phy-type .ensures) (c .before .before .before .before .if1 .left) _ (pre .0) _ (c .before .before .before .lowest-phy .ensures) _ (c .before .before .phy-below2 .ensures) _ _ (at-phy-attribute .ensures)
+    let s = at-phy-in-row .ensures in
+    other-clash _ _ _ (pre .1) _ s _ (c .before .before .before .before .before .phy-type .ensures) (c .before .before .before .before .if1 .left) _ (pre .0) _ (c .before .before .before .lowest-phy .ensures) _ (c .before .before .phy-in-row2 .ensures) _ _ (at-phy-attribute .ensures)
     (c .before .phy-attribute2 .ensures) (c .if2 .taken)
 
 returns-3 : tie.Need-returns-3
 returns-3 c =
-    let at-phy-below = c .before .before .before .before .before .before .before .before .phy-below in
+    let at-phy-in-row = c .before .before .before .before .before .before .before .before .phy-in-row in
     let at-phy-type = c .before .before .before .before .before .before .phy-type in
     let at-phy-attribute = c .before .before .before .before .before .before .before .phy-attribute in
     let pre = c .before .before .before .before .before .before .before .before .before .before .before .pre in
-    let s = at-phy-below .ensures in
-    way-no _ _ _ (pre .1) _ s _ (at-phy-type .ensures) (c .before .before .before .before .before .if1 .left) _ (pre .0) _ (c .before .before .before .before .lowest-phy .ensures) _ (c .before .before .before .phy-below2 .ensures) _ _ (at-phy-attribute .ensures)
+    let s = at-phy-in-row .ensures in
+    way-no _ _ _ (pre .1) _ s _ (at-phy-type .ensures) (c .before .before .before .before .before .if1 .left) _ (pre .0) _ (c .before .before .before .before .lowest-phy .ensures) _ (c .before .before .before .phy-in-row2 .ensures) _ _ (at-phy-attribute .ensures)
     (c .before .before .phy-attribute2 .ensures) (c .before .if2 .left) (c .if3 .taken)
 
 phy-address-requires : tie.Need-phy-address-requires
@@ -55,15 +55,15 @@ has-other-way-requires c κs = search needs
 
 returns-4 : tie.Need-returns-4
 returns-4 c =
-    let at-phy-below = c .before .before .before .before .before .before .before .before .before .before .phy-below in
+    let at-phy-in-row = c .before .before .before .before .before .before .before .before .before .before .phy-in-row in
     let at-phy-type = c .before .before .before .before .before .before .before .before .phy-type in
     let at-if1 = c .before .before .before .before .before .before .before .if1 in
     let at-lowest-phy = c .before .before .before .before .before .before .lowest-phy in
     let at-phy-attribute = c .before .before .before .before .before .before .before .before .before .phy-attribute in
     let pre = c .before .before .before .before .before .before .before .before .before .before .before .before .before .pre in
-    let s = at-phy-below .ensures in
-    way-clash _ _ _ (pre .1) _ s _ (at-phy-type .ensures) (at-if1 .left) _ (pre .0) _ (at-lowest-phy .ensures) _ (c .before .before .before .before .before .phy-below2 .ensures) _ _ (at-phy-attribute .ensures)
+    let s = at-phy-in-row .ensures in
+    way-clash _ _ _ (pre .1) _ s _ (at-phy-type .ensures) (at-if1 .left) _ (pre .0) _ (at-lowest-phy .ensures) _ (c .before .before .before .before .before .phy-in-row2 .ensures) _ _ (at-phy-attribute .ensures)
     (c .before .before .before .before .phy-attribute2 .ensures) (c .before .before .before .if2 .left) (c .before .before .if3 .left) _ _ (c .has-other-way .ensures) (c .before .phy-address .ensures)
 
 pub is-clashing-spec : {M : Type 1} → statement M
-is-clashing-spec = tie.close (tie.spec phy-below-requires phy-attribute-requires phy-type-requires returns lowest-phy-requires phy-below-requires-2 phy-attribute-requires-2 returns-2 returns-3 phy-address-requires has-other-way-requires returns-4)
+is-clashing-spec = tie.close (tie.spec phy-in-row-requires phy-attribute-requires phy-type-requires returns lowest-phy-requires phy-in-row-requires-2 phy-attribute-requires-2 returns-2 returns-3 phy-address-requires has-other-way-requires returns-4)

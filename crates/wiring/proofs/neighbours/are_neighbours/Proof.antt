@@ -1,8 +1,8 @@
 -- are_neighbours meets its contract: the set of one has the number of the first expander with the address of the other.
 use mathlib.Core.Path.{_∙_}
 use Rattle.wiring.specs.Neighbours.{neighbours}
-use Rattle.files.proofs.InRows.{domain-few}
-use Rattle.wiring.proofs.Cables.{first-low, leads-cabled}
+use Rattle.files.proofs.RowsAsDomain.{domain-few}
+use Rattle.wiring.proofs.CableSets.{first-low, leads-cabled}
 use borrow.Author.Needs.{needs}
 use native.Mathlib.Omega.{arith}
 use Rattle.wiring.proofs.neighbours.are_neighbours.Statement.{statement}

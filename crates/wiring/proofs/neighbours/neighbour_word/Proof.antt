@@ -6,17 +6,17 @@ use lib.ListN.{length}
 use Rattle.wiring.specs.Neighbours.{neighbours}
 use Rattle.files.specs.Rows.{domainIn}
 use Rattle.wiring.proofs.NeighbourWords.{bit-go, bit-skip}
-use Rattle.wiring.proofs.Sets.{wordBelow, neighbour-word}
+use Rattle.wiring.proofs.WordSets.{wordBelow, neighbour-word}
 use borrow.Author.Needs.{needs}
 use native.Mathlib.Omega.{arith}
 use Rattle.wiring.proofs.neighbours.neighbour_word.Statement.{statement}
 use Rattle.wiring.proofs.neighbours.neighbour_word.Tie as tie
 
 abbrev Inv-loop : tie.InvT-loop
-Inv-loop rows first far i n w₀ j₀ w j = (j ≤ n) × (w ≡ wordBelow (neighbours (domainIn rows) (i .0)) j)
+Inv-loop rows first cables i n w₀ j₀ w j = (j ≤ n) × (w ≡ wordBelow (neighbours (domainIn rows) (i .0)) j)
 
 abbrev μ-loop : tie.MeasureT-loop
-μ-loop rows first far i n w₀ j₀ w j = n - j
+μ-loop rows first cables i n w₀ j₀ w j = n - j
 
 expander-count-requires : tie.Need-expander-count-requires Inv-loop μ-loop
 expander-count-requires c κs = search needs

@@ -8,7 +8,7 @@ use lib.ListN.{length, drop, length-set}
 use Rattle.files.specs.Lists.{numbers}
 use Rattle.wiring.specs.Neighbours.{neighbourWord, neighbourWords, bitsIn}
 use Rattle.files.specs.Rows.{domainIn}
-use Rattle.files.proofs.InRows.{domain-few}
+use Rattle.files.proofs.RowsAsDomain.{domain-few}
 use Rattle.wiring.proofs.NeighbourWords.{words-next, bits-next}
 use borrow.Author.Needs.{needs}
 use native.Mathlib.Omega.{arith}
@@ -16,19 +16,19 @@ use Rattle.wiring.proofs.neighbours.put_neighbours.Statement.{statement
 use Rattle.wiring.proofs.neighbours.put_neighbours.Tie as tie
 
 abbrev Inv-loop : tie.InvT-loop
-Inv-loop rows first words₀ far n sum₀ i₀ words sum i =
+Inv-loop rows first words₀ cables n sum₀ i₀ words sum i =
     (i ≤ n) × (sum ≤ 64 * i) × (length words ≡ length words₀)
     × (sum ≡ bitsIn (map (neighbourWord (domainIn rows)) (numbers 0 i)))
     × (words ≡ map (neighbourWord (domainIn rows)) (numbers 0 i) ++ drop i words₀)
 
 abbrev μ-loop : tie.MeasureT-loop
-μ-loop rows first words₀ far n sum₀ i₀ words sum i = n - i
+μ-loop rows first words₀ cables n sum₀ i₀ words sum i = n - i
 
-slice-aggregate-put-far : tie.Need-slice-aggregate-put-far Inv-loop μ-loop
-slice-aggregate-put-far c = search needs
+slice-aggregate-put-cables : tie.Need-slice-aggregate-put-cables Inv-loop μ-loop
+slice-aggregate-put-cables c = search needs
 
-put-far-requires : tie.Need-put-far-requires Inv-loop μ-loop
-put-far-requires c κs = (c .before .before .before .before .pre .0, domain-few (c .before .before .before .before .args .rows .now))
+put-cables-requires : tie.Need-put-cables-requires Inv-loop μ-loop
+put-cables-requires c κs = (c .before .before .before .before .pre .0, domain-few (c .before .before .before .before .args .rows .now))
 
 expander-count-requires : tie.Need-expander-count-requires Inv-loop μ-loop
 expander-count-requires c κs = search needs
@@ -44,9 +44,9 @@ neighbour-word-requires : tie.Need-neighbour-word-requires Inv-loop μ-loop
 neighbour-word-requires c κs =
     let at-args = c .before .before .before .before .before .before .before .before .before .before .args in
     let at-pre = c .before .before .before .before .before .before .before .before .before .before .pre in
-    let put-far = c .before .before .before .before .before .put-far in
+    let put-cables = c .before .before .before .before .before .put-cables in
     let few = domain-few (at-args .rows .now) in
-    (record { index = at-pre .0; room = omega (arith, put-far .kept .1 .1 .0); sets = put-far .ensures }, omega (arith, c .before .before .before .expander-count .ensures .0))
+    (record { index = at-pre .0; room = omega (arith, put-cables .kept .1 .1 .0); sets = put-cables .ensures }, omega (arith, c .before .before .before .expander-count .ensures .0))
 
 cast-words : tie.Need-cast-words Inv-loop μ-loop
 cast-words c = search needs
@@ -101,4 +101,4 @@ returns c =
     )
 
 pub put-neighbours-spec : {M : Type 1} → statement M
-put-neighbours-spec = tie.close (tie.spec Inv-loop μ-loop slice-aggregate-put-far put-far-requires expander-count-requires loop-holds slice-aggregate-neighbour-word neighbour-word-requires cast-words mul-words slice-write-words cast-sum add-sum add-i loop-less loop-again same-length returns)
+put-neighbours-spec = tie.close (tie.spec Inv-loop μ-loop slice-aggregate-put-cables put-cables-requires expander-count-requires loop-holds slice-aggregate-neighbour-word neighbour-word-requires cast-words mul-words slice-write-words cast-sum add-sum add-i loop-less loop-again same-length returns)

@@ -1,7 +1,7 @@
 -- all_of meets its contract: n ones, by shifting 64 of them.
 use mathlib.Core.Path.{sym}
 use borrow.Author.Needs.{needs}
-use Rattle.wiring.proofs.Bitsets.{set-all, all-shifted}
+use Rattle.wiring.proofs.RoundSets.{set-all, all-shifted}
 use Rattle.wiring.proofs.rounds.all_of.Statement.{statement}
 use Rattle.wiring.proofs.rounds.all_of.Tie as tie
 

@@ -2,7 +2,7 @@
 use mathlib.Core.Path.{refl, sym, _∙_}
 use borrow.Author.Needs.{needs}
 use borrow.Author.Tests.{eq-eqb, ne-eqb, not-true, not-false}
-use Rattle.wiring.proofs.Bitsets.{next-by}
+use Rattle.wiring.proofs.RoundSets.{next-by}
 use Rattle.wiring.proofs.rounds.is_next.Statement.{statement}
 use Rattle.wiring.proofs.rounds.is_next.Tie as tie
 

@@ -5,9 +5,9 @@ use mathlib.Core.Path.{_≡_, refl, sym, _∙_, ap}
 use native.Mathlib.Omega.{arith}
 use lib.ListN.{length}
 use borrow.Author.Needs.{needs}
-use Rattle.wiring.proofs.Bitsets.{next-test}
+use Rattle.wiring.proofs.RoundSets.{next-test}
 use Rattle.wiring.proofs.NeighbourWords.{bit-go, bit-skip}
-use Rattle.wiring.proofs.Sets.{set-word, wordBelow}
+use Rattle.wiring.proofs.WordSets.{set-word, wordBelow}
 use Rattle.wiring.specs.Neighbours.{neighbours}
 use Rattle.wiring.specs.Rounds.{members, roundTest}
 use Rattle.files.specs.Rows.{domainIn}

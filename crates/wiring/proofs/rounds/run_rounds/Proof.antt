@@ -4,7 +4,7 @@ use mathlib.Core.Path.{_≡_, _∙_, ap}
 use native.Mathlib.Nat.{sub-zero}
 use native.Mathlib.Omega.{arith}
 use lib.ListN.{length}
-use Rattle.wiring.proofs.Bitsets.{set-below, members-set, rounds-next, rounds-end}
+use Rattle.wiring.proofs.RoundSets.{set-below, members-set, rounds-next, rounds-end}
 use Rattle.wiring.specs.Neighbours.{neighbours}
 use Rattle.wiring.specs.Rounds.{nextSet, SetBelow, members, roundTest, rounds}
 use Rattle.files.specs.Rows.{domainIn}

@@ -1,8 +1,8 @@
 -- wire_in meets its contract: the rows that the file is read into are its domain.
 use mathlib.Core.Path.{sym}
 use lib.Seq.{length-take-le}
-use Rattle.wiring.proofs.Calls.{wire-refused, wire-done}
-use Rattle.wiring.proofs.Opening.{opened-as, opened-fits}
+use Rattle.wiring.proofs.CheckOutcomes.{wire-refused, wire-done}
+use Rattle.wiring.proofs.FileRows.{opened-as, opened-fits}
 use borrow.Author.Needs.{needs}
 use Rattle.wiring.proofs.wiring_call.wire_in.Statement.{statement}
 use Rattle.wiring.proofs.wiring_call.wire_in.Tie as tie

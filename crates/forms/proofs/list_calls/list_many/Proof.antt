@@ -1,0 +1,32 @@
+-- list_many meets its contract: the room is enough for 64 expanders.
+use Prim.Native.Nat.{ℕ, _-_}
+use lib.ListN.{length-replicate}
+use Rattle.forms.proofs.FormCallOutcomes.{form-room}
+use borrow.Author.Needs.{needs}
+use native.Mathlib.Omega.{arith}
+use Rattle.forms.proofs.list_calls.list_many.Statement.{statement}
+use Rattle.forms.proofs.list_calls.list_many.Tie as tie
+
+slice-aggregate-list-in : tie.Need-slice-aggregate-list-in
+slice-aggregate-list-in c = search needs
+
+slice-aggregate-list-in-2 : tie.Need-slice-aggregate-list-in-2
+slice-aggregate-list-in-2 c = search needs
+
+slice-aggregate-list-in-3 : tie.Need-slice-aggregate-list-in-3
+slice-aggregate-list-in-3 c = search needs
+
+list-in-requires : tie.Need-list-in-requires
+list-in-requires c κs =
+    let at-args = c .before .before .before .before .before .before .before .before .before .args in
+    let at-pre = c .before .before .before .before .before .before .before .before .before .pre in
+    form-room (at-args .form .now) _ _ _ _ 64 (at-pre .0) (omega arith) (omega (arith, length-replicate {A = ℕ} 16512 0)) (omega (arith, length-replicate {A = ℕ} 8256 0)) (omega (arith, length-replicate {A = ℕ} 8192 0))
+
+same-length : tie.Need-same-length
+same-length c = search needs
+
+returns : tie.Need-returns
+returns c = search needs
+
+pub list-many-spec : {M : Type 1} → statement M
+list-many-spec = tie.close (tie.spec slice-aggregate-list-in slice-aggregate-list-in-2 slice-aggregate-list-in-3 list-in-requires same-length returns)

@@ -1,0 +1,2 @@
+-- What the program uses of the lemmas below.
+pub use Rattle.tables.proofs.WiringLemmas.{read-good, opened-fits}
