@@ -16,6 +16,8 @@ use Rattle.benches.specs.declared.Side.the-variants.{Refused as NotAccep
 use Rattle.benches.specs.declared.Files.{Files}
 use Rattle.benches.specs.declared.Files.the-variants.{Refused as NotReady, Expanders}
 use Rattle.benches.specs.JoinCall.{free, shifted}
+use Rattle.files.specs.Rows.{rowWords}
+use Rattle.files.specs.Settings.{mostExpanders, mostPhys}
 
 -- a file that is accepted as a domain of n expanders
 pub record Accepted (setting : Setting) (file : List ℕ) (n : ℕ) : Type 0 where
@@ -70,10 +72,10 @@ pub record Ready (setting : Setting) (first : List ℕ) (n i p : ℕ) (second : 
 
 -- how many expanders two files state, and no more than 64
 abbrev pub statedBoth : List ℕ → List ℕ → ℕ
-statedBoth first second = min 64 (byte first 1 + byte second 1)
+statedBoth first second = min mostExpanders (byte first 1 + byte second 1)
 
 -- room for the rows of so many expanders, and for the entries of their slots and phys
 pub record JoinRoom (n : ℕ) (rows who low : List ℕ) : Type 0 where
-  pub words : 258 * n ≤ length rows
+  pub words : rowWords * n ≤ length rows
   pub slots : slotsBefore n ≤ length who
-  pub phys : 128 * n ≤ length low
+  pub phys : mostPhys * n ≤ length low

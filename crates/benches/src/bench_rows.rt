@@ -10,7 +10,7 @@ ghost use mathlib.Core.Path.{_≡_};
 ghost use Prim.Native.Nat.{_+_, _*_, _≤_, _<_};
 ghost use lib.ListN.{length, take};
 ghost use Rattle.wiring.specs.Checks.{checkAnswer};
-ghost use Rattle.files.specs.Rows.{domainIn};
+ghost use Rattle.files.specs.Rows.{domainIn, rowWords};
 ghost use Rattle.tables.specs.JudgingCall.{judged};
 ghost use Rattle.benches.specs.Bytes.{joinedFile};
 ghost use Rattle.benches.specs.BenchRows.{bothRead, cabled, apartIn, checkOf};
@@ -19,10 +19,10 @@ ghost use Rattle.benches.specs.SidesFound.{Accepted, Ready, JoinRoom};
 
 // Reads two accepted files of n and m expanders into rows: the first's, then the second's.
 fn read_both(setting: Setting, first: &[u8], n: u8, second: &[u8], m: u8, rows: &mut [u64])
-    requires { ⌜ (Accepted setting (now first) n × Accepted setting (now second) m) × ((n + m ≤ 64) × (258 * (n + m) ≤ length (now rows))) ⌝ }
-    ensures { λ _. ⌜ domainIn (take (258 * (n + m)) (now (rows .exit))) ≡ bothRead setting (now (first .entry)) (now (second .entry)) ⌝ }
+    requires { ⌜ (Accepted setting (now first) n × Accepted setting (now second) m) × ((n + m ≤ 64) × (rowWords * (n + m) ≤ length (now rows))) ⌝ }
+    ensures { λ _. ⌜ domainIn (take (rowWords * (n + m)) (now (rows .exit))) ≡ bothRead setting (now (first .entry)) (now (second .entry)) ⌝ }
 {
-    let a = 258 * (n as usize);
+    let a = files::ROW_WORDS * (n as usize);
     wiring::read_domain(setting, first, rows);
     wiring::read_domain(setting, second, &mut rows[a..]);
 }
@@ -81,7 +81,7 @@ pub(crate) fn judge_both(
     ensures { λ r. ⌜ r ≡ checkOf (judged setting (joinedFile (now (first .entry)) (i .0) (p .0) (now (second .entry)) (j .0) (q .0))) ⌝ }
 {
     read_both(setting, first, n, second, m, rows);
-    let e = 258 * ((n + m) as usize);
+    let e = files::ROW_WORDS * ((n + m) as usize);
     cable_rows(&mut rows[..e], n, i, p, j, q);
     judge_apart(&rows[..e], who, low, setting.chain)
 }

@@ -99,9 +99,9 @@ fn join_few(
     requires { ⌜ byte (now first) 1 + byte (now second) 1 ≤ 8 ⌝ }
     ensures { λ r. ⌜ JoinDone (joinCall setting (now (first .entry)) (i .0) (p .0) (now (second .entry)) (j .0) (q .0) (length (now (out .entry)))) r (now (out .entry)) (now (out .exit)) ⌝ }
 {
-    let mut rows = [0u64; 2064];
-    let mut who = [0u16; 1088];
-    let mut low = [0u8; 1024];
+    let mut rows = [0u64; files::ROWS_OF_8];
+    let mut who = [0u16; wiring::SLOTS_OF_8];
+    let mut low = [0u8; wiring::PHYS_OF_8];
     join_in(
         setting,
         first,
@@ -130,9 +130,9 @@ fn join_many(
 ) -> Joining
     ensures { λ r. ⌜ JoinDone (joinCall setting (now (first .entry)) (i .0) (p .0) (now (second .entry)) (j .0) (q .0) (length (now (out .entry)))) r (now (out .entry)) (now (out .exit)) ⌝ }
 {
-    let mut rows = [0u64; 16512];
-    let mut who = [0u16; 8256];
-    let mut low = [0u8; 8192];
+    let mut rows = [0u64; files::ROWS_OF_64];
+    let mut who = [0u16; wiring::SLOTS_OF_64];
+    let mut low = [0u8; wiring::PHYS_OF_64];
     join_in(
         setting,
         first,

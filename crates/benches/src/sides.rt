@@ -32,7 +32,7 @@ fn judge_side(
     match read {
         DomainRead::Refused(r) => Side::Refused(r),
         DomainRead::Expanders(n) => {
-            let e = 258 * (n as usize);
+            let e = files::ROW_WORDS * (n as usize);
             let verdict = tables::judge_rows(&rows[..e], who, low, setting.chain);
             match verdict {
                 Check::Refused(r) => Side::Refused(r),

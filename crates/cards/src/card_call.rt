@@ -11,12 +11,12 @@ ghost use Rattle.cards.specs.Calls.{cardCall, MadeDone};
 pub fn card_of_file(setting: Setting, file: &[u8], card: &mut [u8]) -> Made
     ensures { λ r. ⌜ MadeDone (cardCall setting (now (file .entry)) (length (now (card .entry)))) r (now (card .entry)) (now (card .exit)) ⌝ }
 {
-    let mut rows = [0u64; 16512];
+    let mut rows = [0u64; files::ROWS_OF_64];
     let read = wiring::read_domain(setting, file, &mut rows[..]);
     match read {
         DomainRead::Refused(r) => Made::Refused(r),
         DomainRead::Expanders(n) => {
-            let e = 258 * (n as usize);
+            let e = files::ROW_WORDS * (n as usize);
             card_writing::card_of_rows(&rows[..e], card)
         }
     }

@@ -22,6 +22,7 @@ ghost use Rattle.files.specs.File.{unitTested};
 ghost use Rattle.cards.specs.Card.{physOn, unitOn, expanderOn, domainOn};
 ghost use Rattle.cards.specs.CardRead.{resultFine, phyRanged};
 ghost use Rattle.cards.specs.CardWalks.{afterCheck, PhysStored, RowStored, CardStored};
+ghost use Rattle.files.specs.Rows.{rowWords};
 
 // Whether a phy is not vacant with result zero.
 fn is_fine(f: Phy) -> bool
@@ -56,7 +57,7 @@ fn count_ranged(f: Phy, ranged: u8, p: u8) -> u8
 
 // Stores the words of the n phys that start at bit `at`.
 fn put_phys(row: &mut [u64], card: &[u8], at: usize, n: u8) -> PhysWalk
-    requires { ⌜ ((n ≤ 128) × (at < 900000)) × (length (now row) ≡ 258) ⌝ }
+    requires { ⌜ ((n ≤ 128) × (at < 900000)) × (length (now row) ≡ rowWords) ⌝ }
     ensures { λ r. ⌜ PhysStored (physOn n (drop at (bitsOf (now (card .entry))))) at r (now (row .entry)) (now (row .exit)) ⌝ }
 {
     let mut next = at;
@@ -82,7 +83,7 @@ fn put_phys(row: &mut [u64], card: &[u8], at: usize, n: u8) -> PhysWalk
 
 // Writes the row of the expander that starts at bit `at`, whose fields are u.
 fn put_row(row: &mut [u64], card: &[u8], u: ExpanderUnit, at: usize) -> PhysWalk
-    requires { ⌜ ((at < 800000) × (length (now row) ≡ 258)) × ((u ≡ unitOn (drop at (bitsOf (now card)))) × (u .phys ≤ 128)) ⌝ }
+    requires { ⌜ ((at < 800000) × (length (now row) ≡ rowWords)) × ((u ≡ unitOn (drop at (bitsOf (now card)))) × (u .phys ≤ 128)) ⌝ }
     ensures { λ r. ⌜ RowStored (expanderOn (drop at (bitsOf (now (card .entry))))) at r (now (row .exit)) ⌝ }
 {
     let w = wiring::head_word(u);
@@ -120,7 +121,7 @@ fn first(a: Check, b: Check) -> Check
 
 // Walks through the n expanders of a card.
 pub(crate) fn walk_card(rows: &mut [u64], most: Setting, card: &[u8], n: u8) -> CardWalk
-    requires { ⌜ ((n ≡ suc (field 6 (drop 4 (bitsOf (now card))))) × (n ≤ 64)) × (258 * n ≤ length (now rows)) ⌝ }
+    requires { ⌜ ((n ≡ suc (field 6 (drop 4 (bitsOf (now card))))) × (n ≤ 64)) × (rowWords * n ≤ length (now rows)) ⌝ }
     ensures { λ r. ⌜ CardStored most (domainOn (bitsOf (now (card .entry)))) r (now (rows .entry)) (now (rows .exit)) ⌝ }
 {
     // the addresses of the expanders before expander i
@@ -131,8 +132,8 @@ pub(crate) fn walk_card(rows: &mut [u64], most: Setting, card: &[u8], n: u8) -> 
     let mut i: u8 = 0;
     while i < n {
         let k = i as usize;
-        let a = 258 * k;
-        let e = a + 258;
+        let a = files::ROW_WORDS * k;
+        let e = a + files::ROW_WORDS;
         let u = reading::unit_from(card, at);
         let walk = put_row(&mut rows[a..e], card, u, at);
         let unit = check_unit(most, &seen[..k], u, ExpanderNumber(i), walk.ranged);

@@ -18,7 +18,7 @@ pub fn file_of_card(setting: Setting, card: &[u8], file: &mut [u8]) -> Made
         return refusals::made_refused(22);
     }
     let n = reading::expanders_from(card);
-    let mut rows = [0u64; 16512];
+    let mut rows = [0u64; files::ROWS_OF_64];
     let walk = card_rows::walk_card(&mut rows[..], setting, card, n);
     if !reading::is_formed(card, walk.fine, walk.at) {
         return refusals::made_refused(19);
@@ -30,7 +30,7 @@ pub fn file_of_card(setting: Setting, card: &[u8], file: &mut [u8]) -> Made
     match check {
         Check::Refused(r) => Made::Refused(r),
         Check::Passed => {
-            let e = 258 * (n as usize);
+            let e = files::ROW_WORDS * (n as usize);
             file_writing::file_of_rows(&rows[..e], file)
         }
     }

@@ -18,6 +18,9 @@ ghost use Rattle.files.specs.Rows.{domainIn};
 ghost use Rattle.cards.specs.FileOf.{discoverOf, phyFrame, physFrames, unitHead, unitsOf, fileOf};
 ghost use Rattle.cards.specs.Calls.{fileFor, MadeDone};
 
+// How many bytes stand before the frames of an expander's phys: its address and a short REPORT GENERAL response.
+const UNIT_HEAD: usize = 8 + frames::GENERAL_BYTES;
+
 // The fields of the DISCOVER response of phy p, which is not vacant, of the expander with address `ownAddress`.
 fn discover_of(ownAddress: u64, p: PhyId, x: PhyFields) -> Discover
     ensures { λ r. ⌜ r ≡ discoverOf ownAddress (p .0) x ⌝ }
@@ -59,7 +62,7 @@ fn put_head(file: &mut [u8], to: usize, rows: &[u64], i: ExpanderNumber)
         configurable: wiring::configurable_bit(rows, i),
     };
     let m = to + 8;
-    let e = to + 36;
+    let e = to + UNIT_HEAD;
     wiring::put_address(&mut file[to..m], wiring::expander_address(rows, i));
     short_frames::put_general(&mut file[m..e], g);
 }
@@ -74,8 +77,8 @@ fn put_frames(file: &mut [u8], to: usize, rows: &[u64], i: ExpanderNumber)
     let mut p: u8 = 0;
     while p < n {
         let f = wiring::phy_at(rows, i, PhyId(p));
-        let a = to + 52 * (p as usize);
-        let e = a + 52;
+        let a = to + frames::DISCOVER_BYTES * (p as usize);
+        let e = a + frames::DISCOVER_BYTES;
         put_phy(&mut file[a..e], own_address, PhyId(p), f);
         p += 1;
     }
@@ -92,8 +95,8 @@ fn put_units(file: &mut [u8], rows: &[u64])
     while i < n {
         let x = ExpanderNumber(i);
         put_head(file, to, rows, x);
-        put_frames(file, to + 36, rows, x);
-        to += 36 + 52 * (wiring::phy_count(rows, x) as usize);
+        put_frames(file, to + UNIT_HEAD, rows, x);
+        to += UNIT_HEAD + frames::DISCOVER_BYTES * (wiring::phy_count(rows, x) as usize);
         i += 1;
     }
 }
@@ -106,7 +109,8 @@ fn file_size(rows: &[u64]) -> usize
     let mut size: usize = 2;
     let mut i: u8 = 0;
     while i < n {
-        size += 36 + 52 * (wiring::phy_count(rows, ExpanderNumber(i)) as usize);
+        size += UNIT_HEAD
+            + frames::DISCOVER_BYTES * (wiring::phy_count(rows, ExpanderNumber(i)) as usize);
         i += 1;
     }
     size

@@ -72,7 +72,7 @@ fn apply_in(
     match read {
         DomainRead::Refused(r) => EventAnswer::Refused(r),
         DomainRead::Expanders(n) => {
-            let e = 258 * (n as usize);
+            let e = files::ROW_WORDS * (n as usize);
             apply_rows(setting, file, words, bits, v, &mut rows[..e], first, low)
         }
     }
@@ -91,9 +91,9 @@ fn apply_few(
         (now (file .entry)) (now (file .exit)) (entries (now (words .entry)) (now (bits .entry))) (entries (now (words .exit)) (now (bits .exit))) ⌝ }
 {
     if wiring::stated_count(file) <= 2 {
-        let mut rows = [0u64; 516];
-        let mut first = [0u16; 320];
-        let mut low = [0u8; 256];
+        let mut rows = [0u64; files::ROWS_OF_2];
+        let mut first = [0u16; wiring::SLOTS_OF_2];
+        let mut low = [0u8; wiring::PHYS_OF_2];
         return apply_in(
             setting,
             file,
@@ -105,9 +105,9 @@ fn apply_few(
             &mut low[..],
         );
     }
-    let mut rows = [0u64; 2064];
-    let mut first = [0u16; 1088];
-    let mut low = [0u8; 1024];
+    let mut rows = [0u64; files::ROWS_OF_8];
+    let mut first = [0u16; wiring::SLOTS_OF_8];
+    let mut low = [0u8; wiring::PHYS_OF_8];
     apply_in(
         setting,
         file,
@@ -131,9 +131,9 @@ fn apply_many(
     ensures { λ r. ⌜ EventDone (eventCall setting (now (file .entry)) v (roomOf (entries (now (words .entry)) (now (bits .entry))))) v r
         (now (file .entry)) (now (file .exit)) (entries (now (words .entry)) (now (bits .entry))) (entries (now (words .exit)) (now (bits .exit))) ⌝ }
 {
-    let mut rows = [0u64; 16512];
-    let mut first = [0u16; 8256];
-    let mut low = [0u8; 8192];
+    let mut rows = [0u64; files::ROWS_OF_64];
+    let mut first = [0u16; wiring::SLOTS_OF_64];
+    let mut low = [0u8; wiring::PHYS_OF_64];
     apply_in(
         setting,
         file,

@@ -15,7 +15,7 @@ pub fn make(a: u64, b: u64, list: &[u64], file: &mut [u8]) -> Made
         return Made::Refused(wiring::refused(24));
     }
     let t = words::trimmed_count(list);
-    let mut filled = [0u64; 516];
+    let mut filled = [0u64; files::ROWS_OF_2];
     rows::put_rig(&mut filled[..], a, b, list.len() as u16, &list[..t]);
     cards::file_of_rows(&filled[..], file)
 }

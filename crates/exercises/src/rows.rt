@@ -8,7 +8,7 @@ ghost use mathlib.Core.List.{[], _∷_, map};
 ghost use Prim.Native.Nat.{suc, _≤_};
 ghost use lib.ListN.{length};
 ghost use lib.Seq.{sets};
-ghost use Rattle.files.specs.Rows.{phyWords, rowOf, rowsOf};
+ghost use Rattle.files.specs.Rows.{phyWords, rowOf, rowsOf, rowWords};
 ghost use Rattle.exercises.specs.Rig.{drive, toward, firstOf, secondOf};
 
 // The phy of a word: direct, to the word's drive or, for a zero word, to nothing.
@@ -45,7 +45,7 @@ fn toward(address: u64, attribute: u8) -> Phy
 
 // Stores the phys of the words in a row, from phy 1 on.
 fn put_drives(row: &mut [u64], words: &[u64])
-    requires { ⌜ (length (now row) ≡ 258) × (length (now words) ≤ 127) ⌝ }
+    requires { ⌜ (length (now row) ≡ rowWords) × (length (now words) ≤ 127) ⌝ }
     ensures { λ _. ⌜ now (row .exit) ≡ sets (now (row .entry)) 4 (phyWords (map drive (now (words .entry)))) ⌝ }
 {
     let mut k: usize = 0;
@@ -60,7 +60,7 @@ fn put_drives(row: &mut [u64], words: &[u64])
 
 // Writes the row of an expander: its first phy, then a phy for each of the words.
 fn put_row(row: &mut [u64], unit: ExpanderUnit, link: Phy, words: &[u64])
-    requires { ⌜ ((length (now row) ≡ 258) × (length (now words) ≤ 127)) × (unit .phys ≡ suc (length (now words))) ⌝ }
+    requires { ⌜ ((length (now row) ≡ rowWords) × (length (now words) ≤ 127)) × (unit .phys ≡ suc (length (now words))) ⌝ }
     ensures { λ _. ⌜ now (row .exit) ≡ rowOf (record { address = unit .address; routeIndexes = unit .routeIndexes; configurable = unit .configurable; phys = link ∷ map drive (now (words .entry)) }) ⌝ }
 {
     let head = wiring::head_word(unit);

@@ -7,7 +7,7 @@ use lib.ListN.{length, set}
 use lib.Dec.{ltb}
 use Rattle.files.specs.declared.Phy.{Phy}
 use Rattle.files.specs.Domain.{Expander, Domain, expanderAt, addressOf}
-use Rattle.files.specs.Rows.{phyWord, phyIn, domainIn}
+use Rattle.files.specs.Rows.{phyWord, phyIn, domainIn, rowWords}
 
 -- an expander with its phy p replaced; as it was where it has no such phy
 unfoldable pub withPhy : Expander → ℕ → Phy → Expander
@@ -25,7 +25,7 @@ phyFromWords φ = phyIn (addressOf φ) (phyWord φ)
 unfoldable pub withWords : List ℕ → ℕ → ℕ → Phy → List ℕ
 withWords ws i p φ =
     cond (ltb p (length (expanderAt (domainIn ws) i .phys)))
-    (set (set ws (258 * i + 2 + 2 * p) (addressOf φ)) (258 * i + 2 + 2 * p + 1) (phyWord φ)) ws
+    (set (set ws (rowWords * i + 2 + 2 * p) (addressOf φ)) (rowWords * i + 2 + 2 * p + 1) (phyWord φ)) ws
 
 -- rows before and after one phy is set: the words, and the domain that they hold
 pub record PhySet (before after : List ℕ) (i p : ℕ) (φ : Phy) : Type 0 where

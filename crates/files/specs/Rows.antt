@@ -14,6 +14,11 @@ use Rattle.files.specs.declared.DomainRead.{DomainRead}
 use Rattle.files.specs.declared.DomainRead.the-variants.{Refused, Expanders}
 use Rattle.files.specs.Domain.{Expander, Domain, addressOf, expanderAt}
 use Rattle.files.specs.File.{domainRead}
+use Rattle.files.specs.Settings.{mostPhys, mostExpanders}
+
+-- how many words the row of one expander has
+abbrev pub rowWords : ℕ
+rowWords = 258
 
 -- a phy's second word: bit 0 is 0 where it is vacant, and the result follows; else it is 1, and type, attribute and attached phy follow
 abbrev pub phyWord : Phy → ℕ
@@ -45,7 +50,7 @@ phyIn address w =
 
 -- the phy that the two words of phy p of expander i hold, whether the expander has so many phys or not; words past the end are 0
 unfoldable pub phyInRow : List ℕ → ℕ → ℕ → Phy
-phyInRow ws i p = phyIn (getD ws (258 * i + 2 + 2 * p) 0) (getD ws (258 * i + 2 + 2 * p + 1) 0)
+phyInRow ws i p = phyIn (getD ws (rowWords * i + 2 + 2 * p) 0) (getD ws (rowWords * i + 2 + 2 * p + 1) 0)
 
 unfoldable pub physIn : ℕ → List ℕ → List Phy
 physIn zero ws = []
@@ -57,20 +62,20 @@ rowIn ws =
       address = getD ws 0 0;
       routeIndexes = getD ws 1 0 % 65536;
       configurable = getD ws 1 0 / 16777216 % 2;
-      phys = physIn (min 128 (getD ws 1 0 / 65536 % 256)) (drop 2 ws);
+      phys = physIn (min mostPhys (getD ws 1 0 / 65536 % 256)) (drop 2 ws);
     }
 
 unfoldable pub rowsIn : ℕ → List ℕ → Domain
 rowsIn zero ws = []
-rowsIn (suc count) ws = rowIn ws ∷ rowsIn count (drop 258 ws)
+rowsIn (suc count) ws = rowIn ws ∷ rowsIn count (drop rowWords ws)
 
 unfoldable pub domainIn : List ℕ → Domain
-domainIn ws = rowsIn (min 64 (length ws / 258)) ws
+domainIn ws = rowsIn (min mostExpanders (length ws / rowWords)) ws
 
 -- w is the second word of expander i's row, or 0 where there is no such expander
 pub record HeadIn (d : Domain) (i w : ℕ) : Type 0 where
   pub routeIndexes : w % 65536 ≡ expanderAt d i .routeIndexes
-  pub phys : min 128 (w / 65536 % 256) ≡ length (expanderAt d i .phys)
+  pub phys : min mostPhys (w / 65536 % 256) ≡ length (expanderAt d i .phys)
   pub configurable : w / 16777216 % 2 ≡ expanderAt d i .configurable
 
 -- what the answer of the reader says in document 01's terms: the number of expanders
@@ -80,7 +85,7 @@ readAnswer (Expanders n) = good n
 
 -- 16 where the words are too few for the rows
 abbrev pub rowsFor : ℕ → Domain → Result Domain
-rowsFor room d = unless (leb (258 * length d) room) (refusal 16 0 0) (good d)
+rowsFor room d = unless (leb (rowWords * length d) room) (refusal 16 0 0) (good d)
 
 -- reading a file into so many words: causes 22 and 1 to 6, then 16
 unfoldable pub rowsRead : Setting → List ℕ → ℕ → Result Domain
@@ -92,12 +97,12 @@ countOf d = good (length d)
 -- the words after reading: the rows, and the words after them as they were; all as they were where refused
 abbrev pub rowsAfter : Result Domain → List ℕ → List ℕ
 rowsAfter (refused r) before = before
-rowsAfter (good d) before = rowsOf d ++ drop (258 * length d) before
+rowsAfter (good d) before = rowsOf d ++ drop (rowWords * length d) before
 
 -- the first words are the domain's rows, and give it back
 abbrev pub rowsHold : Result Domain → List ℕ → Type 0
 rowsHold (refused r) after = Unit {0}
-rowsHold (good d) after = domainIn (take (258 * length d) after) ≡ d
+rowsHold (good d) after = domainIn (take (rowWords * length d) after) ≡ d
 
 -- all that reading a file into words promises: the answer, the words after, and that they give the domain back
 pub record RowsRead (setting : Setting) (file : List ℕ) (answer : DomainRead) (before after : List ℕ) : Type 0 where

@@ -11,7 +11,7 @@ use Rattle.files.specs.declared.Phy.{Phy}
 use Rattle.files.specs.declared.Phy.the-variants.{Vacant}
 use Rattle.files.specs.Domain.{Domain}
 use Rattle.files.specs.File.{Parsed, parsed, phyUnit, expanderUnit, expanderOf}
-use Rattle.files.specs.Rows.{phyWords, rowOf, rowsOf}
+use Rattle.files.specs.Rows.{phyWords, rowOf, rowsOf, rowWords}
 
 -- where a phy's unit is refused: a vacant phy, and the place stays
 abbrev pub phyGot : Result (Parsed Phy) → Phy
@@ -47,7 +47,7 @@ domainGot most file (suc count) i at =
 
 -- words with a domain's rows from row i on
 unfoldable pub pasted : List ℕ → ℕ → Domain → List ℕ
-pasted ws i d = take (258 * i) ws ++ (rowsOf d ++ drop (258 * (i + length d)) ws)
+pasted ws i d = take (rowWords * i) ws ++ (rowsOf d ++ drop (rowWords * (i + length d)) ws)
 
 -- the words of phys stored in a row, and the place after them
 pub record PhysPut (φs : Parsed (List Phy)) (next : ℕ) (before after : List ℕ) : Type 0 where

@@ -33,6 +33,28 @@ pub use view::phy_type;
 pub use view::route_indexes;
 pub use view::word_at;
 
+// The most expanders of a domain. Where a count is compared as a `usize` or `u64`, the number itself stands.
+pub const MOST_EXPANDERS: u8 = 64;
+
+// The most phys of an expander.
+pub const MOST_PHYS: u8 = 128;
+
+// The longest chain that a setting may allow.
+pub const LONGEST_CHAIN: u8 = 64;
+
+// How many words the row of one expander has: its address, a word with R, phy count and configurable bit, and two words for
+// each of 128 phys.
+pub const ROW_WORDS: usize = 258;
+
+// How many words the rows of 2 expanders have.
+pub const ROWS_OF_2: usize = 2 * ROW_WORDS;
+
+// How many words the rows of 8 expanders have.
+pub const ROWS_OF_8: usize = 8 * ROW_WORDS;
+
+// How many words the rows of the most expanders have.
+pub const ROWS_OF_64: usize = 64 * ROW_WORDS;
+
 // A course's setting: the most expanders of a domain, the most phys of an expander, and the longest chain
 // in expanders.
 pub struct Setting {

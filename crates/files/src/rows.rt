@@ -16,7 +16,7 @@ ghost use Prim.Native.Nat.{_*_, _≤_};
 ghost use Rattle.frames.specs.Bytes.{byte};
 ghost use lib.ListN.{length, replicate};
 ghost use Rattle.files.specs.UnitAnswers.{phyAnswer};
-ghost use Rattle.files.specs.Rows.{phyWord, headWord, RowsRead};
+ghost use Rattle.files.specs.Rows.{phyWord, headWord, RowsRead, rowWords};
 ghost use Rattle.files.specs.PhyReplaced.{PhySet};
 ghost use Rattle.files.specs.SecondReading.{phyGot, nextGot, physGot, domainGot, pasted, PhysPut, RowPut};
 
@@ -80,7 +80,7 @@ fn put_phys(
     n: u8,
     at: usize,
 ) -> usize
-    requires { ⌜ (n ≤ 128) × (length (now row) ≡ 258) ⌝ }
+    requires { ⌜ (n ≤ 128) × (length (now row) ≡ rowWords) ⌝ }
     ensures { λ r. ⌜ PhysPut (physGot (now (file .entry)) ownAddress (i .0) n 0 at) r (now (row .entry)) (now (row .exit)) ⌝ }
 {
     let mut p: u8 = 0;
@@ -99,7 +99,7 @@ fn put_phys(
 
 // Writes the row of expander i, whose phys start at `at`, and yields the place after them.
 fn put_row(row: &mut [u64], file: &[u8], u: ExpanderUnit, i: ExpanderNumber, at: usize) -> usize
-    requires { ⌜ (u .phys ≤ 128) × (length (now row) ≡ 258) ⌝ }
+    requires { ⌜ (u .phys ≤ 128) × (length (now row) ≡ rowWords) ⌝ }
     ensures { λ r. ⌜ RowPut u (physGot (now (file .entry)) (u .address) (i .0) (u .phys) 0 at) r (now (row .exit)) ⌝ }
 {
     let w = head_word(u);
@@ -112,7 +112,7 @@ fn put_row(row: &mut [u64], file: &[u8], u: ExpanderUnit, i: ExpanderNumber, at:
 
 // Writes the rows of the n expanders of a file that passed causes 1 to 6.
 fn fill_rows(rows: &mut [u64], most: Setting, file: &[u8], n: u8)
-    requires { ⌜ (most .phys ≤ 128) × (258 * n ≤ length (now rows)) ⌝ }
+    requires { ⌜ (most .phys ≤ 128) × (rowWords * n ≤ length (now rows)) ⌝ }
     ensures { λ _. ⌜ now (rows .exit) ≡ pasted (now (rows .entry)) 0 (domainGot most (now (file .entry)) n 0 2) ⌝ }
 {
     // no addresses, so that none was seen
@@ -126,8 +126,8 @@ fn fill_rows(rows: &mut [u64], most: Setting, file: &[u8], n: u8)
                 return;
             }
             ExpanderRead::Read(u, next) => {
-                let a = 258 * (i as usize);
-                let e = a + 258;
+                let a = crate::ROW_WORDS * (i as usize);
+                let e = a + crate::ROW_WORDS;
                 at = put_row(&mut rows[a..e], file, u, ExpanderNumber(i), next);
                 i += 1;
             }
@@ -144,7 +144,7 @@ pub fn read_domain(setting: Setting, file: &[u8], rows: &mut [u64]) -> DomainRea
     match answer {
         DomainRead::Refused(r) => DomainRead::Refused(r),
         DomainRead::Expanders(n) => {
-            if rows.len() < 258 * (n as usize) {
+            if rows.len() < crate::ROW_WORDS * (n as usize) {
                 return refusals::domain_refused(16, ExpanderNumber(0));
             }
             fill_rows(rows, setting, file, n);
@@ -158,7 +158,7 @@ pub fn set_phy(rows: &mut [u64], i: ExpanderNumber, p: PhyId, phy: Phy)
     ensures { λ _. ⌜ PhySet (now (rows .entry)) (now (rows .exit)) (i .0) (p .0) phy ⌝ }
 {
     if p.0 < view::phy_count(rows, i) {
-        let k = 258 * (i.0 as usize) + 2 + 2 * (p.0 as usize);
+        let k = crate::ROW_WORDS * (i.0 as usize) + 2 + 2 * (p.0 as usize);
         rows[k] = view::phy_address(phy);
         rows[k + 1] = phy_word(phy);
     }

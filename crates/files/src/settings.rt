@@ -7,9 +7,9 @@ ghost use Rattle.files.specs.Settings.{inRange, widest};
 pub fn is_in_range(setting: Setting) -> bool
     ensures { λ r. ⌜ r ≡ inRange setting ⌝ }
 {
-    ((setting.expanders >= 1) & (setting.expanders <= 64))
-        & (((setting.phys >= 1) & (setting.phys <= 128))
-            & ((setting.chain >= 1) & (setting.chain <= 64)))
+    ((setting.expanders >= 1) & (setting.expanders <= crate::MOST_EXPANDERS))
+        & (((setting.phys >= 1) & (setting.phys <= crate::MOST_PHYS))
+            & ((setting.chain >= 1) & (setting.chain <= crate::LONGEST_CHAIN)))
 }
 
 // The limits of document 01.
@@ -17,8 +17,8 @@ pub fn widest() -> Setting
     ensures { λ r. ⌜ r ≡ widest ⌝ }
 {
     Setting {
-        expanders: 64,
-        phys: 128,
-        chain: 64,
+        expanders: crate::MOST_EXPANDERS,
+        phys: crate::MOST_PHYS,
+        chain: crate::LONGEST_CHAIN,
     }
 }

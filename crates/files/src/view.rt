@@ -73,9 +73,9 @@ pub fn byte_at(bytes: &[u8], k: usize) -> u8
 pub fn expander_count(rows: &[u64]) -> u8
     ensures { λ r. ⌜ (r ≡ length (domainIn (now (rows .entry)))) × (r ≤ 64) ⌝ }
 {
-    let n = rows.len() / 258;
+    let n = rows.len() / crate::ROW_WORDS;
     if n > 64 {
-        return 64;
+        return crate::MOST_EXPANDERS;
     }
     n as u8
 }
@@ -85,7 +85,7 @@ pub fn expander_address(rows: &[u64], i: ExpanderNumber) -> u64
     ensures { λ r. ⌜ r ≡ expanderAt (domainIn (now (rows .entry))) (i .0) .address ⌝ }
 {
     if i.0 < expander_count(rows) {
-        return word_at(rows, 258 * (i.0 as usize));
+        return word_at(rows, crate::ROW_WORDS * (i.0 as usize));
     }
     0
 }
@@ -95,7 +95,7 @@ fn head_word(rows: &[u64], i: ExpanderNumber) -> u64
     ensures { λ r. ⌜ HeadIn (domainIn (now (rows .entry))) (i .0) r ⌝ }
 {
     if i.0 < expander_count(rows) {
-        return word_at(rows, 258 * (i.0 as usize) + 1);
+        return word_at(rows, crate::ROW_WORDS * (i.0 as usize) + 1);
     }
     0
 }
@@ -120,7 +120,7 @@ pub fn phy_count(rows: &[u64], i: ExpanderNumber) -> u8
 {
     let n = head_word(rows, i) / 65536 % 256;
     if n > 128 {
-        return 128;
+        return crate::MOST_PHYS;
     }
     n as u8
 }
@@ -145,7 +145,7 @@ fn phy_from(address: u64, w: u64) -> Phy
 pub fn phy_in_row(rows: &[u64], i: ExpanderNumber, p: PhyId) -> Phy
     ensures { λ r. ⌜ r ≡ phyInRow (now (rows .entry)) (i .0) (p .0) ⌝ }
 {
-    let k = 258 * (i.0 as usize) + 2 + 2 * (p.0 as usize);
+    let k = crate::ROW_WORDS * (i.0 as usize) + 2 + 2 * (p.0 as usize);
     phy_from(word_at(rows, k), word_at(rows, k + 1))
 }
 

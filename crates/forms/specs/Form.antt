@@ -8,6 +8,7 @@ use Rattle.files.specs.declared.Phy.{Phy}
 use Rattle.files.specs.declared.Phy.the-variants.{Vacant, Present}
 use Rattle.files.specs.declared.PhyFields.{PhyFields}
 use Rattle.files.specs.Domain.{Expander, Domain, addressOf, numberOf}
+use Rattle.files.specs.Settings.{mostPhys, mostExpanders}
 
 -- an expander's second word, from the top: R (16 bits), phy count (8), zeros
 abbrev pub headField : ℕ → ℕ → ℕ
@@ -58,7 +59,7 @@ physBack zero ws = []
 physBack (suc count) ws = phyBack (getD ws 0 0) (getD ws 1 0 / 35184372088832) ∷ physBack count (drop 2 ws)
 
 abbrev pub countIn : List ℕ → ℕ
-countIn ws = min 128 (getD ws 1 0 / 1099511627776 % 256)
+countIn ws = min mostPhys (getD ws 1 0 / 1099511627776 % 256)
 
 unfoldable pub expanderBack : List ℕ → Expander
 expanderBack ws =
@@ -75,4 +76,4 @@ expandersBack (suc room) [] = []
 expandersBack (suc room) (w ∷ ws) = expanderBack (w ∷ ws) ∷ expandersBack room (drop (2 + 2 * countIn (w ∷ ws)) (w ∷ ws))
 
 unfoldable pub formIn : List ℕ → Domain
-formIn ws = expandersBack 64 ws
+formIn ws = expandersBack mostExpanders ws

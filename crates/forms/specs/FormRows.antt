@@ -12,7 +12,7 @@ use Rattle.files.specs.declared.Phy.{Phy}
 use Rattle.files.specs.declared.Phy.the-variants.{Vacant, Present}
 use Rattle.files.specs.declared.PhyFields.{PhyFields}
 use Rattle.files.specs.Domain.{Expander, Domain, addressOf, expanderAt}
-use Rattle.files.specs.Rows.{rowIn, domainIn}
+use Rattle.files.specs.Rows.{rowIn, domainIn, rowWords}
 use Rattle.wiring.specs.AddressIndex.{IndexRoom}
 use Rattle.tables.specs.declared.TablesGiven.{TablesGiven}
 use Rattle.tables.specs.declared.TablesGiven.the-variants.{Refused as NotGiven, Counts}
@@ -64,13 +64,13 @@ opens most ws = not (unread most (formIn ws)) && rightExpanders (formIn ws) (for
 -- room for the rows of n expanders, as many as the words read as, and for the entries of their slots and phys
 pub record FormRoom (ws : List ℕ) (n : ℕ) (rows first low : List ℕ) : Type 0 where
   pub count : n ≡ length (formIn ws)
-  pub space : 258 * n ≤ length rows
+  pub space : rowWords * n ≤ length rows
   pub index : IndexRoom (formIn ws) first low
 
 -- the first rows hold what the words read as
 pub record FormOpened (most : Setting) (ws : List ℕ) (n : ℕ) (answer : Bool) (after : List ℕ) : Type 0 where
   pub answers : answer ≡ opens most ws
-  pub holds : domainIn (take (258 * n) after) ≡ formIn ws
+  pub holds : domainIn (take (rowWords * n) after) ≡ formIn ws
 
 -- 15 to 18 stay; any other number, which judging has found, is 1 at place 0, 0
 abbrev pub asForm : Refusal → Refusal

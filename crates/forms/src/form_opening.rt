@@ -13,6 +13,7 @@ ghost use Prim.Native.Nat.{_*_, _≤_};
 ghost use lib.ListN.{length};
 ghost use Rattle.forms.specs.Form.{formIn};
 ghost use Rattle.forms.specs.FormRows.{FormOpened, asForm, asTrace, asTables, asList};
+ghost use Rattle.files.specs.Rows.{rowWords};
 
 // A refusal of a call over rows, as one over a form: 15 to 18 stay, and those of judging are 1 at place 0, 0.
 pub(crate) fn of_form(r: Refusal) -> Refusal
@@ -60,11 +61,11 @@ pub(crate) fn as_list(answer: ListAnswer) -> ListAnswer
 // Reads the words into the rows of the n expanders that they read as, and yields whether none of 3, 4 and 6 holds and the words are right
 // for what they read as.
 pub(crate) fn open_form(most: Setting, ws: &[u64], rows: &mut [u64], n: u8) -> bool
-    requires { ⌜ ((n ≡ length (formIn (now ws))) × (n ≤ 64)) × (258 * n ≤ length (now rows)) ⌝ }
+    requires { ⌜ ((n ≡ length (formIn (now ws))) × (n ≤ 64)) × (rowWords * n ≤ length (now rows)) ⌝ }
     ensures { λ r. ⌜ FormOpened most (now (ws .entry)) n r (now (rows .exit)) ⌝ }
 {
     reading::read_rows(ws, rows, n);
-    let e = 258 * (n as usize);
+    let e = files::ROW_WORDS * (n as usize);
     if testing::is_unread(most, &rows[..e]) {
         return false;
     }

@@ -36,7 +36,7 @@ fn list_in(
     if !form_opening::open_form(setting, form, rows, n) {
         return ListAnswer::Refused(wiring::refused(1));
     }
-    let e = 258 * (n as usize);
+    let e = files::ROW_WORDS * (n as usize);
     let chain = setting.chain;
     let answer = tracing::trace_list(
         &rows[..e],
@@ -67,9 +67,9 @@ fn list_few(
         (entries (now (words .entry)) (now (bits .entry))) (now (requests .entry)) r (now (answers .entry)) (now (answers .exit)) ⌝ }
 {
     if n <= 2 {
-        let mut rows = [0u64; 516];
-        let mut first = [0u16; 320];
-        let mut low = [0u8; 256];
+        let mut rows = [0u64; files::ROWS_OF_2];
+        let mut first = [0u16; wiring::SLOTS_OF_2];
+        let mut low = [0u8; wiring::PHYS_OF_2];
         return list_in(
             setting,
             form,
@@ -83,9 +83,9 @@ fn list_few(
             answers,
         );
     }
-    let mut rows = [0u64; 2064];
-    let mut first = [0u16; 1088];
-    let mut low = [0u8; 1024];
+    let mut rows = [0u64; files::ROWS_OF_8];
+    let mut first = [0u16; wiring::SLOTS_OF_8];
+    let mut low = [0u8; wiring::PHYS_OF_8];
     list_in(
         setting,
         form,
@@ -115,9 +115,9 @@ fn list_many(
         (formList setting (now (form .entry)) (roomOf (entries (now (words .entry)) (now (bits .entry)))) (length (now (answers .entry))) (requestCount (now (requests .entry))))
         (entries (now (words .entry)) (now (bits .entry))) (now (requests .entry)) r (now (answers .entry)) (now (answers .exit)) ⌝ }
 {
-    let mut rows = [0u64; 16512];
-    let mut first = [0u16; 8256];
-    let mut low = [0u8; 8192];
+    let mut rows = [0u64; files::ROWS_OF_64];
+    let mut first = [0u16; wiring::SLOTS_OF_64];
+    let mut low = [0u8; wiring::PHYS_OF_64];
     list_in(
         setting,
         form,
@@ -152,7 +152,7 @@ pub fn form_list(
     if n <= 8 {
         return list_few(setting, form, n, words, bits, requests, answers);
     }
-    if form.len() > 16512 {
+    if form.len() > files::ROWS_OF_64 {
         return form_list(setting, &form[..0], words, bits, requests, answers);
     }
     list_many(setting, form, n, words, bits, requests, answers)

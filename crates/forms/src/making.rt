@@ -57,7 +57,7 @@ fn make_in(
     match read {
         DomainRead::Refused(r) => FormMade::Refused(r),
         DomainRead::Expanders(n) => {
-            let e = 258 * (n as usize);
+            let e = files::ROW_WORDS * (n as usize);
             make_rows(&rows[..e], first, low, words, setting.chain)
         }
     }
@@ -69,9 +69,9 @@ fn make_few(setting: Setting, file: &[u8], words: &mut [u64]) -> FormMade
     ensures { λ r. ⌜ FormDone (formCall setting (now (file .entry)) (length (now (words .entry)))) r (now (words .entry)) (now (words .exit)) ⌝ }
 {
     if wiring::stated_count(file) <= 2 {
-        let mut rows = [0u64; 516];
-        let mut first = [0u16; 320];
-        let mut low = [0u8; 256];
+        let mut rows = [0u64; files::ROWS_OF_2];
+        let mut first = [0u16; wiring::SLOTS_OF_2];
+        let mut low = [0u8; wiring::PHYS_OF_2];
         return make_in(
             setting,
             file,
@@ -81,9 +81,9 @@ fn make_few(setting: Setting, file: &[u8], words: &mut [u64]) -> FormMade
             words,
         );
     }
-    let mut rows = [0u64; 2064];
-    let mut first = [0u16; 1088];
-    let mut low = [0u8; 1024];
+    let mut rows = [0u64; files::ROWS_OF_8];
+    let mut first = [0u16; wiring::SLOTS_OF_8];
+    let mut low = [0u8; wiring::PHYS_OF_8];
     make_in(
         setting,
         file,
@@ -98,9 +98,9 @@ fn make_few(setting: Setting, file: &[u8], words: &mut [u64]) -> FormMade
 fn make_many(setting: Setting, file: &[u8], words: &mut [u64]) -> FormMade
     ensures { λ r. ⌜ FormDone (formCall setting (now (file .entry)) (length (now (words .entry)))) r (now (words .entry)) (now (words .exit)) ⌝ }
 {
-    let mut rows = [0u64; 16512];
-    let mut first = [0u16; 8256];
-    let mut low = [0u8; 8192];
+    let mut rows = [0u64; files::ROWS_OF_64];
+    let mut first = [0u16; wiring::SLOTS_OF_64];
+    let mut low = [0u8; wiring::PHYS_OF_64];
     make_in(
         setting,
         file,

@@ -7,7 +7,7 @@ ghost use mathlib.Core.Path.{_≡_};
 ghost use Prim.Native.Nat.{_+_, _*_, _/_, _≤_};
 ghost use lib.ListN.{length, getD, take, drop};
 ghost use lib.Seq.{sets};
-ghost use Rattle.files.specs.Rows.{phyWords, domainIn};
+ghost use Rattle.files.specs.Rows.{phyWords, domainIn, rowWords};
 ghost use Rattle.forms.specs.Form.{phyBack, physBack, countIn, expanderBack, formIn};
 ghost use Rattle.forms.specs.FormRows.{RowHolds};
 
@@ -77,7 +77,7 @@ pub(crate) fn count_expanders(ws: &[u64]) -> u8
 
 // Stores the words of the n phys whose words start at `from` in a row.
 fn put_phys(row: &mut [u64], ws: &[u64], n: u8, from: usize)
-    requires { ⌜ (n ≤ 128) × ((length (now row) ≡ 258) × (from ≤ 100000)) ⌝ }
+    requires { ⌜ (n ≤ 128) × ((length (now row) ≡ rowWords) × (from ≤ 100000)) ⌝ }
     ensures { λ _. ⌜ now (row .exit) ≡ sets (now (row .entry)) 2 (phyWords (physBack n (drop from (now (ws .entry))))) ⌝ }
 {
     let mut p: u8 = 0;
@@ -94,7 +94,7 @@ fn put_phys(row: &mut [u64], ws: &[u64], n: u8, from: usize)
 
 // Writes what a row needs of the expander whose words start at `at`, and yields the place after its phys.
 fn put_row(row: &mut [u64], ws: &[u64], at: usize) -> usize
-    requires { ⌜ (length (now row) ≡ 258) × (at ≤ 99998) ⌝ }
+    requires { ⌜ (length (now row) ≡ rowWords) × (at ≤ 99998) ⌝ }
     ensures { λ r. ⌜ RowHolds (expanderBack (drop at (now (ws .entry)))) (now (row .exit)) × (r ≡ at + (2 + 2 * countIn (drop at (now (ws .entry))))) ⌝ }
 {
     let n = count_in(ws, at);
@@ -113,14 +113,14 @@ fn put_row(row: &mut [u64], ws: &[u64], at: usize) -> usize
 
 // Reads the words into the rows of the n expanders that they read as.
 pub(crate) fn read_rows(ws: &[u64], rows: &mut [u64], n: u8)
-    requires { ⌜ (n ≡ length (formIn (now ws))) × (258 * n ≤ length (now rows)) ⌝ }
-    ensures { λ _. ⌜ domainIn (take (258 * n) (now (rows .exit))) ≡ formIn (now (ws .entry)) ⌝ }
+    requires { ⌜ (n ≡ length (formIn (now ws))) × (rowWords * n ≤ length (now rows)) ⌝ }
+    ensures { λ _. ⌜ domainIn (take (rowWords * n) (now (rows .exit))) ≡ formIn (now (ws .entry)) ⌝ }
 {
     let mut at: usize = 0;
     let mut i: u8 = 0;
     while i < n {
-        let a = 258 * (i as usize);
-        let e = a + 258;
+        let a = files::ROW_WORDS * (i as usize);
+        let e = a + files::ROW_WORDS;
         at = put_row(&mut rows[a..e], ws, at);
         i += 1;
     }

@@ -33,7 +33,7 @@ fn tables_in(
     if !form_opening::open_form(setting, form, rows, n) {
         return TablesGiven::Refused(wiring::refused(1));
     }
-    let e = 258 * (n as usize);
+    let e = files::ROW_WORDS * (n as usize);
     let chain = setting.chain;
     let answer = tables::give_rows(&rows[..e], first, low, words, bits, chain);
     form_opening::as_tables(answer)
@@ -52,9 +52,9 @@ fn tables_few(
         r (entries (now (words .entry)) (now (bits .entry))) (entries (now (words .exit)) (now (bits .exit))) ⌝ }
 {
     if n <= 2 {
-        let mut rows = [0u64; 516];
-        let mut first = [0u16; 320];
-        let mut low = [0u8; 256];
+        let mut rows = [0u64; files::ROWS_OF_2];
+        let mut first = [0u16; wiring::SLOTS_OF_2];
+        let mut low = [0u8; wiring::PHYS_OF_2];
         return tables_in(
             setting,
             form,
@@ -66,9 +66,9 @@ fn tables_few(
             bits,
         );
     }
-    let mut rows = [0u64; 2064];
-    let mut first = [0u16; 1088];
-    let mut low = [0u8; 1024];
+    let mut rows = [0u64; files::ROWS_OF_8];
+    let mut first = [0u16; wiring::SLOTS_OF_8];
+    let mut low = [0u8; wiring::PHYS_OF_8];
     tables_in(
         setting,
         form,
@@ -93,9 +93,9 @@ fn tables_many(
     ensures { λ r. ⌜ TablesDone (formTables setting (now (form .entry)) (roomOf (entries (now (words .entry)) (now (bits .entry)))))
         r (entries (now (words .entry)) (now (bits .entry))) (entries (now (words .exit)) (now (bits .exit))) ⌝ }
 {
-    let mut rows = [0u64; 16512];
-    let mut first = [0u16; 8256];
-    let mut low = [0u8; 8192];
+    let mut rows = [0u64; files::ROWS_OF_64];
+    let mut first = [0u16; wiring::SLOTS_OF_64];
+    let mut low = [0u8; wiring::PHYS_OF_64];
     tables_in(
         setting,
         form,
@@ -125,7 +125,7 @@ pub fn form_tables(
     if n <= 8 {
         return tables_few(setting, form, n, words, bits);
     }
-    if form.len() > 16512 {
+    if form.len() > files::ROWS_OF_64 {
         return form_tables(setting, &form[..0], words, bits);
     }
     tables_many(setting, form, n, words, bits)

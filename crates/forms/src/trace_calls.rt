@@ -40,7 +40,7 @@ fn trace_in(
     if !form_opening::open_form(setting, form, rows, n) {
         return TraceAnswer::Refused(wiring::refused(1));
     }
-    let e = 258 * (n as usize);
+    let e = files::ROW_WORDS * (n as usize);
     let chain = setting.chain;
     let answer = tracing::request_rows(
         &rows[..e],
@@ -75,9 +75,9 @@ fn trace_few(
         r (now (passed .entry)) (now (passed .exit)) ⌝ }
 {
     if n <= 2 {
-        let mut rows = [0u64; 516];
-        let mut first = [0u16; 320];
-        let mut low = [0u8; 256];
+        let mut rows = [0u64; files::ROWS_OF_2];
+        let mut first = [0u16; wiring::SLOTS_OF_2];
+        let mut low = [0u8; wiring::PHYS_OF_2];
         return trace_in(
             setting,
             form,
@@ -93,9 +93,9 @@ fn trace_few(
             passed,
         );
     }
-    let mut rows = [0u64; 2064];
-    let mut first = [0u16; 1088];
-    let mut low = [0u8; 1024];
+    let mut rows = [0u64; files::ROWS_OF_8];
+    let mut first = [0u16; wiring::SLOTS_OF_8];
+    let mut low = [0u8; wiring::PHYS_OF_8];
     trace_in(
         setting,
         form,
@@ -129,9 +129,9 @@ fn trace_many(
         (formTrace setting (now (form .entry)) (entries (now (words .entry)) (now (bits .entry))) (length (now (passed .entry))) (request (start .0) (arrival .0) s))
         r (now (passed .entry)) (now (passed .exit)) ⌝ }
 {
-    let mut rows = [0u64; 16512];
-    let mut first = [0u16; 8256];
-    let mut low = [0u8; 8192];
+    let mut rows = [0u64; files::ROWS_OF_64];
+    let mut first = [0u16; wiring::SLOTS_OF_64];
+    let mut low = [0u8; wiring::PHYS_OF_64];
     trace_in(
         setting,
         form,
@@ -170,7 +170,7 @@ pub fn form_trace(
     if n <= 8 {
         return trace_few(setting, form, n, words, bits, start, arrival, s, passed);
     }
-    if form.len() > 16512 {
+    if form.len() > files::ROWS_OF_64 {
         return form_trace(setting, &form[..0], words, bits, start, arrival, s, passed);
     }
     trace_many(setting, form, n, words, bits, start, arrival, s, passed)

@@ -40,7 +40,7 @@ fn put_frame(buf: &mut [u8], request: Route)
 {
     let index = request.index.0;
     let disable = disable_byte(request.disabled);
-    bytes::clear_front(buf, 40);
+    bytes::clear_front(buf, crate::ROUTE_BYTES);
     buf[0] = 0x40;
     buf[1] = 0x90;
     buf[3] = request.length;
@@ -63,7 +63,7 @@ pub fn route_refusal(buf: &[u8], request: Route) -> RouteWrite
     if identifier > 127 {
         return RouteWrite::Refused(refusals::refused(15));
     }
-    if buf.len() < 40 {
+    if buf.len() < crate::ROUTE_BYTES {
         return RouteWrite::Refused(refusals::refused(16));
     }
     RouteWrite::Written
@@ -122,7 +122,7 @@ fn is_disabled(frame: &[u8]) -> bool
 pub fn read_route(frame: &[u8]) -> RouteRead
     ensures { λ r. ⌜ routeAnswer r ≡ routeRead (now (frame .entry)) ⌝ }
 {
-    if frame.len() != 40 {
+    if frame.len() != crate::ROUTE_BYTES {
         return RouteRead::Refused(refusals::refused(1));
     }
     if !is_fixed(frame) {

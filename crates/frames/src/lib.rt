@@ -26,6 +26,21 @@ pub use report_general::read_general;
 pub use report_general::read_general_sas2;
 pub use sizes::frame_size;
 
+// How many bytes a short REPORT GENERAL response has. The definitions have the sizes of responses in specs/Sizes.
+pub const GENERAL_BYTES: usize = 28;
+
+// How many bytes a long REPORT GENERAL response has.
+pub const LONG_GENERAL_BYTES: usize = 68;
+
+// How many bytes a short DISCOVER response has.
+pub const DISCOVER_BYTES: usize = 52;
+
+// How many bytes a long DISCOVER response has.
+pub const LONG_DISCOVER_BYTES: usize = 64;
+
+// How many bytes a CONFIGURE ROUTE INFORMATION request has.
+pub const ROUTE_BYTES: usize = 40;
+
 // A phy identifier: which phy of an expander.
 pub struct PhyId(pub u8);
 

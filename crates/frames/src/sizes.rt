@@ -21,8 +21,8 @@ fn short_size(kind: Response) -> usize
     ensures { λ r. ⌜ r ≡ shortSize kind ⌝ }
 {
     match kind {
-        Response::ReportGeneral => 28,
-        Response::Discover => 52,
+        Response::ReportGeneral => crate::GENERAL_BYTES,
+        Response::Discover => crate::DISCOVER_BYTES,
     }
 }
 
@@ -31,8 +31,8 @@ fn long_size(kind: Response) -> usize
     ensures { λ r. ⌜ r ≡ longSize kind ⌝ }
 {
     match kind {
-        Response::ReportGeneral => 68,
-        Response::Discover => 64,
+        Response::ReportGeneral => crate::LONG_GENERAL_BYTES,
+        Response::Discover => crate::LONG_DISCOVER_BYTES,
     }
 }
 

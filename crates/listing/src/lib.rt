@@ -21,6 +21,12 @@ pub use tables::give_rows;
 pub use tables::read_domain;
 pub use tables::widest;
 
+// How many bytes there are for one line.
+pub const LINE_BYTES: usize = 80;
+
+// How many bytes there are for a chunk of lines.
+pub const CHUNK_BYTES: usize = 65536;
+
 // Where a listing goes on: an entry of a routing table, and the number of its word.
 pub struct Cursor {
     pub expander: ExpanderNumber,

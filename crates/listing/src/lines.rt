@@ -39,7 +39,12 @@ fn put_line_at(out: &mut [u8], to: usize, at: Cursor, w: u64) -> usize
 
 // The lines of the table words of a domain in rows from a cursor on, up to the first for which no 80
 // bytes are left, or no word.
-pub fn put_chunk(rows: &[u64], words: &[u64], from: Cursor, out: &mut [u8; 65536]) -> Chunk
+pub fn put_chunk(
+    rows: &[u64],
+    words: &[u64],
+    from: Cursor,
+    out: &mut [u8; crate::CHUNK_BYTES],
+) -> Chunk
     ensures { λ r. ⌜ ChunkPut (domainIn (now (rows .entry))) (now (words .entry)) from (now (out .entry)) (now (out .exit)) (r .next) (r .end) ⌝ }
 {
     let n = tables::expander_count(rows);

@@ -90,7 +90,7 @@ pub(crate) fn put_line(
 }
 
 // The refusal line.
-pub fn refused(out: &mut [u8; 80], refusal: Refusal) -> usize
+pub fn refused(out: &mut [u8; crate::LINE_BYTES], refusal: Refusal) -> usize
     ensures { λ r. ⌜ Counts r (now (out .exit)) ⌝ }
     ensures { λ r. ⌜ WordsPut (now (out .entry)) (now (out .exit)) 0 r
         (refusedOf (refusal .number) (refusal .expander .0) (refusal .phy .0)) ⌝ }
@@ -103,7 +103,7 @@ pub fn refused(out: &mut [u8; 80], refusal: Refusal) -> usize
 }
 
 // The line of totals.
-pub fn totals(out: &mut [u8; 80], tables: u64, entries: u64) -> usize
+pub fn totals(out: &mut [u8; crate::LINE_BYTES], tables: u64, entries: u64) -> usize
     ensures { λ r. ⌜ Counts r (now (out .exit)) ⌝ }
     ensures { λ r. ⌜ WordsPut (now (out .entry)) (now (out .exit)) 0 r (totalsOf tables entries) ⌝ }
 {
@@ -116,7 +116,7 @@ pub fn totals(out: &mut [u8; 80], tables: u64, entries: u64) -> usize
 }
 
 // The line for an input that is too long.
-pub fn too_long(out: &mut [u8; 80]) -> usize
+pub fn too_long(out: &mut [u8; crate::LINE_BYTES]) -> usize
     ensures { λ r. ⌜ Counts r (now (out .exit)) ⌝ }
     ensures { λ r. ⌜ WordsPut (now (out .entry)) (now (out .exit)) 0 r tooLong ⌝ }
 {

@@ -10,9 +10,9 @@ fn discover_size(file: &[u8], at: usize) -> usize
     ensures { λ r. ⌜ (r ≡ sizeFrom Discover (now (file .entry)) at) × (r ≤ 64) ⌝ }
 {
     if wiring::byte_at(file, at + 3) == 0 {
-        return 52;
+        return frames::DISCOVER_BYTES;
     }
-    64
+    frames::LONG_DISCOVER_BYTES
 }
 
 // The place of the phys of the expander at `at`.
@@ -21,9 +21,9 @@ fn phys_from(file: &[u8], at: usize) -> usize
     ensures { λ r. ⌜ (r ≡ physFrom (now (file .entry)) at) × (r ≤ at + 76) ⌝ }
 {
     if wiring::byte_at(file, at + 8 + 3) == 0 {
-        return at + 8 + 28;
+        return at + 8 + frames::GENERAL_BYTES;
     }
-    at + 8 + 68
+    at + 8 + frames::LONG_GENERAL_BYTES
 }
 
 // The place after n phys, the first of which stands at `at`.

@@ -5,6 +5,12 @@ use listing::Refusal;
 use listing::TablesGiven;
 ghost use Rattle.io.specs.Counts.{Counts};
 
+// How many bytes of input are listed at most.
+const MOST_INPUT: usize = 65536;
+
+// How many table words there is room for.
+const TABLE_WORDS: usize = 8192;
+
 // What reading standard input gives: how many bytes were read, and whether a read failed then.
 struct Input {
     length: usize,
@@ -66,14 +72,14 @@ fn print_tables(rows: &[u64], words: &[u64], tables: u64, entries: u64) -> bool 
     if !print_lines(rows, words) {
         return false;
     }
-    let mut line = [0u8; 80];
+    let mut line = [0u8; listing::LINE_BYTES];
     let end = listing::totals(&mut line, tables, entries);
     io::write_all(1, &line[..end])
 }
 
 // Writes the refusal line, and answers whether it was written.
 fn print_refusal(r: Refusal) -> bool {
-    let mut line = [0u8; 80];
+    let mut line = [0u8; listing::LINE_BYTES];
     let end = listing::refused(&mut line, r);
     io::write_all(1, &line[..end])
 }
@@ -81,10 +87,10 @@ fn print_refusal(r: Refusal) -> bool {
 // Writes the listing of a domain in rows, or why there is none, and answers whether all was written. A chain
 // may have `chain` expanders.
 fn print_rows(rows: &[u64], chain: u8) -> bool {
-    let mut first = [0u16; 8256];
-    let mut low = [0u8; 8192];
-    let mut words = [0u64; 8192];
-    let mut bits = [0u8; 1024];
+    let mut first = [0u16; wiring::SLOTS_OF_64];
+    let mut low = [0u8; wiring::PHYS_OF_64];
+    let mut words = [0u64; TABLE_WORDS];
+    let mut bits = [0u8; TABLE_WORDS / 8];
     let given = listing::give_rows(
         rows,
         &mut first[..],
@@ -101,18 +107,18 @@ fn print_rows(rows: &[u64], chain: u8) -> bool {
 
 // Writes the listing of a file, which is read once, under the widest setting, and answers whether all was written.
 fn print_listing(file: &[u8]) -> bool {
-    if file.len() > 65536 {
-        let mut line = [0u8; 80];
+    if file.len() > MOST_INPUT {
+        let mut line = [0u8; listing::LINE_BYTES];
         let end = listing::too_long(&mut line);
         return io::write_all(1, &line[..end]);
     }
-    let mut rows = [0u64; 16512];
+    let mut rows = [0u64; files::ROWS_OF_64];
     let course = listing::widest();
     let read = listing::read_domain(course, file, &mut rows[..]);
     match read {
         DomainRead::Refused(r) => print_refusal(r),
         DomainRead::Expanders(n) => {
-            let e = 258 * (n as usize);
+            let e = files::ROW_WORDS * (n as usize);
             print_rows(&rows[..e], course.chain)
         }
     }
@@ -120,7 +126,7 @@ fn print_listing(file: &[u8]) -> bool {
 
 // At most 65,536 bytes of input and 8,192 table words.
 fn main() {
-    let mut file = [0u8; 65537];
+    let mut file = [0u8; MOST_INPUT + 1];
     let input = read_input(&mut file[..]);
     if input.failed {
         io::write_all(2, b"routes: standard input cannot be read\n");

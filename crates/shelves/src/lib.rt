@@ -13,15 +13,24 @@ pub use frames::Refusal;
 pub use frames::RouteIndex;
 ghost use Rattle.shelves.specs.Shelf.{Done, stepped, made};
 
+// The most phys of a shelf. Where a number is compared as a `u8`, `u16` or `u32`, it stands itself.
+pub(crate) const SHELF_PHYS: usize = 16;
+
+// The most route indexes of a shelf's phy.
+pub(crate) const SHELF_INDEXES: usize = 64;
+
+// How many entries a shelf has.
+pub(crate) const SHELF_ENTRIES: usize = SHELF_PHYS * SHELF_INDEXES;
+
 // A shelf has at most 16 phys and 64 route indexes: 64 entries for each phy, and for each entry a byte that is 0 where it
 // is not disabled; each phy's kind (0 vacant, 1 table, 2 other); how many route indexes each phy has (R); and how many
 // phys there are. Every byte belongs to a field, and whatever stands there is a shelf: phys past 16 and route indexes past
 // 64 do not exist.
 #[repr(C)]
 pub struct Shelf {
-    pub entries: [u64; 1024],
-    pub disabled: [u8; 1024],
-    pub kinds: [u8; 16],
+    pub entries: [u64; crate::SHELF_ENTRIES],
+    pub disabled: [u8; crate::SHELF_ENTRIES],
+    pub kinds: [u8; crate::SHELF_PHYS],
     pub routeIndexes: u32,
     pub phys: u32,
 }

@@ -27,7 +27,7 @@ fn at_most(room: u32, n: u32) -> u32
 pub(crate) fn result_of(
     phys: u32,
     routeIndexes: u32,
-    kinds: [u8; 16],
+    kinds: [u8; crate::SHELF_PHYS],
     phy: PhyId,
     index: RouteIndex,
 ) -> u8
@@ -57,7 +57,7 @@ pub(crate) fn result_of(
 pub(crate) fn place_of(phy: PhyId, index: RouteIndex) -> usize
     ensures { λ r. ⌜ r ≡ place (phy .0) (index .0) ⌝ }
 {
-    (phy.0 as usize) * 64 + (index.0 as usize)
+    (phy.0 as usize) * crate::SHELF_INDEXES + (index.0 as usize)
 }
 
 // The byte of a disable bit.

@@ -51,11 +51,11 @@ fn is_told(phys: u8, routeIndexes: u16, kinds: &[u8]) -> bool
 }
 
 // The kinds of sixteen phys: vacant after those told.
-fn all_kinds(kinds: &[u8]) -> [u8; 16]
+fn all_kinds(kinds: &[u8]) -> [u8; crate::SHELF_PHYS]
     requires { ⌜ length (now kinds) ≤ 16 ⌝ }
     ensures { λ r. ⌜ r ≡ sixteen (now (kinds .entry)) ⌝ }
 {
-    let mut all = [0u8; 16];
+    let mut all = [0u8; crate::SHELF_PHYS];
     let mut i: usize = 0;
     while i < kinds.len() {
         all[i] = kinds[i];
@@ -70,8 +70,8 @@ fn fresh_shelf(phys: u8, routeIndexes: u16, kinds: &[u8]) -> Shelf
     ensures { λ r. ⌜ r ≡ freshShelf phys routeIndexes (now (kinds .entry)) ⌝ }
 {
     let all = all_kinds(kinds);
-    let entries = [0u64; 1024];
-    let disabled = [1u8; 1024];
+    let entries = [0u64; crate::SHELF_ENTRIES];
+    let disabled = [1u8; crate::SHELF_ENTRIES];
     Shelf {
         entries: entries,
         disabled: disabled,

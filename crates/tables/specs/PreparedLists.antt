@@ -20,6 +20,21 @@ use Rattle.tables.specs.declared.TablesGiven.{TablesGiven}
 use Rattle.tables.specs.OwnLists.{ownWords}
 use Rattle.tables.specs.Tables.{size, sizes, needed}
 
+-- how many words an own list has with its length before it: at most 128, and one
+abbrev pub ownListWords : ℕ
+ownListWords = 129
+
+-- how many expanders are at most downstream of one: 64, and their count for an address that no expander has; and how many bytes their list has with its length before it
+abbrev pub mostDownstream : ℕ
+mostDownstream = 65
+
+abbrev pub downstreamBytes : ℕ
+downstreamBytes = 66
+
+-- how many bytes the order of a phy takes at most: 64 expanders each add at most 65, and the first level has one
+abbrev pub orderBytes : ℕ
+orderBytes = 4161
+
 -- from word stride * i on stand the length of list i and then the list, for each i below n
 abbrev pub Cells : ℕ → (ℕ → List ℕ) → ℕ → List ℕ → Type 0
 Cells stride list n words = (i : ℕ) → i < n → take (suc (length (list i))) (drop (stride * i) words) ≡ length (list i) ∷ list i
@@ -31,7 +46,7 @@ pub record Stored (stride : ℕ) (list : ℕ → List ℕ) (n : ℕ) (words : Li
 
 -- the own lists of all expanders, each after its length, one every 129 words
 abbrev pub OwnListsHeld : Domain → List ℕ → Type 0
-OwnListsHeld d words = Stored 129 (ownWords d) (length d) words
+OwnListsHeld d words = Stored ownListWords (ownWords d) (length d) words
 
 -- the length of each expander's own list
 pub record OwnListCounts (d : Domain) (counts : List ℕ) : Type 0 where
@@ -44,7 +59,7 @@ downstreamOnce d i = eachOnce [] (downstream d i)
 
 -- for each expander the list of those downstream of it, after its length, one every 66 bytes
 abbrev pub DownstreamListsHeld : Domain → List ℕ → Type 0
-DownstreamListsHeld d bytes = Stored 66 (downstreamOnce d) (length d) bytes
+DownstreamListsHeld d bytes = Stored downstreamBytes (downstreamOnce d) (length d) bytes
 
 -- the expanders met from these on, in order: after each come, behind those that wait, the expanders downstream of it; so many are followed
 unfoldable pub queue : ℕ → Domain → List ℕ → List ℕ
@@ -96,9 +111,9 @@ pub record FilledFrom (d : Domain) (x p : ℕ) (lists order : List ℕ) (room : 
 
 -- room for own lists, for the expanders downstream of each, and for the order of one phy
 pub record FillRoom (d : Domain) (words bytes numbers : List ℕ) : Type 0 where
-  pub lists : 129 * length d ≤ length words
-  pub downstream : 66 * length d ≤ length bytes
-  pub order : 65 * length d < length numbers
+  pub lists : ownListWords * length d ≤ length words
+  pub downstream : downstreamBytes * length d ≤ length bytes
+  pub order : mostDownstream * length d < length numbers
 
 -- writing the table of phy p of expander i from `at` on rests on these: own lists, the phy's order, and room
 abbrev pub TableReady : Domain → List ℕ → List ℕ → ℕ → ℕ → List ℕ → ℕ → Type 0
@@ -119,16 +134,16 @@ pub record PhyIndexed (d : Domain) (first : List ℕ) (i p : ℕ) (φ : Phy) : T
 
 -- the order of one phy: what is below each expander, and room for the numbers
 abbrev pub OrderReady : Domain → List ℕ → List ℕ → Type 0
-OrderReady d downstream order = DownstreamListsHeld d downstream × (65 * length d < length order)
+OrderReady d downstream order = DownstreamListsHeld d downstream × (mostDownstream * length d < length order)
 
 -- the same, where the first n numbers are the order of φ
 abbrev pub OrderKept : Domain → List ℕ → List ℕ → ℕ → Phy → Type 0
-OrderKept d downstream order n φ = DownstreamListsHeld d downstream × ((65 * length d < length order) × Grown order order n (orderOf d φ))
+OrderKept d downstream order n φ = DownstreamListsHeld d downstream × ((mostDownstream * length d < length order) × Grown order order n (orderOf d φ))
 
 -- writing the tables of expander i from `at` on: which expanders its phys are attached to, own lists, what is below each, and room
 abbrev pub TablesReady : Domain → List ℕ → List ℕ → List ℕ → List ℕ → ℕ → List ℕ → ℕ → Type 0
 TablesReady d first lists downstream order i words at =
-    AttachedExpandersKnown d first × (OwnListsHeld d lists × (DownstreamListsHeld d downstream × ((65 * length d < length order) × (Fillable d × (at + sizes d (placesAt d i) ≤ length words)))))
+    AttachedExpandersKnown d first × (OwnListsHeld d lists × (DownstreamListsHeld d downstream × ((mostDownstream * length d < length order) × (Fillable d × (at + sizes d (placesAt d i) ≤ length words)))))
 
 -- φ, phy p of expander i, gives its word to the own list, by the lowest phy with its address
 abbrev pub ownsBy : List ℕ → ℕ → ℕ → Phy → Bool

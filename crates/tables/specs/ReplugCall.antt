@@ -20,7 +20,7 @@ use Rattle.tables.specs.Entries.{Entries, Room, roomOf}
 use Rattle.tables.specs.GrowingLists.{placesAt}
 use Rattle.tables.specs.OwnLists.{ownWords}
 use Rattle.tables.specs.JudgingCall.{tablesFor}
-use Rattle.tables.specs.PreparedLists.{OwnListsHeld, DownstreamListsHeld, orderOf, ownWordsOfOrder, ownOverlong, filledTo, Fillable, AttachedExpandersKnown, judgedIn}
+use Rattle.tables.specs.PreparedLists.{OwnListsHeld, DownstreamListsHeld, orderOf, ownWordsOfOrder, ownOverlong, filledTo, Fillable, AttachedExpandersKnown, judgedIn, ownListWords, mostDownstream, orderBytes}
 use Rattle.tables.specs.TouchedTables.{refilledBy, Moved, movedBy}
 use Rattle.tables.specs.declared.Replugged.{Replugged}
 use Rattle.tables.specs.declared.Replugged.the-variants.{Refused, Counts}
@@ -103,8 +103,8 @@ pub record ReplugDone (outcome : Result Domain) (e : ℕ) (answer : Replugged) (
 
 -- the own lists of all expanders but expander e, as OwnHeld has them
 pub record OwnListsHeldBut (d : Domain) (e : ℕ) (words : List ℕ) : Type 0 where
-  pub enough : 129 * length d ≤ length words
-  pub cell : (i : ℕ) → i < length d → i ≢ e → take (suc (length (ownWords d i))) (drop (129 * i) words) ≡ length (ownWords d i) ∷ ownWords d i
+  pub enough : ownListWords * length d ≤ length words
+  pub cell : (i : ℕ) → i < length d → i ≢ e → take (suc (length (ownWords d i))) (drop (ownListWords * i) words) ≡ length (ownWords d i) ∷ ownWords d i
 
 -- all that is prepared where a drive is plugged or pulled at expander e: own lists, the expanders downstream of each, and room for the levels of one phy. Tables
 -- can be filled as long as e's own list has at most n words
@@ -112,8 +112,8 @@ pub record ReplugReady (d : Domain) (e n : ℕ) (first lists bytes order : List 
   pub fars : AttachedExpandersKnown d first
   pub owns : OwnListsHeld d lists
   pub downstream : DownstreamListsHeld d bytes
-  pub room : 65 * length d < length order
-  pub few : length order ≤ 4161
+  pub room : mostDownstream * length d < length order
+  pub few : length order ≤ orderBytes
   pub fills : length (ownWords d e) ≤ n → Fillable d
 
 -- rows and entries before and after address a is plugged into phy p of expander e, or its drive pulled, of a domain past causes 7 to 12 and 23, and the answer

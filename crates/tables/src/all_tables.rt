@@ -180,9 +180,9 @@ fn put_few(rows: &[u64], first: &[u16], low: &[u8], words: &mut [u64])
     requires { ⌜ (length (domainIn (now rows)) ≤ 8) × AllReady (domainIn (now rows)) (now first) (now low) (now words) ⌝ }
     ensures { λ _. ⌜ now (words .exit) ≡ ownTables (domainIn (now (rows .entry))) ++ drop (needed (domainIn (now (rows .entry)))) (now (words .entry)) ⌝ }
 {
-    let mut lists = [0u64; 1032];
-    let mut downstream = [0u8; 528];
-    let mut order = [0u8; 521];
+    let mut lists = [0u64; crate::OWN_LISTS_OF_8];
+    let mut downstream = [0u8; crate::DOWNSTREAM_OF_8];
+    let mut order = [0u8; crate::ORDER_OF_8];
     put_all_in(
         rows,
         first,
@@ -199,9 +199,9 @@ fn put_many(rows: &[u64], first: &[u16], low: &[u8], words: &mut [u64])
     requires { ⌜ AllReady (domainIn (now rows)) (now first) (now low) (now words) ⌝ }
     ensures { λ _. ⌜ now (words .exit) ≡ ownTables (domainIn (now (rows .entry))) ++ drop (needed (domainIn (now (rows .entry)))) (now (words .entry)) ⌝ }
 {
-    let mut lists = [0u64; 8256];
-    let mut downstream = [0u8; 4224];
-    let mut order = [0u8; 4161];
+    let mut lists = [0u64; crate::OWN_LISTS_OF_64];
+    let mut downstream = [0u8; crate::DOWNSTREAM_OF_64];
+    let mut order = [0u8; crate::ORDER_OF_64];
     put_all_in(
         rows,
         first,
@@ -219,7 +219,7 @@ pub(crate) fn put_all(rows: &[u64], first: &[u16], low: &[u8], words: &mut [u64]
     requires { ⌜ AllReady (domainIn (now rows)) (now first) (now low) (now words) ⌝ }
     ensures { λ _. ⌜ now (words .exit) ≡ ownTables (domainIn (now (rows .entry))) ++ drop (needed (domainIn (now (rows .entry)))) (now (words .entry)) ⌝ }
 {
-    if rows.len() > 16512 {
+    if rows.len() > files::ROWS_OF_64 {
         put_all(&rows[..16512], first, low, words);
         return;
     }

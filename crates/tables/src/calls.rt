@@ -47,7 +47,7 @@ fn judge_in(
     match read {
         DomainRead::Refused(r) => Judgement::Refused(r),
         DomainRead::Expanders(n) => {
-            let e = 258 * (n as usize);
+            let e = files::ROW_WORDS * (n as usize);
             let verdict = judge_rows(&rows[..e], first, low, setting.chain);
             match verdict {
                 Check::Refused(r) => Judgement::Refused(r),
@@ -63,14 +63,14 @@ fn judge_few(setting: Setting, file: &[u8]) -> Judgement
     ensures { λ r. ⌜ judgeAnswer r ≡ then (judged setting (now (file .entry))) expandersIn ⌝ }
 {
     if wiring::stated_count(file) <= 2 {
-        let mut rows = [0u64; 516];
-        let mut first = [0u16; 320];
-        let mut low = [0u8; 256];
+        let mut rows = [0u64; files::ROWS_OF_2];
+        let mut first = [0u16; wiring::SLOTS_OF_2];
+        let mut low = [0u8; wiring::PHYS_OF_2];
         return judge_in(setting, file, &mut rows[..], &mut first[..], &mut low[..]);
     }
-    let mut rows = [0u64; 2064];
-    let mut first = [0u16; 1088];
-    let mut low = [0u8; 1024];
+    let mut rows = [0u64; files::ROWS_OF_8];
+    let mut first = [0u16; wiring::SLOTS_OF_8];
+    let mut low = [0u8; wiring::PHYS_OF_8];
     judge_in(setting, file, &mut rows[..], &mut first[..], &mut low[..])
 }
 
@@ -78,9 +78,9 @@ fn judge_few(setting: Setting, file: &[u8]) -> Judgement
 fn judge_many(setting: Setting, file: &[u8]) -> Judgement
     ensures { λ r. ⌜ judgeAnswer r ≡ then (judged setting (now (file .entry))) expandersIn ⌝ }
 {
-    let mut rows = [0u64; 16512];
-    let mut first = [0u16; 8256];
-    let mut low = [0u8; 8192];
+    let mut rows = [0u64; files::ROWS_OF_64];
+    let mut first = [0u16; wiring::SLOTS_OF_64];
+    let mut low = [0u8; wiring::PHYS_OF_64];
     judge_in(setting, file, &mut rows[..], &mut first[..], &mut low[..])
 }
 
@@ -161,7 +161,7 @@ fn give_in(
     match read {
         DomainRead::Refused(r) => TablesGiven::Refused(r),
         DomainRead::Expanders(n) => {
-            let e = 258 * (n as usize);
+            let e = files::ROW_WORDS * (n as usize);
             give_rows(&rows[..e], first, low, words, bits, setting.chain)
         }
     }
@@ -174,9 +174,9 @@ fn give_few(setting: Setting, file: &[u8], words: &mut [u64], bits: &mut [u8]) -
         r (entries (now (words .entry)) (now (bits .entry))) (entries (now (words .exit)) (now (bits .exit))) ⌝ }
 {
     if wiring::stated_count(file) <= 2 {
-        let mut rows = [0u64; 516];
-        let mut first = [0u16; 320];
-        let mut low = [0u8; 256];
+        let mut rows = [0u64; files::ROWS_OF_2];
+        let mut first = [0u16; wiring::SLOTS_OF_2];
+        let mut low = [0u8; wiring::PHYS_OF_2];
         return give_in(
             setting,
             file,
@@ -187,9 +187,9 @@ fn give_few(setting: Setting, file: &[u8], words: &mut [u64], bits: &mut [u8]) -
             bits,
         );
     }
-    let mut rows = [0u64; 2064];
-    let mut first = [0u16; 1088];
-    let mut low = [0u8; 1024];
+    let mut rows = [0u64; files::ROWS_OF_8];
+    let mut first = [0u16; wiring::SLOTS_OF_8];
+    let mut low = [0u8; wiring::PHYS_OF_8];
     give_in(
         setting,
         file,
@@ -206,9 +206,9 @@ fn give_many(setting: Setting, file: &[u8], words: &mut [u64], bits: &mut [u8]) 
     ensures { λ r. ⌜ TablesDone (tableCall setting (now (file .entry)) (roomOf (entries (now (words .entry)) (now (bits .entry)))))
         r (entries (now (words .entry)) (now (bits .entry))) (entries (now (words .exit)) (now (bits .exit))) ⌝ }
 {
-    let mut rows = [0u64; 16512];
-    let mut first = [0u16; 8256];
-    let mut low = [0u8; 8192];
+    let mut rows = [0u64; files::ROWS_OF_64];
+    let mut first = [0u16; wiring::SLOTS_OF_64];
+    let mut low = [0u8; wiring::PHYS_OF_64];
     give_in(
         setting,
         file,

@@ -14,7 +14,7 @@ ghost use Rattle.files.specs.Domain.{phyAt};
 ghost use Rattle.files.specs.Rows.{domainIn};
 ghost use Rattle.tables.specs.Levels.{downstreamOfPhys};
 ghost use Rattle.tables.specs.GrowingLists.{Grown, Added};
-ghost use Rattle.tables.specs.PreparedLists.{AttachedExpandersKnown, downstreamOnce, DownstreamListsHeld};
+ghost use Rattle.tables.specs.PreparedLists.{AttachedExpandersKnown, downstreamOnce, DownstreamListsHeld, downstreamBytes, mostDownstream};
 
 // Whether the number is among these.
 pub(crate) fn has_number(l: &[u8], j: ExpanderNumber) -> bool
@@ -73,7 +73,7 @@ fn collect_downstream(
     i: ExpanderNumber,
     part: &mut [u8],
 ) -> usize
-    requires { ⌜ AttachedExpandersKnown (domainIn (now rows)) (now first) × (length (now part) ≡ 65) ⌝ }
+    requires { ⌜ AttachedExpandersKnown (domainIn (now rows)) (now first) × (length (now part) ≡ mostDownstream) ⌝ }
     ensures { λ r. ⌜ Grown (now (part .entry)) (now (part .exit)) r (downstreamOnce (domainIn (now (rows .entry))) (i .0)) ⌝ }
 {
     let n = wiring::phy_count(rows, i);
@@ -92,19 +92,19 @@ fn collect_downstream(
 
 // Writes the list of each expander.
 pub(crate) fn put_downstream(rows: &[u64], first: &[u16], low: &[u8], downstream: &mut [u8])
-    requires { ⌜ AttachedExpandersKnown (domainIn (now rows)) (now first) × (66 * length (domainIn (now rows)) ≤ length (now downstream)) ⌝ }
+    requires { ⌜ AttachedExpandersKnown (domainIn (now rows)) (now first) × (downstreamBytes * length (domainIn (now rows)) ≤ length (now downstream)) ⌝ }
     ensures { λ _. ⌜ DownstreamListsHeld (domainIn (now (rows .entry))) (now (downstream .exit)) ⌝ }
 {
     let n = wiring::expander_count(rows);
     let mut i: u8 = 0;
     while i < n {
-        let a = 66 * (i as usize);
+        let a = crate::DOWNSTREAM_BYTES * (i as usize);
         let m = collect_downstream(
             rows,
             first,
             low,
             ExpanderNumber(i),
-            &mut downstream[a + 1..a + 66],
+            &mut downstream[a + 1..a + crate::DOWNSTREAM_BYTES],
         );
         downstream[a] = m as u8;
         i += 1;

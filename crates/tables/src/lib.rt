@@ -69,6 +69,33 @@ pub use wiring::stated_count;
 pub use wiring::widest;
 pub use wiring::wire;
 
+// How many words an own list has with its length before it: at most 128, and one.
+pub(crate) const OWN_LIST_WORDS: usize = 129;
+
+// How many words the own lists of 8 expanders have.
+pub(crate) const OWN_LISTS_OF_8: usize = 8 * OWN_LIST_WORDS;
+
+// How many words the own lists of the most expanders have.
+pub(crate) const OWN_LISTS_OF_64: usize = 64 * OWN_LIST_WORDS;
+
+// How many expanders are at most downstream of one: 64, and their count for an address that no expander has.
+pub(crate) const MOST_DOWNSTREAM: usize = 65;
+
+// How many bytes their list has with its length before it.
+pub(crate) const DOWNSTREAM_BYTES: usize = MOST_DOWNSTREAM + 1;
+
+// How many bytes those lists of 8 expanders have.
+pub(crate) const DOWNSTREAM_OF_8: usize = 8 * DOWNSTREAM_BYTES;
+
+// How many bytes those lists of the most expanders have.
+pub(crate) const DOWNSTREAM_OF_64: usize = 64 * DOWNSTREAM_BYTES;
+
+// How many bytes the order of a phy takes at most where there are 8 expanders: each adds those downstream of it, and the first level has one.
+pub(crate) const ORDER_OF_8: usize = 8 * MOST_DOWNSTREAM + 1;
+
+// How many bytes the order of a phy takes at most.
+pub(crate) const ORDER_OF_64: usize = 64 * MOST_DOWNSTREAM + 1;
+
 // What the judging call answers: the number of expanders.
 pub enum Judgement {
     Refused(Refusal),

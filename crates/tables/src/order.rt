@@ -12,7 +12,7 @@ ghost use Rattle.files.specs.Domain.{phyAt};
 ghost use Rattle.files.specs.Rows.{domainIn};
 ghost use Rattle.tables.specs.Levels.{downstreamOfPhys};
 ghost use Rattle.tables.specs.GrowingLists.{Grown};
-ghost use Rattle.tables.specs.PreparedLists.{DownstreamListsHeld, downstreamOnce, orderOf, PhyIndexed, OrderReady, OrderKept};
+ghost use Rattle.tables.specs.PreparedLists.{DownstreamListsHeld, downstreamOnce, orderOf, PhyIndexed, OrderReady, OrderKept, mostDownstream};
 
 // Copies the numbers after the first m of `order`, and yields how many there are then.
 fn append_numbers(order: &mut [u8], m: usize, more: &[u8]) -> usize
@@ -37,13 +37,13 @@ fn append_downstream(
     order: &mut [u8],
     m: usize,
 ) -> usize
-    requires { ⌜ DownstreamListsHeld (domainIn (now rows)) (now downstream) × (m + 65 ≤ length (now order)) ⌝ }
+    requires { ⌜ DownstreamListsHeld (domainIn (now rows)) (now downstream) × (m + mostDownstream ≤ length (now order)) ⌝ }
     ensures { λ r. ⌜ Grown (now (order .entry)) (now (order .exit)) r (take m (now (order .entry)) ++ downstreamOnce (domainIn (now (rows .entry))) (i .0)) ⌝ }
 {
     if i.0 >= wiring::expander_count(rows) {
         return m;
     }
-    let a = 66 * (i.0 as usize);
+    let a = crate::DOWNSTREAM_BYTES * (i.0 as usize);
     let from = a + 1;
     let to = from + downstream[a] as usize;
     append_numbers(order, m, &downstream[from..to])

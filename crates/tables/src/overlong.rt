@@ -19,11 +19,11 @@ ghost use Rattle.files.specs.Rows.{domainIn};
 ghost use Rattle.wiring.specs.AddressIndex.{Indexed};
 ghost use Rattle.tables.specs.GrowingLists.{placesAt};
 ghost use Rattle.tables.specs.OwnLists.{ownWords};
-ghost use Rattle.tables.specs.PreparedLists.{AttachedExpandersKnown, OwnListCounts, DownstreamListsHeld, ownOverlong, LowerOnLink};
+ghost use Rattle.tables.specs.PreparedLists.{AttachedExpandersKnown, OwnListCounts, DownstreamListsHeld, ownOverlong, LowerOnLink, downstreamBytes, mostDownstream, orderBytes};
 
 // How many words the own lists of these expanders have.
 fn count_words(rows: &[u64], counts: &[u8], order: &[u8]) -> usize
-    requires { ⌜ OwnListCounts (domainIn (now rows)) (now counts) × (length (now order) ≤ 4161) ⌝ }
+    requires { ⌜ OwnListCounts (domainIn (now rows)) (now counts) × (length (now order) ≤ orderBytes) ⌝ }
     ensures { λ r. ⌜ r ≡ length (flatMap (ownWords (domainIn (now (rows .entry)))) (now (order .entry))) ⌝ }
 {
     let mut sum: usize = 0;
@@ -50,7 +50,7 @@ fn is_overlong(
     f: Phy,
     order: &mut [u8],
 ) -> bool
-    requires { ⌜ AttachedExpandersKnown (domainIn (now rows)) (now first) × (OwnListCounts (domainIn (now rows)) (now counts) × (DownstreamListsHeld (domainIn (now rows)) (now downstream) × (((65 * length (domainIn (now rows)) < length (now order)) × (length (now order) ≤ 4161))
+    requires { ⌜ AttachedExpandersKnown (domainIn (now rows)) (now first) × (OwnListCounts (domainIn (now rows)) (now counts) × (DownstreamListsHeld (domainIn (now rows)) (now downstream) × (((mostDownstream * length (domainIn (now rows)) < length (now order)) × (length (now order) ≤ orderBytes))
         × ((f ≡ phyAt (domainIn (now rows)) (i .0) (p .0)) × (LowerOnLink (domainIn (now rows)) (i .0) (p .0) (q .0) × ((k : ℕ) → k < p .0 → ownOverlong (domainIn (now rows)) (i .0) k ≡ false)))))) ⌝ }
     ensures { λ r. ⌜ r ≡ ownOverlong (domainIn (now (rows .entry))) (i .0) (p .0) ⌝ }
 {
@@ -74,7 +74,7 @@ fn overlong_phy(
     i: ExpanderNumber,
     order: &mut [u8],
 ) -> Check
-    requires { ⌜ AttachedExpandersKnown (domainIn (now rows)) (now first) × (OwnListCounts (domainIn (now rows)) (now counts) × (DownstreamListsHeld (domainIn (now rows)) (now downstream) × ((65 * length (domainIn (now rows)) < length (now order)) × (length (now order) ≤ 4161)))) ⌝ }
+    requires { ⌜ AttachedExpandersKnown (domainIn (now rows)) (now first) × (OwnListCounts (domainIn (now rows)) (now counts) × (DownstreamListsHeld (domainIn (now rows)) (now downstream) × ((mostDownstream * length (domainIn (now rows)) < length (now order)) × (length (now order) ≤ orderBytes)))) ⌝ }
     ensures { λ r. ⌜ checkAnswer (domainIn (now (rows .entry))) r
         ≡ firstIn 14 (ownOverlong (domainIn (now (rows .entry)))) (placesAt (domainIn (now (rows .entry))) (i .0)) (domainIn (now (rows .entry))) ⌝ }
 {
@@ -100,7 +100,7 @@ pub(crate) fn overlong_each(
     downstream: &[u8],
     order: &mut [u8],
 ) -> Check
-    requires { ⌜ AttachedExpandersKnown (domainIn (now rows)) (now first) × (OwnListCounts (domainIn (now rows)) (now counts) × (DownstreamListsHeld (domainIn (now rows)) (now downstream) × ((65 * length (domainIn (now rows)) < length (now order)) × (length (now order) ≤ 4161)))) ⌝ }
+    requires { ⌜ AttachedExpandersKnown (domainIn (now rows)) (now first) × (OwnListCounts (domainIn (now rows)) (now counts) × (DownstreamListsHeld (domainIn (now rows)) (now downstream) × ((mostDownstream * length (domainIn (now rows)) < length (now order)) × (length (now order) ≤ orderBytes)))) ⌝ }
     ensures { λ r. ⌜ checkAnswer (domainIn (now (rows .entry))) r
         ≡ firstOf 14 (ownOverlong (domainIn (now (rows .entry)))) (domainIn (now (rows .entry))) ⌝ }
 {
@@ -135,7 +135,7 @@ fn overlong_in(
     downstream: &mut [u8],
     order: &mut [u8],
 ) -> Check
-    requires { ⌜ Indexed (domainIn (now rows)) (now first) (now low) × ((66 * length (domainIn (now rows)) ≤ length (now downstream)) × ((65 * length (domainIn (now rows)) < length (now order)) × (length (now order) ≤ 4161))) ⌝ }
+    requires { ⌜ Indexed (domainIn (now rows)) (now first) (now low) × ((downstreamBytes * length (domainIn (now rows)) ≤ length (now downstream)) × ((mostDownstream * length (domainIn (now rows)) < length (now order)) × (length (now order) ≤ orderBytes))) ⌝ }
     ensures { λ r. ⌜ checkAnswer (domainIn (now (rows .entry))) r
         ≡ firstOf 14 (ownOverlong (domainIn (now (rows .entry)))) (domainIn (now (rows .entry))) ⌝ }
 {
@@ -152,11 +152,11 @@ pub(crate) fn first_overlong(rows: &[u64], first: &[u16], low: &[u8]) -> Check
         ≡ firstOf 14 (ownOverlong (domainIn (now (rows .entry)))) (domainIn (now (rows .entry))) ⌝ }
 {
     if wiring::expander_count(rows) <= 8 {
-        let mut downstream = [0u8; 528];
-        let mut order = [0u8; 521];
+        let mut downstream = [0u8; crate::DOWNSTREAM_OF_8];
+        let mut order = [0u8; crate::ORDER_OF_8];
         return overlong_in(rows, first, low, &mut downstream[..], &mut order[..]);
     }
-    let mut downstream = [0u8; 4224];
-    let mut order = [0u8; 4161];
+    let mut downstream = [0u8; crate::DOWNSTREAM_OF_64];
+    let mut order = [0u8; crate::ORDER_OF_64];
     overlong_in(rows, first, low, &mut downstream[..], &mut order[..])
 }

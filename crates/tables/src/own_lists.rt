@@ -13,7 +13,7 @@ ghost use Rattle.files.specs.Rows.{domainIn};
 ghost use Rattle.tables.specs.Tables.{word};
 ghost use Rattle.tables.specs.OwnLists.{ownWords};
 ghost use Rattle.tables.specs.GrowingLists.{Grown};
-ghost use Rattle.tables.specs.PreparedLists.{OwnListsHeld, OwnListCounts, ownsBy};
+ghost use Rattle.tables.specs.PreparedLists.{OwnListsHeld, OwnListCounts, ownsBy, ownListWords};
 ghost use Rattle.wiring.specs.AddressIndex.{IndexedLow};
 
 // Whether it is an attached phy that bears the address.
@@ -86,14 +86,19 @@ fn collect_own(rows: &[u64], low: &[u8], i: ExpanderNumber, part: &mut [u64]) ->
 
 // Writes the own lists of all expanders, each with its length before it, one every 129 words.
 pub(crate) fn put_owns(rows: &[u64], low: &[u8], words: &mut [u64])
-    requires { ⌜ IndexedLow (domainIn (now rows)) (now low) × (129 * length (domainIn (now rows)) ≤ length (now words)) ⌝ }
+    requires { ⌜ IndexedLow (domainIn (now rows)) (now low) × (ownListWords * length (domainIn (now rows)) ≤ length (now words)) ⌝ }
     ensures { λ _. ⌜ OwnListsHeld (domainIn (now (rows .entry))) (now (words .exit)) ⌝ }
 {
     let n = wiring::expander_count(rows);
     let mut i: u8 = 0;
     while i < n {
-        let a = 129 * (i as usize);
-        let m = collect_own(rows, low, ExpanderNumber(i), &mut words[a + 1..a + 129]);
+        let a = crate::OWN_LIST_WORDS * (i as usize);
+        let m = collect_own(
+            rows,
+            low,
+            ExpanderNumber(i),
+            &mut words[a + 1..a + crate::OWN_LIST_WORDS],
+        );
         words[a] = m as u64;
         i += 1;
     }
@@ -159,5 +164,5 @@ pub(crate) fn own_length(rows: &[u64], lists: &[u64], i: ExpanderNumber) -> usiz
     if i.0 >= wiring::expander_count(rows) {
         return 0;
     }
-    lists[129 * (i.0 as usize)] as usize
+    lists[crate::OWN_LIST_WORDS * (i.0 as usize)] as usize
 }

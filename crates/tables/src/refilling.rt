@@ -24,7 +24,7 @@ ghost use Rattle.tables.specs.Entries.{entries, roomOf, Enough};
 ghost use Rattle.tables.specs.Tables.{size, sizes, needed};
 ghost use Rattle.tables.specs.OwnLists.{ownWords};
 ghost use Rattle.tables.specs.GrowingLists.{placesAt, overlay};
-ghost use Rattle.tables.specs.PreparedLists.{AttachedExpandersKnown, OwnListsHeld, DownstreamListsHeld, orderOf, ownWordsOfOrder, filledTo, Fillable, FilledFrom};
+ghost use Rattle.tables.specs.PreparedLists.{AttachedExpandersKnown, OwnListsHeld, DownstreamListsHeld, orderOf, ownWordsOfOrder, filledTo, Fillable, FilledFrom, mostDownstream};
 ghost use Rattle.tables.specs.TouchedTables.{changed, movedBy};
 ghost use Rattle.tables.specs.ReplugCall.{ownTouched, ownRefilled, replugAnswer};
 ghost use Rattle.tables.specs.TablesRewritten.{withBit, tableLink, Passed, TallyBounds, Rewritten};
@@ -81,7 +81,7 @@ fn count_own(rows: &[u64], lists: &[u64], i: ExpanderNumber, n: usize, part: &[u
     if n == 0 {
         return 0;
     }
-    let from = 129 * (i.0 as usize) + 1;
+    let from = crate::OWN_LIST_WORDS * (i.0 as usize) + 1;
     let to = from + n;
     count_changed(part, &lists[from..to])
 }
@@ -274,7 +274,7 @@ fn refill_at(
     bits: &mut [u8],
     s: Tally,
 ) -> Tally
-    requires { ⌜ AttachedExpandersKnown (domainIn (now rows)) (now first) × (OwnListsHeld (domainIn (now rows)) (now lists) × (DownstreamListsHeld (domainIn (now rows)) (now downstream) × ((65 * length (domainIn (now rows)) < length (now order))
+    requires { ⌜ AttachedExpandersKnown (domainIn (now rows)) (now first) × (OwnListsHeld (domainIn (now rows)) (now lists) × (DownstreamListsHeld (domainIn (now rows)) (now downstream) × ((mostDownstream * length (domainIn (now rows)) < length (now order))
         × (Fillable (domainIn (now rows)) × (((s .tables ≤ 16384) × (s .words ≤ s .at))
         × ((s .at + sizes (domainIn (now rows)) (placesAt (domainIn (now rows)) (i .0)) ≤ length (now words)) × (s .at + sizes (domainIn (now rows)) (placesAt (domainIn (now rows)) (i .0)) ≤ 8 * length (now bits)))))))) ⌝ }
     ensures { λ r. ⌜ Rewritten (domainIn (now (rows .entry))) (e .0) (placesAt (domainIn (now (rows .entry))) (i .0)) s r
@@ -313,7 +313,7 @@ pub(crate) fn refill_all(
     words: &mut [u64],
     bits: &mut [u8],
 ) -> Replugged
-    requires { ⌜ AttachedExpandersKnown (domainIn (now rows)) (now first) × (OwnListsHeld (domainIn (now rows)) (now lists) × (DownstreamListsHeld (domainIn (now rows)) (now downstream) × ((65 * length (domainIn (now rows)) < length (now order))
+    requires { ⌜ AttachedExpandersKnown (domainIn (now rows)) (now first) × (OwnListsHeld (domainIn (now rows)) (now lists) × (DownstreamListsHeld (domainIn (now rows)) (now downstream) × ((mostDownstream * length (domainIn (now rows)) < length (now order))
         × (Fillable (domainIn (now rows)) × Enough (needed (domainIn (now rows))) (roomOf (entries (now words) (now bits))))))) ⌝ }
     ensures { λ r. ⌜ (entries (now (words .exit)) (now (bits .exit)) ≡ ownRefilled (domainIn (now (rows .entry))) (e .0) (entries (now (words .entry)) (now (bits .entry))))
         × (replugAnswer r ≡ good (movedBy (domainIn (now (rows .entry))) (ownTouched (domainIn (now (rows .entry))) (e .0)) (entries (now (words .entry)) (now (bits .entry))) (entries (now (words .exit)) (now (bits .exit))))) ⌝ }

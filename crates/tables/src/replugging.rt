@@ -26,7 +26,7 @@ ghost use Rattle.tables.specs.Entries.{entries, roomOf, Enough};
 ghost use Rattle.tables.specs.Tables.{needed};
 ghost use Rattle.tables.specs.JudgingCall.{tablesFor};
 ghost use Rattle.tables.specs.OwnLists.{ownWords};
-ghost use Rattle.tables.specs.PreparedLists.{FillRoom};
+ghost use Rattle.tables.specs.PreparedLists.{FillRoom, orderBytes};
 ghost use Rattle.tables.specs.ReplugCall.{pluggable, replug, replugged, retested, admitted, replugCall, rowsAfter, ReplugDone, ReplugReady, ReplugRun};
 ghost use Rattle.tables.specs.declared.Replugged.the-variants.{Refused as NotReplugged};
 
@@ -138,7 +138,7 @@ fn replug_in(
     p: PhyId,
     a: u64,
 ) -> Replugged
-    requires { ⌜ Indexed (domainIn (now rows)) (now first) (now low) × (FillRoom (domainIn (now rows)) (now lists) (now downstream) (now order) × (length (now order) ≤ 4161)) ⌝ }
+    requires { ⌜ Indexed (domainIn (now rows)) (now first) (now low) × (FillRoom (domainIn (now rows)) (now lists) (now downstream) (now order) × (length (now order) ≤ orderBytes)) ⌝ }
     ensures { λ r. ⌜ ReplugRun (now (rows .entry)) (now (rows .exit)) (e .0) (p .0) a r
         (entries (now (words .entry)) (now (bits .entry))) (entries (now (words .exit)) (now (bits .exit))) ⌝ }
 {
@@ -184,9 +184,9 @@ fn replug_few(
     ensures { λ r. ⌜ ReplugRun (now (rows .entry)) (now (rows .exit)) (e .0) (p .0) a r
         (entries (now (words .entry)) (now (bits .entry))) (entries (now (words .exit)) (now (bits .exit))) ⌝ }
 {
-    let mut lists = [0u64; 1032];
-    let mut downstream = [0u8; 528];
-    let mut order = [0u8; 521];
+    let mut lists = [0u64; crate::OWN_LISTS_OF_8];
+    let mut downstream = [0u8; crate::DOWNSTREAM_OF_8];
+    let mut order = [0u8; crate::ORDER_OF_8];
     replug_in(
         rows,
         first,
@@ -217,9 +217,9 @@ fn replug_many(
     ensures { λ r. ⌜ ReplugRun (now (rows .entry)) (now (rows .exit)) (e .0) (p .0) a r
         (entries (now (words .entry)) (now (bits .entry))) (entries (now (words .exit)) (now (bits .exit))) ⌝ }
 {
-    let mut lists = [0u64; 8256];
-    let mut downstream = [0u8; 4224];
-    let mut order = [0u8; 4161];
+    let mut lists = [0u64; crate::OWN_LISTS_OF_64];
+    let mut downstream = [0u8; crate::DOWNSTREAM_OF_64];
+    let mut order = [0u8; crate::ORDER_OF_64];
     replug_in(
         rows,
         first,

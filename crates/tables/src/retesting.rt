@@ -17,7 +17,7 @@ ghost use Rattle.wiring.specs.Checks.{checkAnswer};
 ghost use Rattle.files.specs.Rows.{domainIn};
 ghost use Rattle.tables.specs.GrowingLists.{Grown, placesAt};
 ghost use Rattle.tables.specs.OwnLists.{lower, owns, ownWords};
-ghost use Rattle.tables.specs.PreparedLists.{AttachedExpandersKnown, OwnListsHeld, OwnListCounts, DownstreamListsHeld, ownOverlong};
+ghost use Rattle.tables.specs.PreparedLists.{AttachedExpandersKnown, OwnListsHeld, OwnListCounts, DownstreamListsHeld, ownOverlong, mostDownstream, orderBytes};
 ghost use Rattle.tables.specs.ReplugCall.{claimedWith, retested, OwnListsHeldBut, ReplugReady};
 ghost use Rattle.tables.specs.EndDeviceTests.{isEnd, endsAt, isFound};
 
@@ -208,8 +208,8 @@ pub(crate) fn renew_own(rows: &[u64], e: ExpanderNumber, lists: &mut [u64])
     if e.0 >= wiring::expander_count(rows) {
         return;
     }
-    let a = 129 * (e.0 as usize);
-    let m = collect_words(rows, e, &mut lists[a + 1..a + 129]);
+    let a = crate::OWN_LIST_WORDS * (e.0 as usize);
+    let m = collect_words(rows, e, &mut lists[a + 1..a + crate::OWN_LIST_WORDS]);
     lists[a] = m as u64;
 }
 
@@ -221,7 +221,7 @@ fn put_lengths(rows: &[u64], lists: &[u64], counts: &mut [u8])
     let n = wiring::expander_count(rows);
     let mut i: u8 = 0;
     while i < n {
-        counts[i as usize] = lists[129 * (i as usize)] as u8;
+        counts[i as usize] = lists[crate::OWN_LIST_WORDS * (i as usize)] as u8;
         i += 1;
     }
 }
@@ -235,7 +235,7 @@ pub(crate) fn first_overlong_by(
     downstream: &[u8],
     order: &mut [u8],
 ) -> Check
-    requires { ⌜ AttachedExpandersKnown (domainIn (now rows)) (now first) × (OwnListsHeld (domainIn (now rows)) (now lists) × (DownstreamListsHeld (domainIn (now rows)) (now downstream) × ((65 * length (domainIn (now rows)) < length (now order)) × (length (now order) ≤ 4161)))) ⌝ }
+    requires { ⌜ AttachedExpandersKnown (domainIn (now rows)) (now first) × (OwnListsHeld (domainIn (now rows)) (now lists) × (DownstreamListsHeld (domainIn (now rows)) (now downstream) × ((mostDownstream * length (domainIn (now rows)) < length (now order)) × (length (now order) ≤ orderBytes)))) ⌝ }
     ensures { λ r. ⌜ checkAnswer (domainIn (now (rows .entry))) r
         ≡ firstOf 14 (ownOverlong (domainIn (now (rows .entry)))) (domainIn (now (rows .entry))) ⌝ }
 {

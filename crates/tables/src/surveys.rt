@@ -56,7 +56,7 @@ fn survey_in(
     match read {
         DomainRead::Refused(r) => Survey::Refused(r),
         DomainRead::Expanders(n) => {
-            let e = 258 * (n as usize);
+            let e = files::ROW_WORDS * (n as usize);
             survey_rows(&rows[..e], first, low, k, setting.chain)
         }
     }
@@ -67,9 +67,9 @@ fn survey_few(setting: Setting, file: &[u8], k: u64) -> Survey
     requires { ⌜ byte (now file) 1 ≤ 8 ⌝ }
     ensures { λ r. ⌜ surveyAnswer r ≡ then (judged setting (now (file .entry))) (surveyIn k) ⌝ }
 {
-    let mut rows = [0u64; 2064];
-    let mut first = [0u16; 1088];
-    let mut low = [0u8; 1024];
+    let mut rows = [0u64; files::ROWS_OF_8];
+    let mut first = [0u16; wiring::SLOTS_OF_8];
+    let mut low = [0u8; wiring::PHYS_OF_8];
     survey_in(
         setting,
         file,
@@ -84,9 +84,9 @@ fn survey_few(setting: Setting, file: &[u8], k: u64) -> Survey
 fn survey_many(setting: Setting, file: &[u8], k: u64) -> Survey
     ensures { λ r. ⌜ surveyAnswer r ≡ then (judged setting (now (file .entry))) (surveyIn k) ⌝ }
 {
-    let mut rows = [0u64; 16512];
-    let mut first = [0u16; 8256];
-    let mut low = [0u8; 8192];
+    let mut rows = [0u64; files::ROWS_OF_64];
+    let mut first = [0u16; wiring::SLOTS_OF_64];
+    let mut low = [0u8; wiring::PHYS_OF_64];
     survey_in(
         setting,
         file,

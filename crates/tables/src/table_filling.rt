@@ -33,7 +33,7 @@ fn copy_own(rows: &[u64], lists: &[u64], i: ExpanderNumber, part: &mut [u64], n:
     if i.0 >= wiring::expander_count(rows) {
         return n;
     }
-    let a = 129 * (i.0 as usize);
+    let a = crate::OWN_LIST_WORDS * (i.0 as usize);
     let from = a + 1;
     let to = from + lists[a] as usize;
     copy_words(&lists[from..to], part, n)

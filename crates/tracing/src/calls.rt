@@ -61,7 +61,7 @@ fn trace_in(
     match read {
         DomainRead::Refused(r) => TraceAnswer::Refused(r),
         DomainRead::Expanders(n) => {
-            let e = 258 * (n as usize);
+            let e = files::ROW_WORDS * (n as usize);
             let chain = setting.chain;
             request_rows(
                 &rows[..e],
@@ -96,9 +96,9 @@ fn trace_few(
         r (now (passed .entry)) (now (passed .exit)) ⌝ }
 {
     if tables::stated_count(file) <= 2 {
-        let mut rows = [0u64; 516];
-        let mut first = [0u16; 320];
-        let mut low = [0u8; 256];
+        let mut rows = [0u64; files::ROWS_OF_2];
+        let mut first = [0u16; wiring::SLOTS_OF_2];
+        let mut low = [0u8; wiring::PHYS_OF_2];
         return trace_in(
             setting,
             file,
@@ -113,9 +113,9 @@ fn trace_few(
             passed,
         );
     }
-    let mut rows = [0u64; 2064];
-    let mut first = [0u16; 1088];
-    let mut low = [0u8; 1024];
+    let mut rows = [0u64; files::ROWS_OF_8];
+    let mut first = [0u16; wiring::SLOTS_OF_8];
+    let mut low = [0u8; wiring::PHYS_OF_8];
     trace_in(
         setting,
         file,
@@ -146,9 +146,9 @@ fn trace_many(
         (traceCall setting (now (file .entry)) (entries (now (words .entry)) (now (bits .entry))) (length (now (passed .entry))) (request (start .0) (arrival .0) s))
         r (now (passed .entry)) (now (passed .exit)) ⌝ }
 {
-    let mut rows = [0u64; 16512];
-    let mut first = [0u16; 8256];
-    let mut low = [0u8; 8192];
+    let mut rows = [0u64; files::ROWS_OF_64];
+    let mut first = [0u16; wiring::SLOTS_OF_64];
+    let mut low = [0u8; wiring::PHYS_OF_64];
     trace_in(
         setting,
         file,

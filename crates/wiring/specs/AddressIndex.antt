@@ -11,30 +11,36 @@ use Rattle.files.specs.Lists.{any}
 use Rattle.files.specs.Domain.{Domain, expanderAt, phyAt, addressOf, attached, toEnd, toExpander, bears, numberOf}
 use Rattle.wiring.specs.PhyCauses.{endAt}
 use Rattle.wiring.specs.SearchTree.{Tree, Lowest}
+use Rattle.files.specs.Rows.{rowWords}
+use Rattle.files.specs.Settings.{mostExpanders, mostPhys}
+
+-- how many slots there are in all: 64 expanders, and 128 phys of each
+abbrev pub mostSlots : ℕ
+mostSlots = 8256
 
 -- how many slots come before the phys of expander i
 abbrev pub slotsBefore : ℕ → ℕ
-slotsBefore i = 64 + 128 * i
+slotsBefore i = mostExpanders + mostPhys * i
 
 -- the slot of phy p of expander i
 abbrev pub slotOf : ℕ → ℕ → ℕ
-slotOf i p = 64 + 128 * i + p
+slotOf i p = mostExpanders + mostPhys * i + p
 
 -- the phy of a slot from 64 on
 abbrev pub slotPhy : Domain → ℕ → Phy
-slotPhy d t = phyAt d ((t - 64) / 128) ((t - 64) % 128)
+slotPhy d t = phyAt d ((t - mostExpanders) / mostPhys) ((t - mostExpanders) % mostPhys)
 
 -- the address of a slot: an expander's, or the attached one of a phy
 unfoldable pub slotAddress : Domain → ℕ → ℕ
-slotAddress d t = cond (ltb t 64) (expanderAt d t .address) (addressOf (slotPhy d t))
+slotAddress d t = cond (ltb t mostExpanders) (expanderAt d t .address) (addressOf (slotPhy d t))
 
 -- the word of rows in which it stands
 abbrev pub slotWord : ℕ → ℕ
-slotWord t = cond (ltb t 64) (258 * t) (2 * (t - 64) + 2 + 2 * ((t - 64) / 128))
+slotWord t = cond (ltb t mostExpanders) (rowWords * t) (2 * (t - mostExpanders) + 2 + 2 * ((t - mostExpanders) / mostPhys))
 
 -- the slots that bear their address as devices: expanders, and phys attached to end devices
 unfoldable pub isDevice : Domain → ℕ → Bool
-isDevice d t = cond (ltb t 64) (ltb t (length d)) (toEnd (slotPhy d t))
+isDevice d t = cond (ltb t mostExpanders) (ltb t (length d)) (toEnd (slotPhy d t))
 
 -- from slot 0 on the devices are listed, from an expander's first phy on its attached phys; slot v is counted from there
 unfoldable pub listedFrom : Domain → ℕ → ℕ → Bool
@@ -52,7 +58,7 @@ LowestFrom d from s v = Lowest (addressFrom d from) (listedFrom d from) s v
 
 -- the number of the expander of a slot; the count of expanders where it is a phy's
 abbrev pub numberIn : Domain → ℕ → ℕ
-numberIn d v = cond (ltb v 64) v (length d)
+numberIn d v = cond (ltb v mostExpanders) v (length d)
 
 -- an expander has the address, or an end device at an expander before expander i
 abbrev pub isTaken : Domain → ℕ → ℕ → Bool
@@ -60,7 +66,7 @@ isTaken d i s = ltb (numberOf d s) (length d) || any (endAt s) (take i d)
 
 -- the slots of which an entry tells something: expanders, and attached phys
 unfoldable pub tells : Domain → ℕ → Bool
-tells d t = cond (ltb t 64) (ltb t (length d)) (attached (slotPhy d t))
+tells d t = cond (ltb t mostExpanders) (ltb t (length d)) (attached (slotPhy d t))
 
 -- v is the lowest device below slot n with address s; 65535 where there is none
 pub data LowestBelow (d : Domain) (n s v : ℕ) : Type 0 where
@@ -73,8 +79,8 @@ pub data LowestBelow (d : Domain) (n s v : ℕ) : Type 0 where
 pub record LowestDevice (d : Domain) (t v : ℕ) : Type 0 where
   pub lowest : T (tells d t) → LowestBelow d (t + 1) (slotAddress d t) v
   pub same : t < length d → v ≡ numberOf d (expanderAt d t .address)
-  pub far : 64 ≤ t → T (toExpander (slotPhy d t)) → numberIn d v ≡ numberOf d (addressOf (slotPhy d t))
-  pub taken : 64 ≤ t → T (toEnd (slotPhy d t)) → ltb v (slotsBefore ((t - 64) / 128)) ≡ isTaken d ((t - 64) / 128) (addressOf (slotPhy d t))
+  pub far : mostExpanders ≤ t → T (toExpander (slotPhy d t)) → numberIn d v ≡ numberOf d (addressOf (slotPhy d t))
+  pub taken : mostExpanders ≤ t → T (toEnd (slotPhy d t)) → ltb v (slotsBefore ((t - mostExpanders) / mostPhys)) ≡ isTaken d ((t - mostExpanders) / mostPhys) (addressOf (slotPhy d t))
 
 -- q is the lowest attached phy of expander i with phy p's attached address
 pub record LowestPhy (d : Domain) (i p q : ℕ) : Type 0 where
@@ -88,11 +94,11 @@ LowestDevices d at first = (t : ℕ) → t < at → LowestDevice d t (getD first
 
 -- the attached phys, by the place of their entry
 abbrev pub attachedAt : Domain → ℕ → Bool
-attachedAt d k = attached (phyAt d (k / 128) (k % 128))
+attachedAt d k = attached (phyAt d (k / mostPhys) (k % mostPhys))
 
 -- the first `at` entries, one for each phy
 abbrev pub LowestPhys : Domain → ℕ → List ℕ → Type 0
-LowestPhys d at low = (k : ℕ) → k < at → T (attachedAt d k) → LowestPhy d (k / 128) (k % 128) (getD low k 0)
+LowestPhys d at low = (k : ℕ) → k < at → T (attachedAt d k) → LowestPhy d (k / mostPhys) (k % mostPhys) (getD low k 0)
 
 -- who has the attached address of phy p of expander i, as the entries tell: an expander, or the count of expanders
 abbrev pub attachedExpander : Domain → List ℕ → ℕ → ℕ → ℕ
@@ -100,12 +106,12 @@ attachedExpander d first i p = numberIn d (getD first (slotOf i p) 0)
 
 -- the lowest phy of expander i with the attached address of phy p, as the entries tell
 abbrev pub lowestPhy : List ℕ → ℕ → ℕ → ℕ
-lowestPhy low i p = getD low (128 * i + p) 0
+lowestPhy low i p = getD low (mostPhys * i + p) 0
 
 -- room for the entries of all slots and phys
 pub record IndexRoom (d : Domain) (first low : List ℕ) : Type 0 where
   pub slots : slotsBefore (length d) ≤ length first
-  pub phys : 128 * length d ≤ length low
+  pub phys : mostPhys * length d ≤ length low
 
 -- for all slots of the domain
 pub record IndexedFirst (d : Domain) (first : List ℕ) : Type 0 where
@@ -114,8 +120,8 @@ pub record IndexedFirst (d : Domain) (first : List ℕ) : Type 0 where
 
 -- for all phys of the domain
 pub record IndexedLow (d : Domain) (low : List ℕ) : Type 0 where
-  pub phys : 128 * length d ≤ length low
-  pub each : LowestPhys d (128 * length d) low
+  pub phys : mostPhys * length d ≤ length low
+  pub each : LowestPhys d (mostPhys * length d) low
 
 -- both
 pub record Indexed (d : Domain) (first low : List ℕ) : Type 0 where
@@ -140,15 +146,15 @@ pub record IndexLeft (d : Domain) (first low first' low' : List ℕ) : Type 0 wh
 -- the tree of some of the slots from `from` on
 pub record Searchable (d : Domain) (from size : ℕ) (cells : List ℕ) : Type 0 where
   pub count : ℕ
-  pub start : (from ≡ 0) ⊎ (64 ≤ from)
-  pub few : from + count ≤ 8256
+  pub start : (from ≡ 0) ⊎ (mostExpanders ≤ from)
+  pub few : from + count ≤ mostSlots
   pub tree : TreeFrom d from size cells count
 
 -- slot t can be added to the tree of those before it, by its address s
 pub record Addable (d : Domain) (from size : ℕ) (cells : List ℕ) (t s : ℕ) : Type 0 where
-  pub start : (from ≡ 0) ⊎ (64 ≤ from)
+  pub start : (from ≡ 0) ⊎ (mostExpanders ≤ from)
   pub above : from ≤ t
-  pub few : t < 8256
+  pub few : t < mostSlots
   pub room : size + 2 * (t - from + 1) ≤ length cells
   pub tree : TreeFrom d from size cells (t - from)
   pub here : T (listedFrom d from (t - from))
@@ -171,12 +177,12 @@ pub record FirstsTo (d : Domain) (at size : ℕ) (cells first : List ℕ) : Type
 
 -- those of the phys of the expanders before expander i
 pub record LowsBefore (d : Domain) (i : ℕ) (low : List ℕ) : Type 0 where
-  pub phys : 128 * length d ≤ length low
-  pub lows : LowestPhys d (128 * i) low
+  pub phys : mostPhys * length d ≤ length low
+  pub lows : LowestPhys d (mostPhys * i) low
 
 -- and of the phys below p of it, which are in its own tree
 pub record LowsTo (d : Domain) (i p : ℕ) (cells low : List ℕ) : Type 0 where
-  pub phys : 128 * length d ≤ length low
+  pub phys : mostPhys * length d ≤ length low
   pub room : 384 ≤ length cells
-  pub tree : TreeFrom d (slotsBefore i) 128 cells p
-  pub lows : LowestPhys d (128 * i + p) low
+  pub tree : TreeFrom d (slotsBefore i) mostPhys cells p
+  pub lows : LowestPhys d (mostPhys * i + p) low

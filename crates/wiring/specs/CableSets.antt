@@ -10,6 +10,7 @@ use Rattle.files.specs.Lists.{any}
 use Rattle.files.specs.Domain.{Domain, expanderAt, addressOf, toExpander, numberOf}
 use Rattle.wiring.specs.Rounds.{hasBit}
 use Rattle.wiring.specs.AddressIndex.{IndexedFirst}
+use Rattle.files.specs.Settings.{mostExpanders}
 
 -- attached to an expander, whose number is m
 abbrev pub leadsTo : Domain → ℕ → Phy → Bool
@@ -17,7 +18,7 @@ leadsTo d m φ = toExpander φ && eqb (numberOf d (addressOf φ)) m
 
 -- the set of the numbers to which these phys lead
 pub record CableSet (d : Domain) (φs : List Phy) (w : ℕ) : Type 0 where
-  pub bit : (m : ℕ) → m < 64 → hasBit w m ≡ any (leadsTo d m) φs
+  pub bit : (m : ℕ) → m < mostExpanders → hasBit w m ≡ any (leadsTo d m) φs
 
 -- such a set for each of the first n expanders
 abbrev pub CableSets : Domain → ℕ → List ℕ → Type 0

@@ -14,6 +14,8 @@ use Rattle.wiring.specs.PhyCauses.{unanswered, claimed, clashing, fixed,
 use Rattle.wiring.specs.LinkCauses.{checkedDomain}
 use Rattle.wiring.specs.AddressIndex.{slotsBefore, IndexRoom}
 use Rattle.files.specs.File.{domainRead}
+use Rattle.files.specs.Rows.{rowWords}
+use Rattle.files.specs.Settings.{mostPhys}
 
 -- what the answer says in document 01's terms: the domain itself where it passed
 abbrev pub checkAnswer : Domain → Check → Result Domain
@@ -39,9 +41,9 @@ pub record Testable (k : ℕ) (d : Domain) (i p : ℕ) : Type 0 where
 
 -- causes 7 to 12 and 23 in order, where there is room for entries of so many slots and phys: 16 otherwise
 unfoldable pub checkedIn : ℕ → ℕ → ℕ → Domain → Result Domain
-checkedIn chain first low d = unless (leb (slotsBefore (length d)) first && leb (128 * length d) low) (refusal 16 0 0) (checkedDomain chain d)
+checkedIn chain first low d = unless (leb (slotsBefore (length d)) first && leb (mostPhys * length d) low) (refusal 16 0 0) (checkedDomain chain d)
 
 -- room for the rows of a file's domain, and for the entries of its slots and phys
 pub record FileRoom (setting : Setting) (file words first low : List ℕ) : Type 0 where
-  pub rows : (d : Domain) → domainRead setting file ≡ good d → 258 * length d ≤ length words
+  pub rows : (d : Domain) → domainRead setting file ≡ good d → rowWords * length d ≤ length words
   pub index : (d : Domain) → domainRead setting file ≡ good d → IndexRoom d first low

@@ -12,8 +12,26 @@ ghost use lib.ListN.{length, getD};
 ghost use Rattle.files.specs.Domain.{expanderAt, phyAt, numberOf};
 ghost use Rattle.files.specs.Rows.{domainIn};
 ghost use Rattle.wiring.specs.SearchTree.{keyIn, WalkTo};
-ghost use Rattle.wiring.specs.AddressIndex.{slotsBefore, slotOf, slotWord, addressFrom, attachedExpander, lowestPhy, tells, attachedAt, EntriesKeptBut, IndexRoom, IndexPut};
+ghost use Rattle.wiring.specs.AddressIndex.{slotsBefore, slotOf, slotWord, addressFrom, attachedExpander, lowestPhy, tells, attachedAt, EntriesKeptBut, IndexRoom, IndexPut, mostSlots};
 ghost use Rattle.wiring.specs.AddressIndex.{Searchable, Addable, AddedTo, FirstsTo, LowsBefore, LowsTo};
+
+// How many roots the search tree of few expanders has.
+const FEW_ROOTS: usize = 256;
+
+// How many roots the search tree of the most expanders has.
+const MOST_ROOTS: usize = 8192;
+
+// How many cells a search tree has for 2 expanders: its roots, and two for each slot.
+const TREE_OF_2: usize = FEW_ROOTS + 2 * crate::SLOTS_OF_2;
+
+// How many cells it has for 8 expanders.
+const TREE_OF_8: usize = FEW_ROOTS + 2 * crate::SLOTS_OF_8;
+
+// How many cells it has for the most expanders.
+const TREE_OF_64: usize = MOST_ROOTS + 2 * crate::SLOTS_OF_64;
+
+// How many cells the tree of one expander's phys has: a root for each, and two more.
+const PHY_TREE: usize = 3 * crate::PHY_SLOTS;
 
 // The key of an address among `size` roots.
 fn key_in(s: u64, size: usize) -> usize
@@ -26,11 +44,11 @@ fn key_in(s: u64, size: usize) -> usize
 
 // The word with the address of a slot.
 fn slot_word(rows: &[u64], t: usize) -> u64
-    requires { ⌜ t < 8256 ⌝ }
+    requires { ⌜ t < mostSlots ⌝ }
     ensures { λ r. ⌜ r ≡ getD (now (rows .entry)) (slotWord t) 0 ⌝ }
 {
     if t < 64 {
-        return files::word_at(rows, 258 * t);
+        return files::word_at(rows, files::ROW_WORDS * t);
     }
     let k = t - 64;
     files::word_at(rows, 2 * k + 2 + 2 * (k / 128))
@@ -79,10 +97,10 @@ fn add_low(rows: &[u64], cells: &mut [u16], i: ExpanderNumber, p: PhyId, f: Phy,
     if files::phy_type(f) == 0 {
         return;
     }
-    let from = 64 + 128 * (i.0 as usize);
+    let from = crate::EXPANDER_SLOTS + crate::PHY_SLOTS * (i.0 as usize);
     let t = from + (p.0 as usize);
     let r = add(rows, from, cells, 128, t, files::phy_address(f));
-    let k = 128 * (i.0 as usize) + (p.0 as usize);
+    let k = crate::PHY_SLOTS * (i.0 as usize) + (p.0 as usize);
     low[k] = (r - from) as u8;
 }
 
@@ -92,7 +110,7 @@ fn put_low(rows: &[u64], i: ExpanderNumber, low: &mut [u8])
     ensures { λ _. ⌜ LowsBefore (domainIn (now (rows .entry))) (i .0 + 1) (now (low .exit)) × EntriesKeptBut (attachedAt (domainIn (now (rows .entry)))) (now (low .entry)) (now (low .exit)) ⌝ }
 {
     let n = files::phy_count(rows, i);
-    let mut cells = [0u16; 384];
+    let mut cells = [0u16; PHY_TREE];
     let mut p: u8 = 0;
     while p < n {
         let f = files::phy_in_row(rows, i, PhyId(p));
@@ -144,7 +162,7 @@ fn add_first(
     if device_type == 0 {
         return;
     }
-    let t = 64 + 128 * (i.0 as usize) + (p.0 as usize);
+    let t = crate::EXPANDER_SLOTS + crate::PHY_SLOTS * (i.0 as usize) + (p.0 as usize);
     let s = files::phy_address(f);
     if device_type == 1 {
         first[t] = add(rows, 0, cells, size, t, s) as u16;
@@ -189,12 +207,12 @@ fn index_few(rows: &[u64], first: &mut [u16], low: &mut [u8])
     ensures { λ _. ⌜ IndexPut (domainIn (now (rows .entry))) (now (first .entry)) (now (low .entry)) (now (first .exit)) (now (low .exit)) ⌝ }
 {
     if files::expander_count(rows) <= 2 {
-        let mut cells = [0u16; 896];
-        put_all(rows, &mut cells[..], 256, first, low);
+        let mut cells = [0u16; TREE_OF_2];
+        put_all(rows, &mut cells[..], FEW_ROOTS, first, low);
         return;
     }
-    let mut cells = [0u16; 2432];
-    put_all(rows, &mut cells[..], 256, first, low);
+    let mut cells = [0u16; TREE_OF_8];
+    put_all(rows, &mut cells[..], FEW_ROOTS, first, low);
 }
 
 // Writes both answers with a tree for the most expanders.
@@ -202,8 +220,8 @@ fn index_many(rows: &[u64], first: &mut [u16], low: &mut [u8])
     requires { ⌜ IndexRoom (domainIn (now rows)) (now first) (now low) ⌝ }
     ensures { λ _. ⌜ IndexPut (domainIn (now (rows .entry))) (now (first .entry)) (now (low .entry)) (now (first .exit)) (now (low .exit)) ⌝ }
 {
-    let mut cells = [0u16; 24704];
-    put_all(rows, &mut cells[..], 8192, first, low);
+    let mut cells = [0u16; TREE_OF_64];
+    put_all(rows, &mut cells[..], MOST_ROOTS, first, low);
 }
 
 // Writes for each slot of a domain who has its address (`first`), and for each attached phy the lowest phy of
@@ -213,7 +231,7 @@ pub(crate) fn put_index(rows: &[u64], first: &mut [u16], low: &mut [u8])
     requires { ⌜ IndexRoom (domainIn (now rows)) (now first) (now low) ⌝ }
     ensures { λ _. ⌜ IndexPut (domainIn (now (rows .entry))) (now (first .entry)) (now (low .entry)) (now (first .exit)) (now (low .exit)) ⌝ }
 {
-    if rows.len() > 16512 {
+    if rows.len() > files::ROWS_OF_64 {
         put_index(&rows[..16512], first, low);
         return;
     }
@@ -229,7 +247,7 @@ pub(crate) fn put_index(rows: &[u64], first: &mut [u16], low: &mut [u8])
 pub fn attached_expander(rows: &[u64], first: &[u16], i: ExpanderNumber, p: PhyId) -> ExpanderNumber
     ensures { λ r. ⌜ r .0 ≡ attachedExpander (domainIn (now (rows .entry))) (now (first .entry)) (i .0) (p .0) ⌝ }
 {
-    let t = 64 + 128 * (i.0 as usize) + (p.0 as usize);
+    let t = crate::EXPANDER_SLOTS + crate::PHY_SLOTS * (i.0 as usize) + (p.0 as usize);
     if t >= first.len() {
         return ExpanderNumber(0);
     }
@@ -245,7 +263,7 @@ pub fn attached_expander(rows: &[u64], first: &[u16], i: ExpanderNumber, p: PhyI
 pub fn lowest_phy(low: &[u8], i: ExpanderNumber, p: PhyId) -> PhyId
     ensures { λ r. ⌜ r .0 ≡ lowestPhy (now (low .entry)) (i .0) (p .0) ⌝ }
 {
-    PhyId(files::byte_at(low, 128 * (i.0 as usize) + (p.0 as usize)))
+    PhyId(files::byte_at(low, crate::PHY_SLOTS * (i.0 as usize) + (p.0 as usize)))
 }
 
 // The first expander with this address; the count of expanders where there is none.

@@ -53,7 +53,7 @@ fn is_claimed(rows: &[u64], first: &[u16], i: ExpanderNumber, p: PhyId) -> bool
     if files::phy_type(files::phy_in_row(rows, i, p)) != 1 {
         return false;
     }
-    let from = 64 + 128 * (i.0 as usize);
+    let from = crate::EXPANDER_SLOTS + crate::PHY_SLOTS * (i.0 as usize);
     (first[from + p.0 as usize] as usize) < from
 }
 

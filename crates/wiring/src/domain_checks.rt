@@ -86,10 +86,10 @@ pub fn check_domain(rows: &[u64], first: &mut [u16], low: &mut [u8], chain: u8) 
     ensures { λ r. ⌜ IndexLeft (domainIn (now (rows .entry))) (now (first .entry)) (now (low .entry)) (now (first .exit)) (now (low .exit)) ⌝ }
 {
     let n = files::expander_count(rows) as usize;
-    if first.len() < 64 + 128 * n {
+    if first.len() < crate::EXPANDER_SLOTS + crate::PHY_SLOTS * n {
         return refusals::check_refused(16, ExpanderNumber(0), PhyId(0));
     }
-    if low.len() < 128 * n {
+    if low.len() < crate::PHY_SLOTS * n {
         return refusals::check_refused(16, ExpanderNumber(0), PhyId(0));
     }
     addresses::put_index(rows, first, low);

@@ -74,6 +74,30 @@ pub use frames::read_route;
 pub use frames::refusal_at;
 pub use frames::refused;
 
+// How many slots of the index of addresses are expanders'.
+pub(crate) const EXPANDER_SLOTS: usize = 64;
+
+// How many slots the phys of one expander have.
+pub(crate) const PHY_SLOTS: usize = 128;
+
+// How many slots there are where there are 2 expanders.
+pub const SLOTS_OF_2: usize = EXPANDER_SLOTS + 2 * PHY_SLOTS;
+
+// How many slots there are where there are 8 expanders.
+pub const SLOTS_OF_8: usize = EXPANDER_SLOTS + 8 * PHY_SLOTS;
+
+// How many slots there are in all.
+pub const SLOTS_OF_64: usize = EXPANDER_SLOTS + 64 * PHY_SLOTS;
+
+// How many phys 2 expanders have at most.
+pub const PHYS_OF_2: usize = 2 * PHY_SLOTS;
+
+// How many phys 8 expanders have at most.
+pub const PHYS_OF_8: usize = 8 * PHY_SLOTS;
+
+// How many phys there are at most.
+pub const PHYS_OF_64: usize = 64 * PHY_SLOTS;
+
 // What testing a domain for some causes answers.
 pub enum Check {
     Refused(Refusal),

@@ -50,7 +50,7 @@ fn wire_in(
     match read {
         DomainRead::Refused(r) => Wiring::Refused(r),
         DomainRead::Expanders(n) => {
-            let e = 258 * (n as usize);
+            let e = files::ROW_WORDS * (n as usize);
             wire_rows(&rows[..e], first, low, words)
         }
     }
@@ -62,9 +62,9 @@ fn wire_few(setting: Setting, file: &[u8], words: &mut [u64]) -> Wiring
     ensures { λ r. ⌜ WiringDone (wiringCall setting (now (file .entry)) (length (now (words .entry)))) r (now (words .entry)) (now (words .exit)) ⌝ }
 {
     if files::stated_count(file) <= 2 {
-        let mut rows = [0u64; 516];
-        let mut first = [0u16; 320];
-        let mut low = [0u8; 256];
+        let mut rows = [0u64; files::ROWS_OF_2];
+        let mut first = [0u16; crate::SLOTS_OF_2];
+        let mut low = [0u8; crate::PHYS_OF_2];
         return wire_in(
             setting,
             file,
@@ -74,9 +74,9 @@ fn wire_few(setting: Setting, file: &[u8], words: &mut [u64]) -> Wiring
             words,
         );
     }
-    let mut rows = [0u64; 2064];
-    let mut first = [0u16; 1088];
-    let mut low = [0u8; 1024];
+    let mut rows = [0u64; files::ROWS_OF_8];
+    let mut first = [0u16; crate::SLOTS_OF_8];
+    let mut low = [0u8; crate::PHYS_OF_8];
     wire_in(
         setting,
         file,
@@ -91,9 +91,9 @@ fn wire_few(setting: Setting, file: &[u8], words: &mut [u64]) -> Wiring
 fn wire_many(setting: Setting, file: &[u8], words: &mut [u64]) -> Wiring
     ensures { λ r. ⌜ WiringDone (wiringCall setting (now (file .entry)) (length (now (words .entry)))) r (now (words .entry)) (now (words .exit)) ⌝ }
 {
-    let mut rows = [0u64; 16512];
-    let mut first = [0u16; 8256];
-    let mut low = [0u8; 8192];
+    let mut rows = [0u64; files::ROWS_OF_64];
+    let mut first = [0u16; crate::SLOTS_OF_64];
+    let mut low = [0u8; crate::PHYS_OF_64];
     wire_in(
         setting,
         file,
