@@ -10,10 +10,10 @@ use Rattle.frames.specs.Refusals.{good}
 use Rattle.files.specs.declared.Setting.{Setting}
 use Rattle.files.specs.Domain.{Domain}
 use Rattle.files.specs.ReadDomain.{Read}
-use Rattle.wiring.specs.Devices.{Borne, NoTableToTable}
-use Rattle.tables.specs.Tables.{tables}
+use Rattle.wiring.specs.graph.Devices.{Borne, NoTableToTable}
+use Rattle.tables.specs.filling.Tables.{tables}
 use Rattle.tables.specs.JudgingCall.{judgedDomain}
-use Rattle.tables.proofs.LevelsBeyond.{all-clear}
+use Rattle.tables.proofs.levels.LevelsBeyond.{all-clear}
 use Rattle.tables.proofs.AcceptedDomains.{accepted-iff}
 use Rattle.tracing.specs.Demand3.{Starts}
 use Rattle.tracing.specs.Trace.{request, traced}

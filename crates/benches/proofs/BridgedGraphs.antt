@@ -6,7 +6,7 @@ use mathlib.Core.Bool.{Bool, Bool-discrete}
 use Prim.Native.Nat.{ℕ, _<_}
 use lib.Dec.{T}
 use Rattle.files.specs.Lists.{In, Distinct, Below, last}
-use Rattle.wiring.specs.Graph.{Steps, Loop, self, ring, Tail}
+use Rattle.wiring.specs.graph.Graph.{Steps, Loop, self, ring, Tail}
 use Rattle.files.proofs.ListMembers.{in-cast, last-in, all-cons}
 
 -- all members have the property

@@ -15,7 +15,7 @@ use Rattle.wiring.specs.declared.Check.the-variants.{Refused as NotPassed, Pass
 use Rattle.files.specs.Lists.{any}
 use Rattle.files.specs.Settings.{within, inRange}
 use Rattle.files.specs.Domain.{Domain, expanderAt, phyAt, isSubtractive, attached}
-use Rattle.wiring.specs.Checks.{FileRoom}
+use Rattle.wiring.specs.phys.Checks.{FileRoom}
 use Rattle.files.specs.File.{headerUnit, domainRead, expanders}
 use Rattle.files.proofs.ListMembers.{tests, is-true, and-left, and-right}
 use Rattle.files.proofs.SettingRanges.{range-iff}

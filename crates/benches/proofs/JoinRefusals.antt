@@ -15,12 +15,12 @@ use Rattle.files.specs.Lists.{In, any}
 use Rattle.files.specs.Settings.{widest}
 use Rattle.files.specs.Domain.{Domain, expanderAt, phyAt, isSubtractive, attached}
 use Rattle.files.specs.ReadDomain.{Bytes}
-use Rattle.wiring.specs.Devices.{Borne}
-use Rattle.wiring.specs.LongChains.{ShortChains}
+use Rattle.wiring.specs.graph.Devices.{Borne}
+use Rattle.wiring.specs.graph.LongChains.{ShortChains}
 use Rattle.files.proofs.ListMembers.{and-left, and-right, and-both, any-of, of-any, getD-in, in-getD}
 use Rattle.files.proofs.CallResults.{never, unless-good, good-unless, then-good, good-then}
 use Rattle.files.proofs.Domains.{in-range}
-use Rattle.wiring.proofs.LongChains.{never-long}
+use Rattle.wiring.proofs.graph.LongChains.{never-long}
 use Rattle.tables.specs.JudgingCall.{judged}
 use Rattle.tables.proofs.AcceptedDomains.{judged-file}
 use Rattle.benches.specs.declared.Joining.{Joining}

@@ -11,11 +11,11 @@ use Rattle.files.specs.declared.Phy.{Phy}
 use Rattle.files.specs.Lists.{keep}
 use Rattle.files.specs.Domain.{Expander, Domain, expanderAt, phyAt, isTable}
 use Rattle.files.specs.PhyReplaced.{withPhy, setPhy}
-use Rattle.wiring.specs.PhyCauses.{Place, place, phyPlaces, placesFrom, places}
+use Rattle.wiring.specs.phys.PhyCauses.{Place, place, phyPlaces, placesFrom, places}
 use Rattle.wiring.specs.WiringCauses.{Linked}
-use Rattle.wiring.proofs.WiredPhys.{Wired}
-use Rattle.tables.specs.Tables.{table, tablePlaces, tables}
-use Rattle.tables.proofs.GrowingLists.{flat-append}
+use Rattle.wiring.proofs.phys.WiredPhys.{Wired}
+use Rattle.tables.specs.filling.Tables.{table, tablePlaces, tables}
+use Rattle.tables.proofs.lists.GrowingLists.{flat-append}
 use Rattle.benches.specs.Joined.{cabledTo, joined}
 use Rattle.benches.specs.JoinConditions.{Joinable}
 use Rattle.benches.proofs.PartsOfJoined.{Part, length-with, first-part, second-part}

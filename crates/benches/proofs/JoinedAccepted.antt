@@ -14,13 +14,13 @@ use Rattle.files.specs.Lists.{In, Distinct}
 use Rattle.files.specs.Domain.{Expander, Domain, noExpander, expanderAt}
 use Rattle.files.specs.PhyReplaced.{withPhy, setPhy}
 use Rattle.files.specs.ReadDomain.{ReadPhy, ReadExpander, addresses, Read}
-use Rattle.wiring.specs.Devices.{Borne}
-use Rattle.wiring.specs.LongChains.{ShortChains}
+use Rattle.wiring.specs.graph.Devices.{Borne}
+use Rattle.wiring.specs.graph.LongChains.{ShortChains}
 use Rattle.files.proofs.ListMembers.{in-map, getD-in, in-append, distinct-append}
 use Rattle.files.proofs.Domains.{attribute-range}
 use Rattle.wiring.proofs.WiredAndLinked.{read-expander}
-use Rattle.wiring.proofs.LongChains.{never-long}
-use Rattle.tables.specs.Tables.{tables}
+use Rattle.wiring.proofs.graph.LongChains.{never-long}
+use Rattle.tables.specs.filling.Tables.{tables}
 use Rattle.tables.specs.JudgingCall.{judgedDomain}
 use Rattle.tables.proofs.AcceptedDomains.{accepted-iff}
 use Rattle.benches.specs.JoinConditions.{Free, Joinable}

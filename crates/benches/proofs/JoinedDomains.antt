@@ -8,10 +8,10 @@ use native.Mathlib.Omega.{arith}
 use lib.ListN.{length}
 use lib.Dec.{T, ltb, lt→ltb, ltb→lt}
 use Rattle.files.specs.Domain.{Domain, expanderAt, phyAt, addressOf, attached, toEnd}
-use Rattle.wiring.specs.Devices.{Home, Borne, NoTableToTable}
+use Rattle.wiring.specs.graph.Devices.{Home, Borne, NoTableToTable}
 use Rattle.wiring.specs.WiringCauses.{Linked}
 use Rattle.files.proofs.ListMembers.{is-true, is-false}
-use Rattle.wiring.proofs.WiredPhys.{Wired}
+use Rattle.wiring.proofs.phys.WiredPhys.{Wired}
 use Rattle.files.proofs.Domains.{end-attached}
 use Rattle.tracing.proofs.Arrival.{home-once}
 use Rattle.benches.specs.JoinConditions.{Free, Joinable}

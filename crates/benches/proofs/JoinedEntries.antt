@@ -13,14 +13,14 @@ use Rattle.files.specs.Domain.{Domain}
 use Rattle.files.specs.ReadDomain.{Bytes}
 use Rattle.files.proofs.ReadDomain.{read-good}
 use Rattle.files.proofs.CallResults.{good-one}
-use Rattle.tables.specs.Tables.{tables, needed}
-use Rattle.tables.specs.Entries.{Entries, roomOf}
+use Rattle.tables.specs.filling.Tables.{tables, needed}
+use Rattle.tables.specs.filling.Entries.{Entries, roomOf}
 use Rattle.tables.specs.JudgingCall.{judged, judgedTables, tableCall, Counted, countsIn, TablesDone}
 use Rattle.tables.specs.declared.TablesGiven.the-variants.{Counts}
-use Rattle.tables.proofs.TableLengths.{tables-length}
+use Rattle.tables.proofs.filling.TableLengths.{tables-length}
 use Rattle.tables.proofs.AcceptedDomains.{judged-file, table-call, tables-same}
 use Rattle.tables.proofs.TableRefusals.{counts-iff, tables-of}
-use Rattle.tables.proofs.TableStretches.{index-for-index}
+use Rattle.tables.proofs.filling.TableStretches.{index-for-index}
 use Rattle.benches.specs.Bytes.{joinedFile}
 use Rattle.benches.specs.Joined.{joined}
 use Rattle.benches.proofs.JoinedAccepted.{same-tables}

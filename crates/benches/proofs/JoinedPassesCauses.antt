@@ -11,17 +11,17 @@ use lib.Dec.{T, eqb}
 use Rattle.files.specs.declared.Phy.the-variants.{Vacant}
 use Rattle.files.specs.Domain.{Expander, Domain, noExpander, expanderAt, phyAt, addressOf, attachedPhyOf, attributeOf, isTable, isSubtractive, attached, toEnd, toExpander, numberOf}
 use Rattle.files.specs.Lists.{any}
-use Rattle.wiring.specs.PhyCauses.{farPhy}
-use Rattle.wiring.specs.Neighbours.{cabled, neighbours}
-use Rattle.wiring.specs.Devices.{LoopIn, AttachedTo, Borne, TableToTable, NoTableToTable}
+use Rattle.wiring.specs.phys.PhyCauses.{farPhy}
+use Rattle.wiring.specs.graph.Neighbours.{cabled, neighbours}
+use Rattle.wiring.specs.graph.Devices.{LoopIn, AttachedTo, Borne, TableToTable, NoTableToTable}
 use Rattle.wiring.specs.WiringCauses.{Linked}
 use Rattle.files.proofs.ListMembers.{or-cases}
-use Rattle.wiring.proofs.WiredPhys.{ChainTail, Plain, Wired, far-below, far-is, adj-to, to-adj, adj-symmetric}
+use Rattle.wiring.proofs.phys.WiredPhys.{ChainTail, Plain, Wired, far-below, far-is, adj-to, to-adj, adj-symmetric}
 use Rattle.files.proofs.Domains.{end-attached, expander-attached, in-range}
-use Rattle.wiring.proofs.GraphWalks.{rest-of}
-use Rattle.wiring.proofs.ReachedByChain.{Joined, prepend}
-use Rattle.wiring.proofs.LongChains.{all-joined}
-use Rattle.tables.specs.Tables.{levelList}
+use Rattle.wiring.proofs.graph.GraphWalks.{rest-of}
+use Rattle.wiring.proofs.graph.ReachedByChain.{Joined, prepend}
+use Rattle.wiring.proofs.graph.LongChains.{all-joined}
+use Rattle.tables.specs.filling.Tables.{levelList}
 use Rattle.benches.specs.Joined.{cabledTo}
 use Rattle.benches.proofs.BridgedGraphs.{Carries, bridged, map-tail}
 use Rattle.benches.proofs.PartsOfJoined.{Part, attribute-inside}

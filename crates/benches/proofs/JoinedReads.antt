@@ -16,10 +16,10 @@ use Rattle.files.specs.Domain.{Expander, Domain, expanderAt, phyAt, attributeOf
 use Rattle.files.specs.PhyReplaced.{setPhy}
 use Rattle.files.specs.ReadDomain.{Bytes, ReadExpander, Read}
 use Rattle.files.specs.Lists.{In}
-use Rattle.wiring.specs.AddressIndex.{IndexRoom}
+use Rattle.wiring.specs.index.AddressIndex.{IndexRoom}
 use Rattle.files.specs.File.{headerUnit, domainRead, expanders}
-use Rattle.wiring.specs.Devices.{Borne}
-use Rattle.wiring.specs.LongChains.{ShortChains}
+use Rattle.wiring.specs.graph.Devices.{Borne}
+use Rattle.wiring.specs.graph.LongChains.{ShortChains}
 use Rattle.files.proofs.ListMembers.{is-true}
 use Rattle.files.proofs.SettingRanges.{range-iff}
 use Rattle.files.proofs.CallResults.{unless-good}
@@ -27,9 +27,9 @@ use Rattle.files.proofs.ReadDomain.{read-good, stated-expanders, number-fits}
 use Rattle.wiring.proofs.WiredAndLinked.{read-expander}
 use Rattle.files.proofs.Domains.{attribute-range}
 use Rattle.tables.specs.JudgingCall.{judgedDomain, judged}
-use Rattle.tables.specs.PreparedLists.{judgedIn}
+use Rattle.tables.specs.lists.PreparedLists.{judgedIn}
 use Rattle.tables.proofs.AcceptedDomains.{judged-file}
-use Rattle.tables.proofs.LevelListsByOwn.{judged-own}
+use Rattle.tables.proofs.lists.LevelListsByOwn.{judged-own}
 use Rattle.benches.specs.JoinConditions.{Free}
 use Rattle.benches.specs.Bytes.{addressIn, cabledAt, joinedFile}
 use Rattle.offsets.specs.Offsets.{expanderOffset, phyOffset}

@@ -12,17 +12,17 @@ use Rattle.files.specs.declared.Phy.{Phy}
 use Rattle.files.specs.declared.Phy.the-variants.{Vacant}
 use Rattle.files.specs.Lists.{In, any, keep, isIn}
 use Rattle.files.specs.Domain.{Domain, expanderAt, phyAt, addressOf, attachedPhyOf, isTable, isDirect, attached, toExpander, numberOf}
-use Rattle.wiring.specs.PhyCauses.{farPhy}
-use Rattle.wiring.specs.Devices.{Borne}
+use Rattle.wiring.specs.phys.PhyCauses.{farPhy}
+use Rattle.wiring.specs.graph.Devices.{Borne}
 use Rattle.wiring.specs.WiringCauses.{Linked}
 use Rattle.files.proofs.ListMembers.{tests, is-false, eq→eqb, in-append, getD-in, in-flatMap, same-test}
-use Rattle.wiring.proofs.WiredPhys.{Wired, far-below, far-is}
+use Rattle.wiring.proofs.phys.WiredPhys.{Wired, far-below, far-is}
 use Rattle.files.proofs.Domains.{expander-attached, attached-cases, in-range, attribute-one}
-use Rattle.tables.specs.Levels.{eachOnce, down, downstreamOfPhys, downstream, nextLevel, levelsFrom, levels}
-use Rattle.tables.specs.Tables.{addressAt, gives, give, giveAll, levelList, table}
-use Rattle.tables.proofs.LevelsBeyond.{Table, Sub, table-back, in-next, levels-enough, levels-none, down-leads}
-use Rattle.tables.proofs.DownstreamLists.{downstream-none, downstream-one}
-use Rattle.tables.proofs.LevelListMembers.{held-cases, held-self, held-phy}
+use Rattle.tables.specs.levels.Levels.{eachOnce, down, downstreamOfPhys, downstream, nextLevel, levelsFrom, levels}
+use Rattle.tables.specs.filling.Tables.{addressAt, gives, give, giveAll, levelList, table}
+use Rattle.tables.proofs.levels.LevelsBeyond.{Table, Sub, table-back, in-next, levels-enough, levels-none, down-leads}
+use Rattle.tables.proofs.levels.DownstreamLists.{downstream-none, downstream-one}
+use Rattle.tables.proofs.lists.LevelListMembers.{held-cases, held-self, held-phy}
 use Rattle.benches.proofs.BridgedGraphs.{All}
 use Rattle.benches.proofs.PartsOfJoined.{Part}
 

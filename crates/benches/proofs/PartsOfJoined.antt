@@ -14,7 +14,7 @@ use Rattle.files.specs.declared.Phy.{Phy}
 use Rattle.files.specs.declared.Phy.the-variants.{Vacant}
 use Rattle.files.specs.Domain.{Expander, Domain, noExpander, expanderAt, phyAt, hasAttribute, numberOf}
 use Rattle.files.specs.PhyReplaced.{withPhy, setPhy}
-use Rattle.wiring.specs.Devices.{Borne}
+use Rattle.wiring.specs.graph.Devices.{Borne}
 use Rattle.files.proofs.Domains.{numberOf-is, attribute-range, expander-range}
 use Rattle.benches.specs.JoinConditions.{Free, Joinable}
 use Rattle.benches.specs.Joined.{cabledTo, joined}

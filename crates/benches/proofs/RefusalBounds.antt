@@ -17,11 +17,11 @@ use Rattle.files.specs.Lists.{numbers, upTo, isIn}
 use Rattle.files.specs.Settings.{within, inRange}
 use Rattle.files.specs.Domain.{Domain}
 use Rattle.files.specs.File.{placed, frameAt, fieldsOf, ranged, phyOf, phyUnit, phyUnits, unitOf, unitTested, expanderUnit, expanders, headerUnit, domainRead}
-use Rattle.wiring.specs.PhyCauses.{Place, phyPlaces, placesFrom, places, firstIn, firstOf, unanswered, claimed, clashing, fixed, wiredDomain}
-use Rattle.wiring.specs.LongChains.{unlong, chainsWithin}
-use Rattle.wiring.specs.Neighbours.{neighbours}
-use Rattle.wiring.specs.Graph.{loopfree}
-use Rattle.wiring.specs.LinkCauses.{unlooped, joined, joinedIn, linkedDomain}
+use Rattle.wiring.specs.phys.PhyCauses.{Place, phyPlaces, placesFrom, places, firstIn, firstOf, unanswered, claimed, clashing, fixed, wiredDomain}
+use Rattle.wiring.specs.graph.LongChains.{unlong, chainsWithin}
+use Rattle.wiring.specs.graph.Neighbours.{neighbours}
+use Rattle.wiring.specs.graph.Graph.{loopfree}
+use Rattle.wiring.specs.graph.LinkCauses.{unlooped, joined, joinedIn, linkedDomain}
 use Rattle.files.proofs.ReadDomain.{read-good}
 use Rattle.files.proofs.ListMembers.{tests}
 use Rattle.files.proofs.SettingRanges.{range-iff}

@@ -15,8 +15,8 @@ use Rattle.wiring.specs.declared.Check.{Check}
 use Rattle.wiring.specs.declared.Check.the-variants.{Refused, Passed}
 use Rattle.files.specs.Domain.{Expander, Domain, noExpander, expanderAt}
 use Rattle.files.specs.ReadDomain.{Bytes}
-use Rattle.wiring.specs.AddressIndex.{slotsBefore, IndexRoom}
-use Rattle.wiring.specs.Checks.{checkAnswer}
+use Rattle.wiring.specs.index.AddressIndex.{slotsBefore, IndexRoom}
+use Rattle.wiring.specs.phys.Checks.{checkAnswer}
 use Rattle.files.specs.File.{domainRead}
 use Rattle.files.specs.Rows.{phyIn, physIn, rowIn, rowsIn, domainIn, rowsRead, RowsRead}
 use Rattle.files.specs.PhyReplaced.{withPhy, setPhy, phyFromWords, PhySet}

@@ -17,10 +17,10 @@ use Rattle.wiring.specs.declared.Check.the-variants.{Refused}
 use Rattle.files.specs.Lists.{any, In, isIn}
 use Rattle.files.specs.ReadDomain.{ReadExpander, addresses}
 use Rattle.files.specs.Domain.{Expander, Domain, noExpander, expanderAt, numberOf}
-use Rattle.wiring.specs.Checks.{checkAnswer}
+use Rattle.wiring.specs.phys.Checks.{checkAnswer}
 use Rattle.files.specs.File.{expanderOf}
 use Rattle.files.proofs.ListMembers.{was-true, by-test}
-use Rattle.tables.specs.PreparedLists.{judgedIn}
+use Rattle.tables.specs.lists.PreparedLists.{judgedIn}
 use Rattle.benches.specs.BenchRows.{repeatedFrom, repeated, differing, apartIn}
 use Rattle.benches.proofs.FileUnits.{UnitBytes, UnitOf, UnitsOf, physAll, expandersAll, testedAll, length-phys}
 

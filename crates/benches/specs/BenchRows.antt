@@ -12,7 +12,7 @@ use Rattle.files.specs.Domain.{Domain, expanderAt, numberOf}
 use Rattle.files.specs.File.{domainRead}
 use Rattle.files.specs.PhyReplaced.{setPhy}
 use Rattle.tables.specs.JudgingCall.{judgedDomain}
-use Rattle.tables.specs.PreparedLists.{judgedIn}
+use Rattle.tables.specs.lists.PreparedLists.{judgedIn}
 use Rattle.benches.specs.Joined.{cabledTo}
 
 -- the domain that a file reads as; no expander where it is refused

@@ -2,7 +2,7 @@
 use Prim.Native.Nat.{ℕ}
 use lib.Dec.{T}
 use Rattle.files.specs.Domain.{Domain, phyAt, isSubtractive, attached}
-use Rattle.wiring.specs.Devices.{Borne}
+use Rattle.wiring.specs.graph.Devices.{Borne}
 
 -- "non-vacant, subtractive and unattached", and its expander has no attached subtractive phy
 pub record Free (d : Domain) (i p : ℕ) : Type 0 where

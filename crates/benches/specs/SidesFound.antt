@@ -9,7 +9,7 @@ use Rattle.frames.specs.Bytes.{byte}
 use Rattle.frames.specs.Refusals.{Result, refused, good, unless, then, refusal}
 use Rattle.files.specs.declared.Setting.{Setting}
 use Rattle.files.specs.Domain.{Domain}
-use Rattle.wiring.specs.AddressIndex.{slotsBefore}
+use Rattle.wiring.specs.index.AddressIndex.{slotsBefore}
 use Rattle.tables.specs.JudgingCall.{judged}
 use Rattle.benches.specs.declared.Side.{Side}
 use Rattle.benches.specs.declared.Side.the-variants.{Refused as NotAccepted, Accepted as IsAccepted}

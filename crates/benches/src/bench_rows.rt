@@ -9,7 +9,7 @@ use wiring::Setting;
 ghost use mathlib.Core.Path.{_≡_};
 ghost use Prim.Native.Nat.{_+_, _*_, _≤_, _<_};
 ghost use lib.ListN.{length, take};
-ghost use Rattle.wiring.specs.Checks.{checkAnswer};
+ghost use Rattle.wiring.specs.phys.Checks.{checkAnswer};
 ghost use Rattle.files.specs.Rows.{domainIn, rowWords};
 ghost use Rattle.tables.specs.JudgingCall.{judged};
 ghost use Rattle.benches.specs.Bytes.{joinedFile};

@@ -33,7 +33,7 @@ use Rattle.cards.proofs.CardRoundTrip.{size-card}
 use Rattle.cards.proofs.CardDomain.{card-is, count-expanders}
 use Rattle.cards.proofs.RowPuts.{domain-on}
 use Rattle.cards.proofs.ReadDomainsFit.{legal-read, legal-fits}
-use Rattle.tables.proofs.BitsReplaced.{sets-front}
+use Rattle.tables.proofs.events.BitsReplaced.{sets-front}
 
 -- what was made did not fit, or it fitted
 pub not-fitted : (new before : List ℕ) (answer : Made) → length before < length new → madeAnswer answer ≡ refused (refusal 16 0 0) → MadeDone (fitting (length before) new) answer before before

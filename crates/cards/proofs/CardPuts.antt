@@ -19,7 +19,7 @@ use Rattle.files.proofs.OneMore.{drop-next}
 use Rattle.cards.specs.Card.{phyBits, physBits, headBits, expandersBits, cardBits, cardOf, presentSize, phySize, physSize, expandersSize, cardSize}
 use Rattle.cards.proofs.CardRoundTrip.{size-phy, size-phys, length-head, size-expanders, size-card, bits-card}
 use Rattle.cards.proofs.CardDomain.{zero-bits}
-use Rattle.tables.proofs.BitsReplaced.{sets-front}
+use Rattle.tables.proofs.events.BitsReplaced.{sets-front}
 
 -- one put after another
 pub puts : (l m n : List ℕ) (i j : ℕ) (vs us : List ℕ) → m ≡ sets l i vs → n ≡ sets m j us → j ≡ i + length vs → n ≡ sets l i (vs ++ us)

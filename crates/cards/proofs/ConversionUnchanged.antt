@@ -6,8 +6,8 @@ use lib.ListN.{length, take}
 use Rattle.files.specs.declared.Setting.{Setting}
 use Rattle.files.specs.ReadDomain.{Bytes}
 use Rattle.files.specs.File.{domainRead}
-use Rattle.wiring.specs.Neighbours.{wiringCall}
-use Rattle.tables.specs.Entries.{Room, Entries}
+use Rattle.wiring.specs.graph.Neighbours.{wiringCall}
+use Rattle.tables.specs.filling.Entries.{Room, Entries}
 use Rattle.tables.specs.JudgingCall.{judged, tableCall}
 use Rattle.tracing.specs.Trace.{Request, traceCall}
 use Rattle.cards.specs.declared.Made.the-variants.{Bytes as MadeBytes}

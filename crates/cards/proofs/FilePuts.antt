@@ -18,7 +18,7 @@ use Rattle.cards.specs.FileOf.{generalOf, phyFrame, physFrames, unitHead
 use Rattle.cards.proofs.FileRoundTrip.{length-phy, length-frames, length-head}
 use Rattle.cards.proofs.CardPuts.{puts}
 use Rattle.cards.proofs.RowPuts.{mid-sets}
-use Rattle.tables.proofs.BitsReplaced.{sets-front}
+use Rattle.tables.proofs.events.BitsReplaced.{sets-front}
 
 -- a frame written at the front of a part that it fills
 pub front-whole : (new before : List ℕ) → length before ≡ length new → atFront new before ≡ new

@@ -17,30 +17,30 @@ use Rattle.files.specs.declared.Phy.the-variants.{Vacant}
 use Rattle.files.specs.Lists.{In, any}
 use Rattle.files.specs.Domain.{Expander, Domain, noExpander, expanderAt, phyAt, addressOf, attachedPhyOf, isDirect, toEnd, toExpander, numberOf}
 use Rattle.files.specs.ReadDomain.{Read}
-use Rattle.wiring.specs.PhyCauses.{Place, place, phyPlaces, placesFrom, places, farPhy, names, unanswered, endAt, claimed, clash, clashing, fixed, firstIn, firstOf, wiredDomain}
-use Rattle.wiring.specs.AddressIndex.{slotsBefore, isTaken}
-use Rattle.wiring.specs.Graph.{Loop, Chain}
-use Rattle.wiring.specs.Neighbours.{cabled, neighbours}
-use Rattle.wiring.specs.LongChains.{ShortChains}
-use Rattle.wiring.specs.LinkCauses.{linkedDomain, checkedDomain}
+use Rattle.wiring.specs.phys.PhyCauses.{Place, place, phyPlaces, placesFrom, places, farPhy, names, unanswered, endAt, claimed, clash, clashing, fixed, firstIn, firstOf, wiredDomain}
+use Rattle.wiring.specs.index.AddressIndex.{slotsBefore, isTaken}
+use Rattle.wiring.specs.graph.Graph.{Loop, Chain}
+use Rattle.wiring.specs.graph.Neighbours.{cabled, neighbours}
+use Rattle.wiring.specs.graph.LongChains.{ShortChains}
+use Rattle.wiring.specs.graph.LinkCauses.{linkedDomain, checkedDomain}
 use Rattle.wiring.specs.WiringCauses.{Passed, Linked}
 use Rattle.files.specs.PhyReplaced.{withPhy}
 use Rattle.files.proofs.ListMembers.{tests, by-test, or-cases, is-false, of-any, take-in, in-append}
 use Rattle.files.proofs.ReadDomain.{read-good}
-use Rattle.wiring.proofs.WiredPhys.{Wired}
+use Rattle.wiring.proofs.phys.WiredPhys.{Wired}
 use Rattle.files.proofs.Domains.{numberOf-is}
 use Rattle.wiring.proofs.WiredAndLinked.{good-firstIn, good-firstOf, passed-iff, linked-iff, end-at}
 use Rattle.wiring.proofs.CheckOutcomes.{checked-room}
 use Rattle.tables.specs.JudgingCall.{judgedDomain, judged}
-use Rattle.tables.specs.PreparedLists.{ownOverlong}
-use Rattle.tables.specs.ReplugCall.{pluggable, replug, replugged, claimedWith, retested}
+use Rattle.tables.specs.lists.PreparedLists.{ownOverlong}
+use Rattle.tables.specs.events.ReplugCall.{pluggable, replug, replugged, claimedWith, retested}
 use Rattle.tables.proofs.AcceptedDomains.{judged-routable, judged-file, judged-wires}
 use Rattle.tables.proofs.CallOutcomes.{own-checked}
-use Rattle.tables.proofs.LevelListsByOwn.{judged-read}
+use Rattle.tables.proofs.lists.LevelListsByOwn.{judged-read}
 use Rattle.events.specs.declared.Event.{Event}
 use Rattle.events.specs.Events.{named, edited}
 use Rattle.events.specs.EventFile.{fileEdited}
-use Rattle.tables.proofs.LevelsAfterEvent.{unattached, replug-unattached, size-same, number-same, other, by-expander, by-phy, address-same, configurable-same, attribute-same, phy-kept}
+use Rattle.tables.proofs.events.LevelsAfterEvent.{unattached, replug-unattached, size-same, number-same, other, by-expander, by-phy, address-same, configurable-same, attribute-same, phy-kept}
 use Rattle.events.proofs.EditedFile.{edited-read}
 
 -- a member replaced by one of which the test says the same

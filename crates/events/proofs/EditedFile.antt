@@ -37,7 +37,7 @@ use Rattle.files.proofs.ListMembers.{is-true, is-false, and-left, and-right}
 use Rattle.files.proofs.CallResults.{never, good-one, unless-good, good-unless, then-good, good-then}
 use Rattle.files.proofs.UnitReading.{unitAt, unit-cut, unit-by, size-whole, size-within}
 use Rattle.files.proofs.Domains.{phy-range}
-use Rattle.tables.specs.ReplugCall.{pluggable, replug}
+use Rattle.tables.specs.events.ReplugCall.{pluggable, replug}
 use Rattle.events.specs.declared.Event.{Event}
 use Rattle.events.specs.Events.{named, edited}
 use Rattle.events.specs.EventFile.{typed, frameEdited, fileEdited}

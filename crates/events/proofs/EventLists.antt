@@ -12,15 +12,15 @@ use Rattle.frames.proofs.DisableBits.{length-marked}
 use Rattle.files.specs.declared.Setting.{Setting}
 use Rattle.files.specs.Domain.{Domain}
 use Rattle.files.proofs.CallResults.{good-one, unless-good, then-good}
-use Rattle.tables.specs.Tables.{tables}
-use Rattle.tables.specs.Entries.{Entries, Room, roomOf, Enough, putBefore}
+use Rattle.tables.specs.filling.Tables.{tables}
+use Rattle.tables.specs.filling.Entries.{Entries, Room, roomOf, Enough, putBefore}
 use Rattle.tables.specs.JudgingCall.{judged, tablesFor, tableCall, tablesAfter, TablesDone}
-use Rattle.tables.specs.TouchedTables.{refilled}
-use Rattle.tables.specs.ReplugCall.{pluggable}
+use Rattle.tables.specs.events.TouchedTables.{refilled}
+use Rattle.tables.specs.events.ReplugCall.{pluggable}
 use Rattle.tables.specs.declared.TablesGiven.{TablesGiven}
 use Rattle.tables.specs.declared.TablesGiven.the-variants.{Counts}
 use Rattle.tables.proofs.AcceptedDomains.{judged-file, judged-wires, tableCall-iff}
-use Rattle.tables.proofs.TableLengths.{tables-length}
+use Rattle.tables.proofs.filling.TableLengths.{tables-length}
 use Rattle.tables.proofs.TableRefusals.{counts-iff}
 use Rattle.events.specs.declared.Event.{Event}
 use Rattle.events.specs.declared.EventAnswer.{EventAnswer}
@@ -28,7 +28,7 @@ use Rattle.events.specs.Events.{named, edited}
 use Rattle.events.specs.EventFile.{fileEdited}
 use Rattle.events.specs.Calls.{attempted, eventCall, fileAfter, entriesAfter, EventDone, Lab, Happened, none, next, applied}
 use Rattle.events.specs.EventLists.{Configured, Afresh}
-use Rattle.tables.proofs.LevelsAfterEvent.{needed-same}
+use Rattle.tables.proofs.events.LevelsAfterEvent.{needed-same}
 use Rattle.events.proofs.EditedFile.{edited-read}
 use Rattle.events.proofs.TouchedTablesRefilled.{refilled-is}
 

@@ -11,13 +11,13 @@ use Rattle.frames.specs.declared.Refusal.{Refusal}
 use Rattle.files.specs.declared.Setting.{Setting}
 use Rattle.files.specs.Domain.{Domain}
 use Rattle.files.specs.File.{domainRead}
-use Rattle.wiring.specs.AddressIndex.{IndexRoom}
+use Rattle.wiring.specs.index.AddressIndex.{IndexRoom}
 use Rattle.files.proofs.CallResults.{never}
 use Rattle.files.proofs.ReadDomain.{read-good, stated-expanders}
 use Rattle.files.proofs.PastLimits.{header-cut}
-use Rattle.tables.specs.Entries.{Entries, roomOf}
-use Rattle.tables.specs.TouchedTables.{movedBy}
-use Rattle.tables.specs.ReplugCall.{replugCall, ownTouched, replugAnswer, ReplugDone}
+use Rattle.tables.specs.filling.Entries.{Entries, roomOf}
+use Rattle.tables.specs.events.TouchedTables.{movedBy}
+use Rattle.tables.specs.events.ReplugCall.{replugCall, ownTouched, replugAnswer, ReplugDone}
 use Rattle.tables.specs.declared.Replugged.{Replugged}
 use Rattle.tables.specs.declared.Replugged.the-variants.{Refused, Counts}
 use Rattle.offsets.specs.Offsets.{phyOffset}

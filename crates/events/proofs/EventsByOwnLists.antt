@@ -13,24 +13,24 @@ use Rattle.files.specs.declared.Setting.{Setting}
 use Rattle.files.specs.Lists.{isIn}
 use Rattle.files.specs.Domain.{Domain, expanderAt}
 use Rattle.files.specs.File.{domainRead}
-use Rattle.wiring.specs.AddressIndex.{slotsBefore}
+use Rattle.wiring.specs.index.AddressIndex.{slotsBefore}
 use Rattle.wiring.specs.WiringCauses.{Linked}
 use Rattle.files.proofs.ListMembers.{was-true}
 use Rattle.files.proofs.CallResults.{never, then-good}
-use Rattle.wiring.proofs.WiredPhys.{Wired}
-use Rattle.tables.specs.Tables.{table}
-use Rattle.tables.specs.Entries.{Entries, Room, roomOf}
-use Rattle.tables.specs.OwnLists.{ownWords, ownWordsOfLevels}
+use Rattle.wiring.proofs.phys.WiredPhys.{Wired}
+use Rattle.tables.specs.filling.Tables.{table}
+use Rattle.tables.specs.filling.Entries.{Entries, Room, roomOf}
+use Rattle.tables.specs.lists.OwnLists.{ownWords, ownWordsOfLevels}
 use Rattle.tables.specs.JudgingCall.{judgedDomain, judged, tablesFor}
-use Rattle.tables.specs.PreparedLists.{ownWordsOfOrder, filledTo, judgedIn}
-use Rattle.tables.specs.TouchedTables.{touched, tableAt, refilledBy, refilled, movedBy, moved}
-use Rattle.tables.specs.ReplugCall.{pluggable, retested, replugCall, ownTouched, ownTableAt, ownRefilled, refilledAfter, replugAnswer, ReplugDone}
+use Rattle.tables.specs.lists.PreparedLists.{ownWordsOfOrder, filledTo, judgedIn}
+use Rattle.tables.specs.events.TouchedTables.{touched, tableAt, refilledBy, refilled, movedBy, moved}
+use Rattle.tables.specs.events.ReplugCall.{pluggable, retested, replugCall, ownTouched, ownTableAt, ownRefilled, refilledAfter, replugAnswer, ReplugDone}
 use Rattle.tables.specs.declared.Replugged.{Replugged}
 use Rattle.tables.specs.declared.Replugged.the-variants.{Refused, Counts}
 use Rattle.tables.proofs.AcceptedDomains.{judged-routable, judged-file, judged-wires}
-use Rattle.tables.proofs.LevelListLaw.{law}
-use Rattle.tables.proofs.LevelOrders.{order-levels}
-use Rattle.tables.proofs.LevelListsByOwn.{judged-own}
+use Rattle.tables.proofs.lists.LevelListLaw.{law}
+use Rattle.tables.proofs.levels.LevelOrders.{order-levels}
+use Rattle.tables.proofs.lists.LevelListsByOwn.{judged-own}
 use Rattle.events.specs.declared.Event.{Event}
 use Rattle.events.specs.declared.EventAnswer.{EventAnswer}
 use Rattle.events.specs.declared.EventAnswer.the-variants.{Refused as EventRefused}

@@ -18,15 +18,15 @@ use Rattle.files.specs.Domain.{Domain, noExpander, expanderAt, phyAt, addressOf
 use Rattle.files.specs.PhyReplaced.{withPhy, setPhy}
 use Rattle.wiring.specs.WiringCauses.{Linked}
 use Rattle.files.proofs.ListMembers.{tests, T?, is-true, is-false, was-true, in-cast, getD-in}
-use Rattle.wiring.proofs.WiredPhys.{Wired, far-below, far-is}
+use Rattle.wiring.proofs.phys.WiredPhys.{Wired, far-below, far-is}
 use Rattle.files.proofs.Domains.{attribute-one}
-use Rattle.tables.specs.Levels.{down, levels}
-use Rattle.tables.specs.Tables.{word, levelList, table}
-use Rattle.tables.specs.OwnLists.{owns, ownWordsFrom, ownWords, ownWordsOfLevels}
-use Rattle.tables.specs.ReplugCall.{pluggable, replug}
-use Rattle.tables.proofs.LevelsBeyond.{down-leads, levels-few}
-use Rattle.tables.proofs.LevelListLaw.{law, levels-empty}
-use Rattle.tables.proofs.LevelsAfterEvent.{flatMap-same, replug-attribute, expander-there, phy-there, route-indexes-same, levels-same, own-other}
+use Rattle.tables.specs.levels.Levels.{down, levels}
+use Rattle.tables.specs.filling.Tables.{word, levelList, table}
+use Rattle.tables.specs.lists.OwnLists.{owns, ownWordsFrom, ownWords, ownWordsOfLevels}
+use Rattle.tables.specs.events.ReplugCall.{pluggable, replug}
+use Rattle.tables.proofs.levels.LevelsBeyond.{down-leads, levels-few}
+use Rattle.tables.proofs.lists.LevelListLaw.{law, levels-empty}
+use Rattle.tables.proofs.events.LevelsAfterEvent.{flatMap-same, replug-attribute, expander-there, phy-there, route-indexes-same, levels-same, own-other}
 
 module _ {A : Type 0} where
   set-right : (xs ys : List A) (i : ℕ) (a : A) → set (xs ++ ys) (length xs + i) a ≡ xs ++ set ys i a

@@ -15,17 +15,17 @@ use Rattle.files.specs.Lists.{numbers, any, keep, isIn}
 use Rattle.files.specs.Settings.{inRange, widest}
 use Rattle.files.specs.Domain.{Domain, numberOf}
 use Rattle.files.specs.File.{sizeAt, domainRead, headerUnit, expanders, expanderUnit, phyUnits, phyUnit}
-use Rattle.wiring.specs.PhyCauses.{unanswered, endAt, claimed, clash, clashing, fixed, phyPlaces, placesFrom, firstIn, wiredDomain}
-use Rattle.wiring.specs.Graph.{strip, reach}
-use Rattle.wiring.specs.Neighbours.{cabled, neighbours}
-use Rattle.wiring.specs.LongChains.{chainsWithin, unlong}
-use Rattle.wiring.specs.LinkCauses.{unlooped, joined, joinedIn, linkedDomain}
+use Rattle.wiring.specs.phys.PhyCauses.{unanswered, endAt, claimed, clash, clashing, fixed, phyPlaces, placesFrom, firstIn, wiredDomain}
+use Rattle.wiring.specs.graph.Graph.{strip, reach}
+use Rattle.wiring.specs.graph.Neighbours.{cabled, neighbours}
+use Rattle.wiring.specs.graph.LongChains.{chainsWithin, unlong}
+use Rattle.wiring.specs.graph.LinkCauses.{unlooped, joined, joinedIn, linkedDomain}
 use Rattle.files.specs.PhyReplaced.{withPhy, setPhy}
-use Rattle.tables.specs.Levels.{eachOnce, downstreamOfPhys, downstream, nextLevel, levelsFrom, levels}
-use Rattle.tables.specs.Tables.{addressAt, gives, give, giveAll, levelList, table, tablePlaces, size, sizes}
-use Rattle.tables.specs.Entries.{Entries, entries, Room, roomOf}
+use Rattle.tables.specs.levels.Levels.{eachOnce, downstreamOfPhys, downstream, nextLevel, levelsFrom, levels}
+use Rattle.tables.specs.filling.Tables.{addressAt, gives, give, giveAll, levelList, table, tablePlaces, size, sizes}
+use Rattle.tables.specs.filling.Entries.{Entries, entries, Room, roomOf}
 use Rattle.tables.specs.JudgingCall.{overlong, judgedDomain}
-use Rattle.tables.specs.TouchedTables.{touched, renewed, refilled, changed, moved}
+use Rattle.tables.specs.events.TouchedTables.{touched, renewed, refilled, changed, moved}
 use Rattle.events.specs.declared.Event.{Event}
 use Rattle.events.specs.Events.{edited}
 use Rattle.events.specs.EventFile.{frameEdited, fileEdited}

@@ -15,23 +15,23 @@ use Rattle.frames.proofs.PackedRows.{bits-bitsOf, unpacked}
 use Rattle.files.specs.declared.Setting.{Setting}
 use Rattle.files.specs.Lists.{In, any, keep, isIn}
 use Rattle.files.specs.Domain.{Domain, expanderAt, phyAt, isTable, toExpander}
-use Rattle.wiring.specs.PhyCauses.{Place, place, places}
+use Rattle.wiring.specs.phys.PhyCauses.{Place, place, places}
 use Rattle.files.proofs.ListMembers.{is-true, was-true, and-left, and-right}
 use Rattle.files.proofs.Domains.{attribute-range}
-use Rattle.wiring.proofs.WiredPhys.{in-places}
-use Rattle.tables.specs.Levels.{levels}
-use Rattle.tables.specs.Tables.{levelList, table, tablePlaces, size, sizes, needed, offsetIn, offset, stretch}
-use Rattle.tables.specs.Entries.{Entries, roomOf, Enough}
+use Rattle.wiring.proofs.phys.WiredPhys.{in-places}
+use Rattle.tables.specs.levels.Levels.{levels}
+use Rattle.tables.specs.filling.Tables.{levelList, table, tablePlaces, size, sizes, needed, offsetIn, offset, stretch}
+use Rattle.tables.specs.filling.Entries.{Entries, roomOf, Enough}
 use Rattle.tables.specs.JudgingCall.{judged}
-use Rattle.tables.specs.TouchedTables.{touched, tableAt, renewed, refilled}
-use Rattle.tables.proofs.LevelListLaw.{levels-empty}
-use Rattle.tables.proofs.FilledTable.{length-filled}
-use Rattle.tables.proofs.TableStretches.{isPlace, is-place, place-is}
+use Rattle.tables.specs.events.TouchedTables.{touched, tableAt, renewed, refilled}
+use Rattle.tables.proofs.lists.LevelListLaw.{levels-empty}
+use Rattle.tables.proofs.filling.FilledTable.{length-filled}
+use Rattle.tables.proofs.filling.TableStretches.{isPlace, is-place, place-is}
 use Rattle.events.specs.declared.Event.{Event}
 use Rattle.events.specs.Events.{edited}
 use Rattle.events.specs.Calls.{eventCall}
 use Rattle.events.specs.EventLists.{Touches}
-use Rattle.tables.proofs.LevelsAfterEvent.{levels-same, touched-same, attribute-same, needed-same, stretch-same}
+use Rattle.tables.proofs.events.LevelsAfterEvent.{levels-same, touched-same, attribute-same, needed-same, stretch-same}
 use Rattle.frames.proofs.DisableBits.{bits-zeroBits}
 use Rattle.events.proofs.EventLists.{accepted-is}
 

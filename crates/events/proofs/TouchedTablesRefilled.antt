@@ -16,20 +16,20 @@ use Rattle.frames.proofs.DisableBits.{bits-zeroBits, marked-room, length-marked
 use Rattle.files.specs.declared.Phy.{Phy}
 use Rattle.files.specs.Lists.{In, isIn}
 use Rattle.files.specs.Domain.{Domain, expanderAt, phyAt, isTable}
-use Rattle.wiring.specs.PhyCauses.{Place, place, places}
+use Rattle.wiring.specs.phys.PhyCauses.{Place, place, places}
 use Rattle.files.specs.PhyReplaced.{setPhy}
 use Rattle.wiring.specs.WiringCauses.{Linked}
 use Rattle.files.proofs.ListMembers.{is-true, kept, isIn-of, by-test}
-use Rattle.wiring.proofs.WiredPhys.{Wired}
-use Rattle.tables.specs.Levels.{levels}
-use Rattle.tables.specs.Tables.{levelList, table, tablePlaces, tables, size, needed}
-use Rattle.tables.specs.Entries.{Entries, entries, roomOf, Enough, putBefore}
-use Rattle.tables.specs.OwnLists.{ownWords, ownWordsOfLevels}
-use Rattle.tables.specs.TouchedTables.{touched, tableAt, renewed, refilledBy, refilled}
-use Rattle.tables.specs.ReplugCall.{pluggable, replug}
-use Rattle.tables.proofs.LevelListLaw.{law}
-use Rattle.tables.proofs.FilledTable.{length-filled}
-use Rattle.tables.proofs.LevelsAfterEvent.{flatMap-same, route-indexes-same, levels-same, touched-same, own-other, table-places-same, width-same}
+use Rattle.wiring.proofs.phys.WiredPhys.{Wired}
+use Rattle.tables.specs.levels.Levels.{levels}
+use Rattle.tables.specs.filling.Tables.{levelList, table, tablePlaces, tables, size, needed}
+use Rattle.tables.specs.filling.Entries.{Entries, entries, roomOf, Enough, putBefore}
+use Rattle.tables.specs.lists.OwnLists.{ownWords, ownWordsOfLevels}
+use Rattle.tables.specs.events.TouchedTables.{touched, tableAt, renewed, refilledBy, refilled}
+use Rattle.tables.specs.events.ReplugCall.{pluggable, replug}
+use Rattle.tables.proofs.lists.LevelListLaw.{law}
+use Rattle.tables.proofs.filling.FilledTable.{length-filled}
+use Rattle.tables.proofs.events.LevelsAfterEvent.{flatMap-same, route-indexes-same, levels-same, touched-same, own-other, table-places-same, width-same}
 
 -- at places where old numbers stand one after the other, new ones where they differ
 pub renewed-is : (test : Place → Bool) (width : Place → ℕ) (new old : Place → List ℕ) (qs : List Place) (rest : List ℕ)

@@ -13,21 +13,21 @@ use Rattle.files.specs.declared.Phy.{Phy}
 use Rattle.files.specs.declared.Setting.{Setting}
 use Rattle.files.specs.Lists.{any, keep, isIn, In}
 use Rattle.files.specs.Domain.{Domain, expanderAt, phyAt, isTable, isDirect, toExpander}
-use Rattle.wiring.specs.PhyCauses.{Place, places}
+use Rattle.wiring.specs.phys.PhyCauses.{Place, places}
 use Rattle.files.specs.PhyReplaced.{setPhy}
 use Rattle.wiring.specs.WiringCauses.{Linked}
 use Rattle.files.proofs.ListMembers.{tests, is-true, kept}
 use Rattle.files.proofs.CallResults.{good-one, then-good}
-use Rattle.wiring.proofs.WiredPhys.{Wired}
-use Rattle.tables.specs.Tables.{word, tablePlaces, tables, size, needed, stretch}
-use Rattle.tables.specs.Entries.{Entries, roomOf}
+use Rattle.wiring.proofs.phys.WiredPhys.{Wired}
+use Rattle.tables.specs.filling.Tables.{word, tablePlaces, tables, size, needed, stretch}
+use Rattle.tables.specs.filling.Entries.{Entries, roomOf}
 use Rattle.tables.specs.JudgingCall.{judged}
-use Rattle.tables.proofs.LevelListLaw.{levels-empty}
-use Rattle.tables.proofs.TableLengths.{table-length, tables-length as all-words}
-use Rattle.tables.proofs.TableStretches.{stretch-is}
+use Rattle.tables.proofs.lists.LevelListLaw.{levels-empty}
+use Rattle.tables.proofs.filling.TableLengths.{table-length, tables-length as all-words}
+use Rattle.tables.proofs.filling.TableStretches.{stretch-is}
 use Rattle.tables.proofs.AcceptedDomains.{judged-wires}
-use Rattle.tables.specs.TouchedTables.{touched, tableAt, renewed, refilled, changed, Moved, moved}
-use Rattle.tables.specs.ReplugCall.{pluggable, replug}
+use Rattle.tables.specs.events.TouchedTables.{touched, tableAt, renewed, refilled, changed, Moved, moved}
+use Rattle.tables.specs.events.ReplugCall.{pluggable, replug}
 use Rattle.events.specs.declared.Event.{Event}
 use Rattle.events.specs.declared.EventAnswer.the-variants.{Counts}
 use Rattle.events.specs.Events.{named, edited}
@@ -35,7 +35,7 @@ use Rattle.events.specs.EventFile.{fileEdited}
 use Rattle.events.specs.Calls.{eventCall, fileAfter, entriesAfter, EventDone, Lab}
 use Rattle.events.specs.EventLists.{Configured}
 use Rattle.events.specs.WordsMoved.{OnDirect, Unaltered, tableLinks, MovesLittle}
-use Rattle.tables.proofs.LevelsAfterEvent.{route-indexes-same, attribute-same, touched-same, table-places-same}
+use Rattle.tables.proofs.events.LevelsAfterEvent.{route-indexes-same, attribute-same, touched-same, table-places-same}
 use Rattle.events.proofs.TouchedTablesRefilled.{renewed-is, table-same, tables-length}
 use Rattle.events.proofs.EventLists.{accepted-is}
 use Rattle.events.proofs.OneWordChanged.{list-length, table-one}

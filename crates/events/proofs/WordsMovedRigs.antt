@@ -10,11 +10,11 @@ use Rattle.files.specs.declared.Phy.the-variants.{Present}
 use Rattle.files.specs.Domain.{Domain}
 use Rattle.files.specs.PhyReplaced.{withPhy, setPhy}
 use Rattle.tables.proofs.WorkedDefinitions.{numbers, any, keep, isIn, numberOf, unanswered, endAt, claimed, clash, clashing, fixed, phyPlaces, placesFrom, firstIn, wiredDomain, strip, reach, cabled, neighbours, chainsWithin, unlong, unlooped, joined, joinedIn, linkedDomain}
-use Rattle.tables.specs.Levels.{eachOnce, downstreamOfPhys, downstream, nextLevel, levelsFrom, levels}
-use Rattle.tables.specs.Tables.{addressAt, gives, give, giveAll, levelList, table, tablePlaces, tables, size}
-use Rattle.tables.specs.Entries.{Entries, entries}
+use Rattle.tables.specs.levels.Levels.{eachOnce, downstreamOfPhys, downstream, nextLevel, levelsFrom, levels}
+use Rattle.tables.specs.filling.Tables.{addressAt, gives, give, giveAll, levelList, table, tablePlaces, tables, size}
+use Rattle.tables.specs.filling.Entries.{Entries, entries}
 use Rattle.tables.specs.JudgingCall.{overlong, judgedDomain}
-use Rattle.tables.specs.TouchedTables.{touched, renewed, refilled, changed, moved}
+use Rattle.tables.specs.events.TouchedTables.{touched, renewed, refilled, changed, moved}
 use Rattle.events.specs.declared.Event.{Event}
 use Rattle.events.specs.Events.{edited}
 use Rattle.events.specs.WordsMoved.{tableLinks}

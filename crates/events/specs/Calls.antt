@@ -5,10 +5,10 @@ use mathlib.Core.List.{List, [], _∷_}
 use Rattle.frames.specs.Refusals.{Result, refused, good, unless, then, refusal}
 use Rattle.files.specs.declared.Setting.{Setting}
 use Rattle.files.specs.Domain.{Domain}
-use Rattle.tables.specs.Entries.{Entries, Room, roomOf}
+use Rattle.tables.specs.filling.Entries.{Entries, Room, roomOf}
 use Rattle.tables.specs.JudgingCall.{judged, tablesFor}
-use Rattle.tables.specs.TouchedTables.{Moved, moved, refilled}
-use Rattle.tables.specs.ReplugCall.{pluggable}
+use Rattle.tables.specs.events.TouchedTables.{Moved, moved, refilled}
+use Rattle.tables.specs.events.ReplugCall.{pluggable}
 use Rattle.events.specs.declared.Event.{Event}
 use Rattle.events.specs.declared.EventAnswer.{EventAnswer}
 use Rattle.events.specs.declared.EventAnswer.the-variants.{Refused, Counts}

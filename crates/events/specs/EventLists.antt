@@ -9,12 +9,12 @@ use Rattle.frames.specs.Bits.{bitsOf, zeroBits}
 use Rattle.frames.specs.Refusals.{good}
 use Rattle.files.specs.declared.Setting.{Setting}
 use Rattle.files.specs.Domain.{Domain, expanderAt, phyAt, isTable}
-use Rattle.wiring.specs.PhyCauses.{place}
-use Rattle.tables.specs.Levels.{levels}
-use Rattle.tables.specs.Tables.{table, tables, needed, offset, stretch}
-use Rattle.tables.specs.Entries.{Entries, roomOf, Enough, putBefore}
+use Rattle.wiring.specs.phys.PhyCauses.{place}
+use Rattle.tables.specs.levels.Levels.{levels}
+use Rattle.tables.specs.filling.Tables.{table, tables, needed, offset, stretch}
+use Rattle.tables.specs.filling.Entries.{Entries, roomOf, Enough, putBefore}
 use Rattle.tables.specs.JudgingCall.{judged, tableCall, TablesDone}
-use Rattle.tables.specs.TouchedTables.{touched}
+use Rattle.tables.specs.events.TouchedTables.{touched}
 use Rattle.tables.specs.declared.TablesGiven.{TablesGiven}
 use Rattle.events.specs.declared.Event.{Event}
 use Rattle.events.specs.Calls.{Lab, applied}

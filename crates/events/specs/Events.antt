@@ -1,7 +1,7 @@
 -- Drives plugged and pulled (document 02, paper 9): what an event does to a domain.
 use Rattle.files.specs.declared.Phy.{Phy}
 use Rattle.files.specs.Domain.{Domain, phyAt}
-use Rattle.tables.specs.ReplugCall.{replugged}
+use Rattle.tables.specs.events.ReplugCall.{replugged}
 use Rattle.events.specs.declared.Event.{Event}
 
 -- the phy that an event names

@@ -6,9 +6,9 @@ use lib.ListN.{length, take, set}
 use lib.Dec.{T}
 use Rattle.files.specs.Lists.{keep}
 use Rattle.files.specs.Domain.{Domain, phyAt, isTable, isDirect, toExpander}
-use Rattle.wiring.specs.PhyCauses.{Place}
-use Rattle.tables.specs.Tables.{levelList, tablePlaces, tables, needed, stretch}
-use Rattle.tables.specs.Entries.{Entries}
+use Rattle.wiring.specs.phys.PhyCauses.{Place}
+use Rattle.tables.specs.filling.Tables.{levelList, tablePlaces, tables, needed, stretch}
+use Rattle.tables.specs.filling.Entries.{Entries}
 use Rattle.events.specs.declared.Event.{Event}
 use Rattle.events.specs.Events.{named}
 

@@ -11,9 +11,9 @@ ghost use Rattle.frames.specs.Bytes.{byte};
 ghost use Rattle.frames.specs.Refusals.{good};
 ghost use Rattle.files.specs.File.{domainRead};
 ghost use Rattle.files.specs.Rows.{domainIn};
-ghost use Rattle.wiring.specs.AddressIndex.{IndexRoom};
-ghost use Rattle.wiring.specs.Checks.{FileRoom};
-ghost use Rattle.tables.specs.Entries.{entries, roomOf};
+ghost use Rattle.wiring.specs.index.AddressIndex.{IndexRoom};
+ghost use Rattle.wiring.specs.phys.Checks.{FileRoom};
+ghost use Rattle.tables.specs.filling.Entries.{entries, roomOf};
 ghost use Rattle.events.specs.Calls.{eventCall, EventDone};
 
 // The event call on a file whose domain the rows hold, with room for who has which address. The file is edited last, after every

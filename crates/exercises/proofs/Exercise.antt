@@ -18,23 +18,23 @@ use Rattle.files.specs.Domain.{Domain, expanderAt, phyAt, typeOf, addressOf, at
 use Rattle.files.specs.ReadDomain.{ReadPhy, ReadExpander, Read, Bytes, FitsPhy, FitsExpander, FitsDomain}
 use Rattle.files.specs.File.{domainRead}
 use Rattle.files.specs.Rows.{rowsOf, domainIn}
-use Rattle.wiring.specs.PhyCauses.{Place, place, phyPlaces, placesFrom, farPhy}
-use Rattle.wiring.specs.Graph.{self, ring}
-use Rattle.wiring.specs.Neighbours.{neighbours}
-use Rattle.wiring.specs.Devices.{LoopIn, ChainIn, AttachedTo}
+use Rattle.wiring.specs.phys.PhyCauses.{Place, place, phyPlaces, placesFrom, farPhy}
+use Rattle.wiring.specs.graph.Graph.{self, ring}
+use Rattle.wiring.specs.graph.Neighbours.{neighbours}
+use Rattle.wiring.specs.graph.Devices.{LoopIn, ChainIn, AttachedTo}
 use Rattle.wiring.specs.WiringCauses.{Linked}
 use Rattle.files.proofs.ListMembers.{or-left, or-right, isIn-of, eq→eqb, pigeonhole, getD-in, in-map}
-use Rattle.wiring.proofs.WiredPhys.{Plain, Wired, adj-to, to-adj}
+use Rattle.wiring.proofs.phys.WiredPhys.{Plain, Wired, adj-to, to-adj}
 use Rattle.files.proofs.Domains.{in-range}
 use Rattle.files.proofs.RowsRoundTrip.{domain-back}
 use Rattle.wiring.proofs.WiredAndLinked.{read-expander}
-use Rattle.wiring.proofs.LongChains.{never-long}
-use Rattle.tables.specs.Levels.{down}
-use Rattle.tables.specs.Tables.{word, gives, give, giveAll, levelList, table, tablePlaces, tables}
+use Rattle.wiring.proofs.graph.LongChains.{never-long}
+use Rattle.tables.specs.levels.Levels.{down}
+use Rattle.tables.specs.filling.Tables.{word, gives, give, giveAll, levelList, table, tablePlaces, tables}
 use Rattle.tables.specs.JudgingCall.{judged}
 use Rattle.tables.specs.TableCauses.{Routable}
-use Rattle.tables.proofs.LevelListMembers.{held-self}
-use Rattle.tables.proofs.TableLengths.{table-is}
+use Rattle.tables.proofs.lists.LevelListMembers.{held-self}
+use Rattle.tables.proofs.filling.TableLengths.{table-is}
 use Rattle.tables.proofs.AcceptedDomains.{accepted-iff, judged-file}
 use Rattle.cards.specs.FileOf.{fileOf}
 use Rattle.cards.proofs.Conversions.{file-back}

@@ -16,11 +16,11 @@ use Rattle.files.specs.ReadDomain.{Bytes}
 use Rattle.files.proofs.ListMembers.{T?, is-true, is-false}
 use Rattle.files.proofs.CallResults.{good-one}
 use Rattle.frames.specs.Refusals.{lengthOf, newAfter}
-use Rattle.tables.specs.Tables.{table, tables, needed}
-use Rattle.tables.specs.Entries.{Entries, roomOf, Enough, putBefore}
+use Rattle.tables.specs.filling.Tables.{table, tables, needed}
+use Rattle.tables.specs.filling.Entries.{Entries, roomOf, Enough, putBefore}
 use Rattle.tables.specs.JudgingCall.{judged, tableCall, countsIn, tablesAnswer, tablesAfter, TablesDone}
 use Rattle.tables.specs.declared.TablesGiven.{TablesGiven}
-use Rattle.tables.proofs.TableLengths.{tables-length}
+use Rattle.tables.proofs.filling.TableLengths.{tables-length}
 use Rattle.tables.proofs.AcceptedDomains.{tableCall-iff}
 use Rattle.cards.specs.declared.Made.{Made}
 use Rattle.cards.specs.declared.Made.the-variants.{Bytes as MadeBytes}

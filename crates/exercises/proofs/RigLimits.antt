@@ -14,20 +14,20 @@ use Rattle.files.specs.Lists.{keep, In, isIn}
 use Rattle.files.specs.Settings.{widest}
 use Rattle.files.specs.Domain.{Domain, noExpander, expanderAt, phyAt, addressOf, attachedPhyOf, isTable, isDirect, attached, toExpander, numberOf}
 use Rattle.files.specs.ReadDomain.{Read}
-use Rattle.wiring.specs.PhyCauses.{farPhy}
-use Rattle.wiring.specs.Graph.{self}
+use Rattle.wiring.specs.phys.PhyCauses.{farPhy}
+use Rattle.wiring.specs.graph.Graph.{self}
 use Rattle.wiring.specs.WiringCauses.{Linked}
 use Rattle.files.proofs.ListMembers.{tests, T?, or-cases, is-true, is-false, in-getD, getD-in, of-isIn}
 use Rattle.files.proofs.ReadDomain.{read-good, read-fits}
-use Rattle.wiring.proofs.WiredPhys.{AttachedTo, Wired, far-below, far-is, to-number, to-adj, differ}
+use Rattle.wiring.proofs.phys.WiredPhys.{AttachedTo, Wired, far-below, far-is, to-number, to-adj, differ}
 use Rattle.files.proofs.Domains.{expander-attached, attribute-one, in-range}
 use Rattle.wiring.proofs.WiredAndLinked.{read-expander}
-use Rattle.tables.specs.Levels.{eachOnce, down, downstreamOfPhys, downstream, nextLevel, levelsFrom, levels}
-use Rattle.tables.specs.Tables.{word, addressAt, gives, give, giveAll, levelList, table}
+use Rattle.tables.specs.levels.Levels.{eachOnce, down, downstreamOfPhys, downstream, nextLevel, levelsFrom, levels}
+use Rattle.tables.specs.filling.Tables.{word, addressAt, gives, give, giveAll, levelList, table}
 use Rattle.tables.specs.TableCauses.{Routable}
-use Rattle.tables.proofs.LevelListLaw.{levels-empty}
-use Rattle.tables.proofs.LevelListMembers.{held-self, held-phy, list-beyond}
-use Rattle.tables.proofs.TableLengths.{in-table, table-entry}
+use Rattle.tables.proofs.lists.LevelListLaw.{levels-empty}
+use Rattle.tables.proofs.lists.LevelListMembers.{held-self, held-phy, list-beyond}
+use Rattle.tables.proofs.filling.TableLengths.{in-table, table-entry}
 use Rattle.tables.proofs.AcceptedDomains.{judged-file, judged-wires}
 use Rattle.exercises.specs.Rig.{trimmed, noRig, Kind, Rig}
 use Rattle.exercises.proofs.TrimmedWords.{trimmed-last}

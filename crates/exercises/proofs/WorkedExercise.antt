@@ -9,8 +9,8 @@ use Rattle.wiring.specs.FrameDefinitions.{Result, refused, good, then, refusal}
 use Rattle.files.specs.Settings.{widest}
 use Rattle.frames.specs.Refusals.{lengthOf}
 use Rattle.tables.proofs.WorkedDefinitions.{numberAt, bytesOf, frameSize, generalFixed, generalRead, discoverFixed, discoverRead, numbers, any, keep, isIn, numberOf, sizeAt, phyUnit, phyUnits, expanderUnit, expanders, headerUnit, domainRead, unanswered, endAt, claimed, clash, clashing, fixed, phyPlaces, placesFrom, firstIn, wiredDomain, strip, reach, cabled, neighbours, inRange, chainsWithin, unlong, unlooped, joined, joinedIn, linkedDomain}
-use Rattle.tables.specs.Levels.{eachOnce, downstreamOfPhys, downstream, nextLevel, levelsFrom, levels}
-use Rattle.tables.specs.Tables.{addressAt, gives, give, giveAll, levelList, table, tablePlaces, tables}
+use Rattle.tables.specs.levels.Levels.{eachOnce, downstreamOfPhys, downstream, nextLevel, levelsFrom, levels}
+use Rattle.tables.specs.filling.Tables.{addressAt, gives, give, giveAll, levelList, table, tablePlaces, tables}
 use Rattle.tables.specs.JudgingCall.{overlong, judgedDomain, judged}
 use Rattle.cards.specs.FileOf.{physFrames, unitHead, unitsOf, fileOf}
 use Rattle.exercises.specs.Rig.{trimmed, made, noRig}

@@ -12,7 +12,7 @@ use Rattle.files.specs.Lists.{isIn}
 use Rattle.files.specs.Settings.{widest}
 use Rattle.files.specs.Domain.{Expander, Domain, expanderAt, phyAt, addressOf, isTable, toExpander}
 use Rattle.files.specs.ReadDomain.{Bytes}
-use Rattle.tables.specs.Tables.{table}
+use Rattle.tables.specs.filling.Tables.{table}
 use Rattle.tables.specs.JudgingCall.{judged}
 
 -- the words up to the last non-zero one

@@ -4,8 +4,8 @@ use mathlib.Core.Path.{_≡_}
 use mathlib.Core.List.{List}
 use Rattle.frames.specs.Refusals.{Result, good, then}
 use Rattle.files.specs.Domain.{Domain}
-use Rattle.tables.specs.Entries.{Entries}
-use Rattle.tables.specs.TouchedTables.{Moved, moved}
+use Rattle.tables.specs.filling.Entries.{Entries}
+use Rattle.tables.specs.events.TouchedTables.{Moved, moved}
 use Rattle.events.specs.declared.Event.{Event}
 use Rattle.events.specs.Calls.{fileAfter, entriesAfter}
 use Rattle.exports.specs.Packing.{packed}

@@ -23,10 +23,10 @@ use Rattle.files.proofs.SettingRanges.{range-iff}
 use Rattle.files.proofs.ReadDomain.{read-good, read-fits}
 use Rattle.files.proofs.CallResults.{never, good-one, both, unless-good, then-good}
 use Rattle.files.proofs.ListMembers.{by-test, is-true, in-map}
-use Rattle.wiring.proofs.WiredPhys.{Wired}
+use Rattle.wiring.proofs.phys.WiredPhys.{Wired}
 use Rattle.tables.specs.declared.TablesGiven.{TablesGiven}
-use Rattle.tables.specs.Tables.{tablePlaces, needed}
-use Rattle.tables.specs.Entries.{Entries, roomOf, putBefore}
+use Rattle.tables.specs.filling.Tables.{tablePlaces, needed}
+use Rattle.tables.specs.filling.Entries.{Entries, roomOf, putBefore}
 use Rattle.tables.specs.JudgingCall.{judgedDomain, judged, tablesFor, tableCall, countsIn, tablesAnswer, tablesAfter, TablesDone}
 use Rattle.tables.proofs.AcceptedDomains.{judged-routable, accepted-iff, judged-file}
 use Rattle.tables.proofs.TableRefusals.{Numbered}

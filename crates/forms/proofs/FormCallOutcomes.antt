@@ -21,19 +21,19 @@ use Rattle.files.specs.Settings.{inRange}
 use Rattle.files.specs.Domain.{Expander, Domain, noExpander, expanderAt, phyAt, addressOf, toExpander, numberOf}
 use Rattle.files.specs.File.{ranged, domainRead}
 use Rattle.files.specs.ReadDomain.{Read}
-use Rattle.wiring.specs.AddressIndex.{IndexRoom}
+use Rattle.wiring.specs.index.AddressIndex.{IndexRoom}
 use Rattle.files.proofs.SettingRanges.{range-iff}
 use Rattle.files.proofs.CallResults.{never, both}
 use Rattle.files.proofs.ListMembers.{was-true, getD-in}
-use Rattle.wiring.proofs.WiredPhys.{Wired, far-below}
+use Rattle.wiring.proofs.phys.WiredPhys.{Wired, far-below}
 use Rattle.tables.specs.declared.TablesGiven.{TablesGiven}
 use Rattle.tables.specs.declared.TablesGiven.the-variants.{Refused as NotGiven, Counts}
-use Rattle.tables.specs.Tables.{needed}
-use Rattle.tables.specs.Entries.{Entries, Room, roomOf}
+use Rattle.tables.specs.filling.Tables.{needed}
+use Rattle.tables.specs.filling.Entries.{Entries, Room, roomOf}
 use Rattle.tables.specs.JudgingCall.{judgedDomain, tablesFor, TablesDone}
-use Rattle.tables.specs.PreparedLists.{judgedIn, OwnDone}
+use Rattle.tables.specs.lists.PreparedLists.{judgedIn, OwnDone}
 use Rattle.tables.proofs.AcceptedDomains.{judged-routable, accepted-iff}
-use Rattle.tables.proofs.LevelListsByOwn.{judged-read, read-done}
+use Rattle.tables.proofs.lists.LevelListsByOwn.{judged-read, read-done}
 use Rattle.tables.proofs.TableRefusals.{Numbered, numbered-unless, numbered-then, domain-numbered}
 use Rattle.tracing.specs.declared.TraceAnswer.{TraceAnswer}
 use Rattle.tracing.specs.declared.TraceAnswer.the-variants.{Refused, Ended}
@@ -48,7 +48,7 @@ use Rattle.forms.specs.Form.{formOf, formIn}
 use Rattle.forms.specs.FormCalls.{badPhy, unread, isGood, sameWords, formed, formRead, formFor, formCall, formTables, formTrace, formList}
 use Rattle.forms.specs.Calls.{FormDone}
 use Rattle.forms.specs.FormRows.{rightExpanders, opens, asForm, asTrace, asTables, asList, SmallPhy, FormRoom}
-use Rattle.wiring.specs.AddressIndex.{slotsBefore}
+use Rattle.wiring.specs.index.AddressIndex.{slotsBefore}
 use Rattle.forms.proofs.FormRows.{form-few}
 use Rattle.forms.proofs.BadPlaces.{Late, Early, late-stays, early-one}
 use Rattle.forms.proofs.FormDomains.{form-back, numbers-of, phys-of, unread-read, small-of}

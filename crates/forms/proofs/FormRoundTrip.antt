@@ -18,7 +18,7 @@ use Rattle.files.specs.Domain.{Expander, Domain, noExpander, phyAt, addressOf, 
 use Rattle.files.specs.ReadDomain.{ReadPhy, Read, FitsPhy, FitsDomain}
 use Rattle.files.proofs.ListMembers.{getD-in}
 use Rattle.files.proofs.RowsRoundTrip.{low}
-use Rattle.wiring.proofs.WiredPhys.{Wired, far-below}
+use Rattle.wiring.proofs.phys.WiredPhys.{Wired, far-below}
 use Rattle.forms.specs.Form.{headField, phyField, attachedNumber, formPhy, formPhys, formExpanders, formOf, phyBack, physBack, countIn, expanderBack, expandersBack, formIn}
 use Rattle.forms.specs.NormalDomain.{normalPhy, normalExpander, normalWith, normal}
 use Rattle.forms.proofs.FormRows.{back-empty, back-present}

@@ -15,12 +15,12 @@ use Rattle.files.specs.declared.Phy.the-variants.{Vacant, Present}
 use Rattle.files.specs.declared.PhyFields.{PhyFields}
 use Rattle.files.specs.Domain.{Domain, noExpander, expanderAt, phyAt, addressOf, toExpander, numberOf}
 use Rattle.files.specs.Rows.{domainIn}
-use Rattle.wiring.specs.AddressIndex.{attachedExpander, IndexedFirst}
+use Rattle.wiring.specs.index.AddressIndex.{attachedExpander, IndexedFirst}
 use Rattle.files.proofs.RowsAsDomain.{domain-few}
-use Rattle.wiring.proofs.IndexEntries.{far-in}
-use Rattle.wiring.proofs.ExpanderNumbers.{number-most}
+use Rattle.wiring.proofs.index.IndexEntries.{far-in}
+use Rattle.wiring.proofs.index.ExpanderNumbers.{number-most}
 use Rattle.forms.specs.Form.{headField, phyField, formPhy, formPhys, formExpanders, formOf}
-use Rattle.tables.proofs.BitsReplaced.{sets-front}
+use Rattle.tables.proofs.events.BitsReplaced.{sets-front}
 
 -- a phy's second word
 module _ (d : Domain) (φ : Phy) where

@@ -11,16 +11,16 @@ use Rattle.files.specs.declared.Phy.{Phy}
 use Rattle.files.specs.declared.Phy.the-variants.{Vacant, Present}
 use Rattle.files.specs.Lists.{any, keep, isIn}
 use Rattle.files.specs.Domain.{Expander, Domain, expanderAt, phyAt, typeOf, addressOf, attachedPhyOf, attributeOf, hasAttribute, isTable, isDirect, toEnd, toExpander, bears, numberOf}
-use Rattle.wiring.specs.PhyCauses.{Place, places, placesFrom, farPhy, names, unanswered, endAt, claimed, clash, clashing, fixed}
-use Rattle.wiring.specs.Neighbours.{cabled, neighbours}
-use Rattle.wiring.specs.Graph.{Chain, Loop}
-use Rattle.wiring.specs.Devices.{LoopIn, ChainIn}
+use Rattle.wiring.specs.phys.PhyCauses.{Place, places, placesFrom, farPhy, names, unanswered, endAt, claimed, clash, clashing, fixed}
+use Rattle.wiring.specs.graph.Neighbours.{cabled, neighbours}
+use Rattle.wiring.specs.graph.Graph.{Chain, Loop}
+use Rattle.wiring.specs.graph.Devices.{LoopIn, ChainIn}
 use Rattle.wiring.specs.WiringCauses.{Passed}
 use Rattle.files.proofs.ListMembers.{keep-same, and-left, and-right}
 use Rattle.files.proofs.Domains.{attribute-range, expander-range}
 use Rattle.wiring.proofs.WiredAndLinked.{passed-iff}
-use Rattle.tables.specs.Levels.{eachOnce, down, downstreamOfPhys, downstream, nextLevel, levelsFrom, levels}
-use Rattle.tables.specs.Tables.{word, addressAt, gives, give, giveAll, levelList, table, tablePlaces, tables, size, sizes, needed, offsetIn, stretch}
+use Rattle.tables.specs.levels.Levels.{eachOnce, down, downstreamOfPhys, downstream, nextLevel, levelsFrom, levels}
+use Rattle.tables.specs.filling.Tables.{word, addressAt, gives, give, giveAll, levelList, table, tablePlaces, tables, size, sizes, needed, offsetIn, stretch}
 use Rattle.tables.specs.JudgingCall.{judgedDomain}
 use Rattle.tables.specs.TableCauses.{Routable}
 use Rattle.tables.proofs.AcceptedDomains.{judged-routable, routable-iff}

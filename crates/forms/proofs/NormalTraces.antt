@@ -9,8 +9,8 @@ use Rattle.frames.specs.Refusals.{Result, good, unless, then, refusal}
 use Rattle.frames.specs.Bits.{bytesFor}
 use Rattle.files.specs.Lists.{upTo}
 use Rattle.files.specs.Domain.{Domain, expanderAt, phyAt, addressOf, attachedPhyOf, toEnd, numberOf}
-use Rattle.tables.specs.Tables.{needed}
-use Rattle.tables.specs.Entries.{Entries, roomOf, counted}
+use Rattle.tables.specs.filling.Tables.{needed}
+use Rattle.tables.specs.filling.Entries.{Entries, roomOf, counted}
 use Rattle.tracing.specs.Steps.{Step, here, endDevice, bad, lost, onward, Pick, at, nowhere, pick, phyNumbers, cameFrom, moveBy, subtractively, byTable, directly, bearing, listing, subtracting, step}
 use Rattle.tracing.specs.Trace.{Request, request, Traced, after, afterStep, traceFrom, traced, allowed, requested, tracedRequest}
 use Rattle.tracing.specs.RequestLists.{answersOf}

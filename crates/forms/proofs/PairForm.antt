@@ -6,8 +6,8 @@ use mathlib.Core.List.{List, [], _∷_, _++_, flatMap}
 use lib.ListN.{take, set}
 use Rattle.files.specs.Settings.{widest}
 use Rattle.tables.proofs.WorkedDefinitions.{numbers, any, keep, isIn, numberOf, unanswered, endAt, claimed, clash, clashing, fixed, phyPlaces, placesFrom, firstIn, wiredDomain, strip, reach, cabled, neighbours, chainsWithin, unlong, unlooped, joined, joinedIn, linkedDomain}
-use Rattle.tables.specs.Levels.{eachOnce, downstreamOfPhys, downstream, nextLevel, levelsFrom, levels}
-use Rattle.tables.specs.Tables.{addressAt, gives, give, giveAll, levelList}
+use Rattle.tables.specs.levels.Levels.{eachOnce, downstreamOfPhys, downstream, nextLevel, levelsFrom, levels}
+use Rattle.tables.specs.filling.Tables.{addressAt, gives, give, giveAll, levelList}
 use Rattle.tables.specs.JudgingCall.{overlong, judgedDomain}
 use Rattle.tracing.proofs.PairRig.{at, rig}
 use Rattle.forms.specs.Form.{formExpanders, formOf, physBack, expanderBack, expandersBack, formIn}

@@ -11,7 +11,7 @@ use Rattle.files.specs.Settings.{inRange}
 use Rattle.files.specs.Domain.{Domain}
 use Rattle.files.proofs.ListMembers.{by-test}
 use Rattle.tables.specs.declared.TablesGiven.{TablesGiven}
-use Rattle.tables.specs.Entries.{Entries, Room}
+use Rattle.tables.specs.filling.Entries.{Entries, Room}
 use Rattle.tables.specs.JudgingCall.{judgedDomain, tablesFor, TablesDone}
 use Rattle.tracing.specs.declared.TraceAnswer.{TraceAnswer}
 use Rattle.tracing.specs.declared.ListAnswer.{ListAnswer}

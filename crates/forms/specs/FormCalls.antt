@@ -14,7 +14,7 @@ use Rattle.files.specs.Settings.{within, inRange}
 use Rattle.files.specs.Domain.{Domain, expanderAt, numberOf}
 use Rattle.files.specs.File.{ranged}
 use Rattle.files.specs.ReadDomain.{Read, FitsDomain}
-use Rattle.tables.specs.Entries.{Entries, Room}
+use Rattle.tables.specs.filling.Entries.{Entries, Room}
 use Rattle.tables.specs.JudgingCall.{judgedDomain, judged, tablesFor}
 use Rattle.tracing.specs.Trace.{Request, Traced, tracedRequest}
 use Rattle.tracing.specs.RequestLists.{listFor}

@@ -13,7 +13,7 @@ use Rattle.files.specs.declared.Phy.the-variants.{Vacant, Present}
 use Rattle.files.specs.declared.PhyFields.{PhyFields}
 use Rattle.files.specs.Domain.{Expander, Domain, addressOf, expanderAt}
 use Rattle.files.specs.Rows.{rowIn, domainIn, rowWords}
-use Rattle.wiring.specs.AddressIndex.{IndexRoom}
+use Rattle.wiring.specs.index.AddressIndex.{IndexRoom}
 use Rattle.tables.specs.declared.TablesGiven.{TablesGiven}
 use Rattle.tables.specs.declared.TablesGiven.the-variants.{Refused as NotGiven, Counts}
 use Rattle.tracing.specs.declared.TraceAnswer.{TraceAnswer}

@@ -6,7 +6,7 @@ use wiring::Setting;
 ghost use Prim.Native.Nat.{_≤_};
 ghost use mathlib.Core.Path.{_≡_};
 ghost use lib.ListN.{length};
-ghost use Rattle.tables.specs.Entries.{entries, roomOf};
+ghost use Rattle.tables.specs.filling.Entries.{entries, roomOf};
 ghost use Rattle.tracing.specs.RequestLists.{requestCount, ListTraced};
 ghost use Rattle.forms.specs.Form.{formIn};
 ghost use Rattle.forms.specs.FormCalls.{formList};

@@ -9,8 +9,8 @@ ghost use lib.ListN.{length};
 ghost use Rattle.frames.specs.Bytes.{byte};
 ghost use Rattle.frames.specs.Refusals.{then};
 ghost use Rattle.files.specs.Rows.{domainIn};
-ghost use Rattle.wiring.specs.Checks.{FileRoom};
-ghost use Rattle.tables.specs.PreparedLists.{judgedIn};
+ghost use Rattle.wiring.specs.phys.Checks.{FileRoom};
+ghost use Rattle.tables.specs.lists.PreparedLists.{judgedIn};
 ghost use Rattle.forms.specs.FormCalls.{formFor, formCall};
 ghost use Rattle.forms.specs.Calls.{FormDone};
 

@@ -8,7 +8,7 @@ use wiring::Setting;
 ghost use Prim.Native.Nat.{_≤_};
 ghost use mathlib.Core.Path.{_≡_};
 ghost use lib.ListN.{length};
-ghost use Rattle.tables.specs.Entries.{entries};
+ghost use Rattle.tables.specs.filling.Entries.{entries};
 ghost use Rattle.tracing.specs.Trace.{request, TraceDone};
 ghost use Rattle.forms.specs.Form.{formIn};
 ghost use Rattle.forms.specs.FormCalls.{formTrace};

@@ -9,7 +9,7 @@ ghost use lib.ListN.{length, drop};
 ghost use lib.Seq.{sets};
 ghost use Rattle.files.specs.Domain.{expanderAt, phyAt};
 ghost use Rattle.files.specs.Rows.{domainIn};
-ghost use Rattle.wiring.specs.AddressIndex.{IndexedFirst};
+ghost use Rattle.wiring.specs.index.AddressIndex.{IndexedFirst};
 ghost use Rattle.forms.specs.Form.{headField, phyField, formPhy, formPhys, formOf};
 
 // The second word of a phy that is not vacant.

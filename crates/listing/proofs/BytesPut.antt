@@ -7,8 +7,8 @@ use native.Mathlib.Numerals.{add-one}
 use lib.ListN.{length, set, length-append, length-set}
 use lib.Seq.{length-take-le, set-split}
 use Rattle.io.specs.Counts.{Counts}
-use Rattle.tables.specs.GrowingLists.{overlay, WordsPut}
-use Rattle.tables.proofs.TablesPut.{overlay-none, overlay-next}
+use Rattle.tables.specs.lists.GrowingLists.{overlay, WordsPut}
+use Rattle.tables.proofs.filling.TablesPut.{overlay-none, overlay-next}
 
 -- one element, and the same by an equation
 pub put-one : (ws : List ℕ) (at v : ℕ) → at < length ws → WordsPut ws (set ws at v) at (at + 1) (v ∷ [])

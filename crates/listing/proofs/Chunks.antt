@@ -11,7 +11,7 @@ use lib.Seq.{drop-drop}
 use lib.Dec.{leb}
 use borrow.Author.Tests.{le-leb, lt-leb}
 use Rattle.tables.specs.WiringDefinitions.{Domain}
-use Rattle.tables.specs.GrowingLists.{WordsPut}
+use Rattle.tables.specs.lists.GrowingLists.{WordsPut}
 use Rattle.listing.specs.declared.Cursor.{Cursor}
 use Rattle.listing.specs.Text.{lineOf}
 use Rattle.listing.specs.Lines.{Entry, wordLines, textOf, fitting, entriesFrom, linesFrom, cursorAt, cursorAfter, chunkFrom, chunksFrom, ChunkPut}

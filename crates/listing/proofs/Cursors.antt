@@ -11,8 +11,8 @@ use lib.ListN.{length, drop, List·getD-eq-default}
 use lib.Dec.{ltb}
 use borrow.Author.Tests.{ltb-false}
 use Rattle.tables.specs.WiringDefinitions.{Phy, Vacant, Domain, Expander, noExpander, expanderAt, isTable, Place, place, phyPlaces, placesFrom}
-use Rattle.tables.specs.Tables.{size}
-use Rattle.tables.proofs.TablesPut.{phys-next, phys-last, from-next, from-last, size-by}
+use Rattle.tables.specs.filling.Tables.{size}
+use Rattle.tables.proofs.filling.TablesPut.{phys-next, phys-last, from-next, from-last, size-by}
 use Rattle.listing.specs.declared.Cursor.{Cursor}
 use Rattle.listing.specs.Lines.{Entry, entry, tableEntries, placeEntries, placesAfter, entriesOn, entriesFrom, cursor, nextPlace, cursorAt, cursorAfter}
 

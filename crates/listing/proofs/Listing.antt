@@ -7,15 +7,15 @@ use native.Mathlib.Omega.{arith}
 use lib.ListN.{length, getD, take, drop, length-append}
 use Rattle.tables.specs.WiringDefinitions.{Result, good, then, Expanders, keep, Domain, expanderAt, phyAt, isTable, Place, places, domainIn, RowsRead, Setting, IndexRoom}
 use Rattle.tables.proofs.WiringLemmas.{good-one, then-good, read-good, opened}
-use Rattle.tables.specs.Tables.{table, tablePlaces, tables, size, needed}
-use Rattle.tables.specs.GrowingLists.{withTables}
-use Rattle.tables.specs.Entries.{Entries, roomOf}
+use Rattle.tables.specs.filling.Tables.{table, tablePlaces, tables, size, needed}
+use Rattle.tables.specs.lists.GrowingLists.{withTables}
+use Rattle.tables.specs.filling.Entries.{Entries, roomOf}
 use Rattle.tables.specs.JudgingCall.{judged, tablesFor, tableCall, Counted, countsIn, tablesAfter}
-use Rattle.tables.specs.PreparedLists.{judgedIn, OwnDone}
+use Rattle.tables.specs.lists.PreparedLists.{judgedIn, OwnDone}
 use Rattle.tables.specs.declared.TablesGiven.the-variants.{Counts}
-use Rattle.tables.proofs.TableLengths.{table-length, tables-length}
+use Rattle.tables.proofs.filling.TableLengths.{table-length, tables-length}
 use Rattle.tables.proofs.AcceptedDomains.{judged-file, tableCall-iff}
-use Rattle.tables.proofs.LevelListsByOwn.{judged-own, call-done}
+use Rattle.tables.proofs.lists.LevelListsByOwn.{judged-own, call-done}
 use Rattle.listing.specs.Text.{lineOf, totalsOf}
 use Rattle.listing.specs.Lines.{Entry, tableEntries, placeEntries, wordLines, linesFrom, cursor, tableLines, textOf, chunksFrom, entryLines, listingOf}
 use Rattle.listing.proofs.Chunks.{all-chunks}

@@ -7,8 +7,8 @@ use lib.ListN.{length, drop}
 use lib.Dec.{leb, ltb}
 use Rattle.io.specs.Counts.{Counts}
 use Rattle.tables.specs.WiringDefinitions.{Domain, expanderAt, Place, place, phyPlaces, placesFrom}
-use Rattle.tables.specs.Tables.{table, tablePlaces, size, needed}
-use Rattle.tables.specs.GrowingLists.{WordsPut}
+use Rattle.tables.specs.filling.Tables.{table, tablePlaces, size, needed}
+use Rattle.tables.specs.lists.GrowingLists.{WordsPut}
 use Rattle.listing.specs.declared.Cursor.{Cursor}
 use Rattle.listing.specs.Text.{lineOf, totalsOf}
 

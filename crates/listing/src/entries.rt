@@ -7,7 +7,7 @@ ghost use mathlib.Core.Path.{_≡_};
 ghost use Prim.Native.Nat.{_+_, _<_, _^_};
 ghost use lib.ListN.{length};
 ghost use Rattle.tables.specs.WiringDefinitions.{place, domainIn};
-ghost use Rattle.tables.specs.Tables.{size};
+ghost use Rattle.tables.specs.filling.Tables.{size};
 ghost use Rattle.listing.specs.Lines.{cursor, nextPlace};
 
 // How many entries the phy of a cursor has: none where it is no table phy.

@@ -10,7 +10,7 @@ ghost use mathlib.Core.Path.{_≡_};
 ghost use Prim.Native.Nat.{_+_, _≤_};
 ghost use lib.ListN.{length};
 ghost use Rattle.tables.specs.WiringDefinitions.{domainIn};
-ghost use Rattle.tables.specs.GrowingLists.{WordsPut};
+ghost use Rattle.tables.specs.lists.GrowingLists.{WordsPut};
 ghost use Rattle.listing.specs.Text.{lineOf};
 ghost use Rattle.listing.specs.Lines.{cursor, ChunkPut};
 

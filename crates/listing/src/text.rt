@@ -7,7 +7,7 @@ ghost use mathlib.Core.List.{[], _∷_};
 ghost use Prim.Native.Nat.{_+_, _≤_, _<_};
 ghost use lib.ListN.{length};
 ghost use Rattle.io.specs.Counts.{Counts};
-ghost use Rattle.tables.specs.GrowingLists.{WordsPut};
+ghost use Rattle.tables.specs.lists.GrowingLists.{WordsPut};
 ghost use Rattle.listing.specs.Text.{decimalOf, hexOf, fieldOf, entryOf, lineOf, refusedOf, totalsOf, tooLong};
 
 // One byte.

@@ -13,11 +13,11 @@ use Rattle.frames.specs.ConfigureRoute.{isLength}
 use Rattle.files.specs.Domain.{Domain, expanderAt, phyAt, isTable}
 use Rattle.files.specs.declared.Setting.{Setting}
 use Rattle.files.specs.File.{domainRead}
-use Rattle.tables.specs.Entries.{Entries, roomOf}
-use Rattle.tables.specs.Tables.{levelList, offset}
+use Rattle.tables.specs.filling.Entries.{Entries, roomOf}
+use Rattle.tables.specs.filling.Tables.{levelList, offset}
 use Rattle.tables.specs.JudgingCall.{tableCall, TablesDone, IndexForIndex}
 use Rattle.tables.specs.declared.TablesGiven.the-variants.{Counts}
-use Rattle.tables.proofs.TableStretches.{index-for-index-file}
+use Rattle.tables.proofs.filling.TableStretches.{index-for-index-file}
 use Rattle.shelves.specs.PlainTable.{empty}
 use Rattle.shelves.specs.Shelf.{kindIn, made, Done}
 use Rattle.shelves.specs.Calls.{Call, Sent, framesIn, answersIn, left, HoldsTable}

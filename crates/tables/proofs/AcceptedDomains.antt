@@ -12,16 +12,16 @@ use Rattle.files.specs.declared.Setting.{Setting}
 use Rattle.files.specs.Domain.{Domain, expanderAt}
 use Rattle.files.specs.ReadDomain.{Read}
 use Rattle.files.specs.File.{domainRead}
-use Rattle.wiring.specs.PhyCauses.{wiredDomain}
-use Rattle.wiring.specs.LinkCauses.{linkedDomain}
+use Rattle.wiring.specs.phys.PhyCauses.{wiredDomain}
+use Rattle.wiring.specs.graph.LinkCauses.{linkedDomain}
 use Rattle.files.proofs.ListMembers.{tests}
-use Rattle.wiring.proofs.WiredPhys.{Wired}
+use Rattle.wiring.proofs.phys.WiredPhys.{Wired}
 use Rattle.files.proofs.Domains.{attribute-range}
 use Rattle.files.proofs.CallResults.{good-one, unless-good, good-unless, then-good, good-then, then-same}
 use Rattle.files.proofs.ReadDomain.{read-good}
 use Rattle.wiring.proofs.WiredAndLinked.{firstOf-good, good-firstOf, wired-same, wired-iff, linked-iff, linked-same}
-use Rattle.tables.specs.Tables.{levelList, needed}
-use Rattle.tables.specs.Entries.{Room, Enough}
+use Rattle.tables.specs.filling.Tables.{levelList, needed}
+use Rattle.tables.specs.filling.Entries.{Room, Enough}
 use Rattle.tables.specs.JudgingCall.{overlong, judgedDomain, judged, tablesFor, judgedTables, tableCall}
 use Rattle.tables.specs.TableCauses.{Routable}
 

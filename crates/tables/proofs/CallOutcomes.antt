@@ -13,20 +13,20 @@ use Rattle.wiring.specs.FrameDefinitions.{bytesFor, marked, Refusal, Result, re
 use Rattle.files.specs.Domain.{Domain, expanderAt}
 use Rattle.files.specs.declared.Setting.{Setting}
 use Rattle.files.specs.File.{domainRead}
-use Rattle.wiring.specs.PhyCauses.{places, firstOf, wiredDomain}
-use Rattle.wiring.specs.LinkCauses.{linkedDomain, checkedDomain}
-use Rattle.wiring.specs.Checks.{checkedIn}
-use Rattle.wiring.specs.AddressIndex.{IndexRoom}
+use Rattle.wiring.specs.phys.PhyCauses.{places, firstOf, wiredDomain}
+use Rattle.wiring.specs.graph.LinkCauses.{linkedDomain, checkedDomain}
+use Rattle.wiring.specs.phys.Checks.{checkedIn}
+use Rattle.wiring.specs.index.AddressIndex.{IndexRoom}
 use Rattle.files.proofs.ListMembers.{tests}
 use Rattle.files.proofs.CallResults.{then-good}
 use Rattle.files.proofs.Domains.{attribute-range}
 use Rattle.wiring.proofs.WiredAndLinked.{firstOf-good, good-firstOf}
 use Rattle.wiring.proofs.CheckOutcomes.{room-checked}
-use Rattle.tables.specs.Tables.{tablePlaces, needed}
-use Rattle.tables.specs.Entries.{Entries, entries, Room, roomOf, Enough}
-use Rattle.tables.specs.PreparedLists.{ownWordsOfOrder, ownOverlong, judgedIn, ownTables, OwnDone, Fillable}
+use Rattle.tables.specs.filling.Tables.{tablePlaces, needed}
+use Rattle.tables.specs.filling.Entries.{Entries, entries, Room, roomOf, Enough}
+use Rattle.tables.specs.lists.PreparedLists.{ownWordsOfOrder, ownOverlong, judgedIn, ownTables, OwnDone, Fillable}
 use Rattle.tables.specs.JudgingCall.{overlong, judgedDomain, judged, expandersIn, tablesFor, tableCall, TablesDone}
-use Rattle.tables.proofs.TablesPut.{length-tables}
+use Rattle.tables.proofs.filling.TablesPut.{length-tables}
 use Rattle.tables.specs.declared.TablesGiven.{TablesGiven}
 use Rattle.tables.specs.declared.TablesGiven.the-variants.{Refused, Counts}
 

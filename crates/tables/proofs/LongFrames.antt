@@ -3,7 +3,7 @@ use Prim.Native.Nat.{ℕ}
 use mathlib.Core.Path.{_≡_}
 use mathlib.Core.List.{List}
 use Rattle.tables.specs.WiringDefinitions.{Setting, shortFile}
-use Rattle.tables.specs.Entries.{Room}
+use Rattle.tables.specs.filling.Entries.{Room}
 use Rattle.tables.specs.JudgingCall.{judged, tableCall}
 use Rattle.tables.proofs.WiringLemmas.{short-file}
 

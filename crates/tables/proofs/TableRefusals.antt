@@ -12,18 +12,18 @@ use Rattle.files.specs.Lists.{upTo}
 use Rattle.files.specs.Domain.{Domain}
 use Rattle.files.specs.declared.Setting.{Setting}
 use Rattle.files.specs.File.{domainRead}
-use Rattle.wiring.specs.PhyCauses.{wiredDomain}
-use Rattle.wiring.specs.Graph.{loopfree}
-use Rattle.wiring.specs.Neighbours.{neighbours}
-use Rattle.wiring.specs.LongChains.{chainsWithin, unlong}
-use Rattle.wiring.specs.LinkCauses.{unlooped, joined, joinedIn, linkedDomain}
+use Rattle.wiring.specs.phys.PhyCauses.{wiredDomain}
+use Rattle.wiring.specs.graph.Graph.{loopfree}
+use Rattle.wiring.specs.graph.Neighbours.{neighbours}
+use Rattle.wiring.specs.graph.LongChains.{chainsWithin, unlong}
+use Rattle.wiring.specs.graph.LinkCauses.{unlooped, joined, joinedIn, linkedDomain}
 use Rattle.files.proofs.CallResults.{never, then-good, good-then}
 use Rattle.wiring.proofs.WiredAndLinked.{passed-iff}
 use Rattle.files.proofs.ReadDomain.{read-good, read-numbered}
 pub use Rattle.wiring.proofs.WiringRefusals.{Numbered, numbered-unless, numbered-then, exactly}
 use Rattle.wiring.proofs.WiringRefusals.{first-numbered, wired-numbered}
-use Rattle.tables.specs.Tables.{tablePlaces, tables, needed}
-use Rattle.tables.specs.Entries.{Entries, Room, roomOf, Enough, putBefore}
+use Rattle.tables.specs.filling.Tables.{tablePlaces, tables, needed}
+use Rattle.tables.specs.filling.Entries.{Entries, Room, roomOf, Enough, putBefore}
 use Rattle.tables.specs.JudgingCall.{overlong, judgedDomain, judged, judgeAnswer, expandersIn, tablesFor, judgedTables, tableCall, Counted, countsIn, tablesAnswer, tablesAfter, TablesDone}
 use Rattle.tables.specs.TableCauses.{Routable, NoJudgingCause, NoTableCause, judgingNumber, tableNumber}
 use Rattle.tables.specs.declared.Judgement.{Judgement}

@@ -3,16 +3,16 @@ pub use Rattle.files.proofs.ListMembers.{tests, or-cases, or-left, or-right, is
 pub use Rattle.wiring.proofs.FrameLemmas.{length-bitsOf, marked-room}
 pub use Rattle.wiring.proofs.FrameLemmas.{Bits, length-packedIn, bit-packed, bits-bitsOf}
 pub use Rattle.files.proofs.ListMembers.{take-in}
-pub use Rattle.wiring.proofs.GraphWalks.{Skip, NoBack, repeats-nothing, same-rest, same-chain, rest-of}
-pub use Rattle.wiring.proofs.ReachedByChain.{Joined}
-pub use Rattle.wiring.proofs.LongChains.{all-joined}
-pub use Rattle.wiring.proofs.WiredPhys.{ChainTail, Wired, one-step}
+pub use Rattle.wiring.proofs.graph.GraphWalks.{Skip, NoBack, repeats-nothing, same-rest, same-chain, rest-of}
+pub use Rattle.wiring.proofs.graph.ReachedByChain.{Joined}
+pub use Rattle.wiring.proofs.graph.LongChains.{all-joined}
+pub use Rattle.wiring.proofs.phys.WiredPhys.{ChainTail, Wired, one-step}
 pub use Rattle.files.proofs.Domains.{end-attached, expander-attached, attached-cases, in-range}
-pub use Rattle.wiring.proofs.WiredPhys.{differ, far-below, far-is, to-adj, adj-symmetric}
+pub use Rattle.wiring.proofs.phys.WiredPhys.{differ, far-below, far-is, to-adj, adj-symmetric}
 pub use Rattle.files.proofs.CallResults.{good-one, unless-good, good-unless, then-good, good-then}
 pub use Rattle.files.proofs.ReadDomain.{read-good, stated-expanders}
 pub use Rattle.wiring.proofs.WiredAndLinked.{wired-iff, wired-file}
-pub use Rattle.wiring.proofs.IndexEntries.{far-in}
+pub use Rattle.wiring.proofs.index.IndexEntries.{far-in}
 pub use Rattle.wiring.proofs.FileRows.{file-room, opened, opened-as, opened-fits}
 pub use Rattle.files.proofs.PastLimits.{header-cut}
 pub use Rattle.files.proofs.RowsAsDomain.{domain-few}

@@ -9,10 +9,10 @@ use Rattle.wiring.specs.FrameDefinitions.{bitsOf, bytesFor, zeroBit, Result, re
 use Rattle.files.specs.Domain.{Domain, expanderAt, phyAt, isTable}
 use Rattle.files.specs.declared.Setting.{Setting}
 use Rattle.files.specs.File.{domainRead}
-use Rattle.wiring.specs.PhyCauses.{firstOf, wiredDomain}
-use Rattle.wiring.specs.LinkCauses.{linkedDomain}
-use Rattle.tables.specs.Tables.{levelList, tablePlaces, tables, needed, offset}
-use Rattle.tables.specs.Entries.{Entries, Room, roomOf, Enough, putBefore}
+use Rattle.wiring.specs.phys.PhyCauses.{firstOf, wiredDomain}
+use Rattle.wiring.specs.graph.LinkCauses.{linkedDomain}
+use Rattle.tables.specs.filling.Tables.{levelList, tablePlaces, tables, needed, offset}
+use Rattle.tables.specs.filling.Entries.{Entries, Room, roomOf, Enough, putBefore}
 use Rattle.tables.specs.declared.Judgement.{Judgement}
 use Rattle.tables.specs.declared.Judgement.the-variants.{Refused, Expanders}
 use Rattle.tables.specs.declared.TablesGiven.{TablesGiven}

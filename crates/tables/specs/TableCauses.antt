@@ -10,10 +10,10 @@ use Rattle.files.specs.declared.Setting.{Setting}
 use Rattle.files.specs.Domain.{Domain, expanderAt, phyAt, isTable}
 use Rattle.files.specs.Settings.{InRange}
 use Rattle.files.specs.File.{domainRead}
-use Rattle.wiring.specs.LongChains.{ShortChains}
+use Rattle.wiring.specs.graph.LongChains.{ShortChains}
 use Rattle.wiring.specs.WiringCauses.{Passed, Linked}
-use Rattle.tables.specs.Tables.{levelList, needed}
-use Rattle.tables.specs.Entries.{Room, Enough}
+use Rattle.tables.specs.filling.Tables.{levelList, needed}
+use Rattle.tables.specs.filling.Entries.{Room, Enough}
 
 -- none of causes 11, 12, 23 and 14 holds, where a chain may have so many expanders: tables can be given
 pub record Routable (chain : ℕ) (d : Domain) : Type 0 where

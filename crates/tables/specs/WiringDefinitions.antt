@@ -20,10 +20,10 @@ pub use Rattle.files.specs.File.{domainRead}
 pub use Rattle.files.specs.ReadDomain.{Read}
 pub use Rattle.files.specs.ShortFile.{shortFile}
 pub use Rattle.files.specs.Rows.{domainIn, RowsRead}
-pub use Rattle.wiring.specs.PhyCauses.{Place, place, places, wiredDomain, wired}
-unfoldable pub use Rattle.wiring.specs.PhyCauses.{phyPlaces, placesFrom}
-pub use Rattle.wiring.specs.Checks.{checkAnswer, FileRoom}
-pub use Rattle.wiring.specs.AddressIndex.{IndexedFirst, IndexRoom}
-pub use Rattle.wiring.specs.Graph.{Steps, self}
-pub use Rattle.wiring.specs.Neighbours.{neighbours, wiringCall, wiringAnswer, bitsSet}
-pub use Rattle.wiring.specs.Devices.{LoopIn, ChainIn, TableToTable, Clear, ClearChain, NoTableToTable, Home, Borne}
+pub use Rattle.wiring.specs.phys.PhyCauses.{Place, place, places, wiredDomain, wired}
+unfoldable pub use Rattle.wiring.specs.phys.PhyCauses.{phyPlaces, placesFrom}
+pub use Rattle.wiring.specs.phys.Checks.{checkAnswer, FileRoom}
+pub use Rattle.wiring.specs.index.AddressIndex.{IndexedFirst, IndexRoom}
+pub use Rattle.wiring.specs.graph.Graph.{Steps, self}
+pub use Rattle.wiring.specs.graph.Neighbours.{neighbours, wiringCall, wiringAnswer, bitsSet}
+pub use Rattle.wiring.specs.graph.Devices.{LoopIn, ChainIn, TableToTable, Clear, ClearChain, NoTableToTable, Home, Borne}

@@ -1,22 +1,22 @@
 // The judging call and the table call.
 use crate::Judgement;
 use crate::TablesGiven;
-use crate::all_tables;
-use crate::overlong;
+use crate::filling::all_tables;
+use crate::lists::overlong;
 use wiring::Check;
 use wiring::DomainRead;
 use wiring::Setting;
-ghost use Rattle.tables.specs.Entries.{entries, roomOf};
+ghost use Rattle.tables.specs.filling.Entries.{entries, roomOf};
 ghost use mathlib.Core.Path.{_≡_};
 ghost use Prim.Native.Nat.{_≤_};
 ghost use lib.ListN.{length};
 ghost use Rattle.wiring.specs.FrameDefinitions.{byte, then, refusal};
 ghost use Rattle.files.specs.Rows.{domainIn};
-ghost use Rattle.wiring.specs.Checks.{checkAnswer, FileRoom};
-ghost use Rattle.wiring.specs.AddressIndex.{IndexLeft};
+ghost use Rattle.wiring.specs.phys.Checks.{checkAnswer, FileRoom};
+ghost use Rattle.wiring.specs.index.AddressIndex.{IndexLeft};
 ghost use Rattle.tables.specs.JudgingCall.{judged, judgeAnswer, expandersIn, tablesFor, tableCall, TablesDone};
 ghost use Rattle.tables.specs.declared.TablesGiven.the-variants.{Refused as NotGiven};
-ghost use Rattle.tables.specs.PreparedLists.{judgedIn, OwnDone};
+ghost use Rattle.tables.specs.lists.PreparedLists.{judgedIn, OwnDone};
 
 // Causes 7 to 12, 23 and 14 in order, 14 by own lists: on a domain that was read from a file, `judgedDomain`. A chain
 // may have `chain` expanders. `first` and `low` have room for who has which address, and hold it whatever it

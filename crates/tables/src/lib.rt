@@ -1,30 +1,23 @@
 // Level lists, routing tables, the judging call and the table call.
-mod all_tables;
 mod calls;
-mod downstream;
-mod order;
-mod overlong;
-mod own_lists;
-mod refilling;
-mod replugging;
-mod retesting;
+pub mod events;
+pub mod filling;
+pub mod levels;
+pub mod lists;
 mod surveys;
-mod table_filling;
-mod wide_links;
-mod word_places;
 
-pub use all_tables::needed_words;
-pub use all_tables::table_count;
-pub use all_tables::words_before;
 pub use calls::give_rows;
 pub use calls::give_tables;
 pub use calls::judge;
 pub use calls::judge_rows;
-pub use own_lists::phy_bears;
-pub use replugging::replug_rows;
+pub use events::replugging::replug_rows;
+pub use filling::all_tables::needed_words;
+pub use filling::all_tables::table_count;
+pub use filling::all_tables::words_before;
+pub use filling::word_places::size_at;
+pub use lists::own_lists::phy_bears;
 pub use surveys::needed;
 pub use surveys::word_place;
-pub use word_places::size_at;
 
 // What the layers above use of the layers below.
 pub use wiring::Check;

@@ -1,9 +1,9 @@
 // What the tables of an accepted file are, without writing them: how many tables and words, and where a word belongs.
 use crate::TablesGiven;
 use crate::WordPlace;
-use crate::all_tables;
 use crate::calls::judge_rows;
-use crate::word_places;
+use crate::filling::all_tables;
+use crate::filling::word_places;
 use wiring::Check;
 use wiring::DomainRead;
 use wiring::Refusal;
@@ -13,10 +13,10 @@ ghost use Prim.Native.Nat.{_≤_};
 ghost use lib.ListN.{length};
 ghost use Rattle.wiring.specs.FrameDefinitions.{byte, then};
 ghost use Rattle.files.specs.Rows.{domainIn};
-ghost use Rattle.wiring.specs.Checks.{FileRoom};
+ghost use Rattle.wiring.specs.phys.Checks.{FileRoom};
 ghost use Rattle.tables.specs.JudgingCall.{judged, countsIn, tablesAnswer};
-ghost use Rattle.tables.specs.PreparedLists.{judgedIn};
-ghost use Rattle.tables.specs.WordEntries.{wordPlace, wordAnswer, surveyIn, surveyAnswer};
+ghost use Rattle.tables.specs.lists.PreparedLists.{judgedIn};
+ghost use Rattle.tables.specs.filling.WordEntries.{wordPlace, wordAnswer, surveyIn, surveyAnswer};
 
 // Of an accepted file: the number of tables, the number of words, and where one of them belongs.
 enum Survey {

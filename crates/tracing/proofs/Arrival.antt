@@ -7,12 +7,12 @@ use native.Mathlib.Omega.{arith}
 use lib.ListN.{length}
 use lib.Dec.{T, eqb}
 use Rattle.tables.specs.WiringDefinitions.{In, Domain, expanderAt, phyAt, addressOf, attachedPhyOf, isTable, attached, toEnd, toExpander, numberOf, self, neighbours, ChainIn, Clear, ClearChain, Home, Borne}
-use Rattle.tables.specs.Tables.{addressAt, levelList, table, tables, stretch}
+use Rattle.tables.specs.filling.Tables.{addressAt, levelList, table, tables, stretch}
 use Rattle.tables.proofs.WiringLemmas.{is-true, eq→eqb, neqb, in-cast, last-in, at-most, same-rest, same-chain, rest-of, Joined, all-joined, ChainTail, Wired, one-step, end-attached, expander-attached, attached-cases, in-range, differ, far-below, far-is, to-adj, adj-symmetric}
-use Rattle.tables.proofs.LevelsBeyond.{Table, Sub, adj-cases, one-sub}
-use Rattle.tables.proofs.LevelListMembers.{held-cases, held-self, held-phy, list-beyond, beyond-list}
-use Rattle.tables.proofs.TableLengths.{in-table}
-use Rattle.tables.proofs.TableStretches.{stretch-is}
+use Rattle.tables.proofs.levels.LevelsBeyond.{Table, Sub, adj-cases, one-sub}
+use Rattle.tables.proofs.lists.LevelListMembers.{held-cases, held-self, held-phy, list-beyond, beyond-list}
+use Rattle.tables.proofs.filling.TableLengths.{in-table}
+use Rattle.tables.proofs.filling.TableStretches.{stretch-is}
 use Rattle.tables.specs.TableCauses.{Routable}
 use Rattle.tracing.specs.declared.Outcome.the-variants.{Arrived, NoDestination}
 use Rattle.tracing.specs.Steps.{Step, onward, cameFrom, step}

@@ -4,8 +4,8 @@ use mathlib.Core.Path.{_≡_, refl, sym, ap, _∙_}
 use mathlib.Core.List.{List, [], flatMap}
 use Prim.Native.Nat.{ℕ}
 use Rattle.tables.specs.WiringDefinitions.{refused, good, then, refusal, Setting, InRange, NoSmaller, Domain}
-use Rattle.tables.specs.Levels.{eachOnce, downstreamOfPhys, downstream, nextLevel, levelsFrom, levels}
-use Rattle.tables.specs.Tables.{addressAt, gives, give, giveAll, levelList}
+use Rattle.tables.specs.levels.Levels.{eachOnce, downstreamOfPhys, downstream, nextLevel, levelsFrom, levels}
+use Rattle.tables.specs.filling.Tables.{addressAt, gives, give, giveAll, levelList}
 use Rattle.tables.specs.JudgingCall.{overlong, judgedDomain, judged, tablesFor, tableCall}
 use Rattle.tables.proofs.WiringLemmas.{wiring-more}
 use Rattle.tables.proofs.AcceptedDomains.{judged-file}

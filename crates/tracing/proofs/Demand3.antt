@@ -7,16 +7,16 @@ use lib.ListN.{length, take, drop}
 use lib.Seq.{take-at}
 use Rattle.tables.specs.WiringDefinitions.{bitsOf, marked, Result, good, then, Distinct, Below, Setting, Domain, Read, wiredDomain, wired}
 use Rattle.tables.specs.WiringDefinitions.{NoTableToTable, Home, Borne}
-use Rattle.tables.specs.Tables.{tables, needed}
-use Rattle.tables.specs.Entries.{Entries, Room, roomOf, Enough, countedBy, counted}
+use Rattle.tables.specs.filling.Tables.{tables, needed}
+use Rattle.tables.specs.filling.Entries.{Entries, Room, roomOf, Enough, countedBy, counted}
 use Rattle.tables.specs.JudgingCall.{judgedDomain, tablesFor, judgedTables, tableCall, TablesDone}
 use Rattle.tables.specs.TableCauses.{Routable}
 use Rattle.tables.specs.declared.TablesGiven.{TablesGiven}
 use Rattle.tables.specs.declared.TablesGiven.the-variants.{Counts}
 use Rattle.tables.proofs.WiringLemmas.{good-one, then-good, Wired, read-good, wired-iff, wired-file}
-use Rattle.tables.proofs.LevelsBeyond.{all-clear}
-use Rattle.tables.proofs.CountedWords.{counted-put}
-use Rattle.tables.proofs.TableLengths.{tables-length}
+use Rattle.tables.proofs.levels.LevelsBeyond.{all-clear}
+use Rattle.tables.proofs.filling.CountedWords.{counted-put}
+use Rattle.tables.proofs.filling.TableLengths.{tables-length}
 use Rattle.tables.proofs.AcceptedDomains.{judged-routable, routable-iff, tables-iff, tables-same}
 use Rattle.tables.proofs.TableRefusals.{counts-iff, tables-of}
 use Rattle.tracing.specs.declared.Outcome.the-variants.{Arrived, NoDestination, BadDestination}

@@ -5,7 +5,7 @@ use mathlib.Core.Path.{_≡_, refl}
 use mathlib.Core.List.{List, _∷_, _++_}
 use lib.ListN.{take, drop, replicate}
 use Rattle.tables.specs.WiringDefinitions.{refused, refusal, Setting, widest}
-use Rattle.tables.specs.Entries.{Entries}
+use Rattle.tables.specs.filling.Entries.{Entries}
 use Rattle.tables.specs.JudgingCall.{judged}
 use Rattle.tables.proofs.LongFrames.{short-judged}
 use Rattle.tables.proofs.WorkedDefinitions.{numberAt, bytesOf, frameSize, generalFixed, generalRead, discoverFixed, discoverRead, any, isIn, sizeAt, phyUnit, phyUnits, expanderUnit, expanders, headerUnit, domainRead, shortPhys, shortExpanders, shortFile, inRange}

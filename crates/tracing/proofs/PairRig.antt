@@ -10,9 +10,9 @@ use Rattle.tables.specs.WiringDefinitions.{bitsOf, numberBits, field, packedIn,
 use Rattle.tables.proofs.WorkedDefinitions.{numberAt, bytesOf, frameSize, generalFixed, generalRead, discoverFixed, discoverRead, numbers, any, keep, isIn, numberOf, sizeAt, phyUnit, phyUnits, expanderUnit, expanders, headerUnit, domainRead, unanswered, endAt, claimed, clash, clashing, fixed, phyPlaces, placesFrom, firstIn, wiredDomain, strip, reach, cabled, neighbours, inRange, chainsWithin, unlong, unlooped, joined, joinedIn, linkedDomain}
 use Rattle.tables.proofs.WiringLemmas.{good-then, marked-room}
 use Rattle.tables.proofs.AcceptedDomains.{tableCall-iff}
-use Rattle.tables.specs.Levels.{eachOnce, downstreamOfPhys, downstream, nextLevel, levelsFrom, levels}
-use Rattle.tables.specs.Tables.{addressAt, gives, give, giveAll, levelList, table, tablePlaces, tables, size, sizes, needed, offsetIn, stretch}
-use Rattle.tables.specs.Entries.{Entries, entries, roomOf, Enough, putBefore, countedBy, counted}
+use Rattle.tables.specs.levels.Levels.{eachOnce, downstreamOfPhys, downstream, nextLevel, levelsFrom, levels}
+use Rattle.tables.specs.filling.Tables.{addressAt, gives, give, giveAll, levelList, table, tablePlaces, tables, size, sizes, needed, offsetIn, stretch}
+use Rattle.tables.specs.filling.Entries.{Entries, entries, roomOf, Enough, putBefore, countedBy, counted}
 use Rattle.tables.specs.JudgingCall.{overlong, judgedDomain, judged, judgeAnswer, expandersIn, tableCall, countsIn, tablesAnswer, tablesAfter, TablesDone}
 use Rattle.tables.specs.declared.Judgement.{Judgement}
 use Rattle.tables.specs.declared.TablesGiven.{TablesGiven}

@@ -11,7 +11,7 @@ use borrow.Author.Tests.{eq-eqb, ne-eqb}
 use Rattle.tables.specs.WiringDefinitions.{numbers}
 use Rattle.tables.specs.WiringDefinitions.{Phy, Domain, expanderAt, phyAt, typeOf, addressOf, attachedPhyOf, numberOf, attached, toEnd, toExpander, isIn}
 use Rattle.tracing.specs.Steps.{Step, here, endDevice, bad, lost, onward, Pick, at, nowhere, pick, phyNumbers, bearing, listing, subtracting}
-use Rattle.tables.specs.Tables.{offset, stretch}
+use Rattle.tables.specs.filling.Tables.{offset, stretch}
 use Rattle.tracing.specs.Steps.{cameFrom, moveBy, subtractively, byTable, directly, step}
 use Rattle.tracing.specs.Answers.{bearingPick, listingPick, subtractingPick, directStep}
 use Rattle.tables.proofs.WiringLemmas.{tests, expander-attached, attached-cases, in-range}

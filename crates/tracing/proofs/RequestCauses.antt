@@ -7,11 +7,11 @@ use mathlib.Core.List.{List}
 use lib.ListN.{length}
 use lib.Dec.{T, eqb, ltb, leb, eqb→eq, ltb→lt, lt→ltb, leb→le, le→leb, not-T, T-not}
 use Rattle.tables.specs.WiringDefinitions.{bytesFor, Refusal, refused, good, unless, refusal, Domain, phyAt, toEnd, Setting, domainRead}
-use Rattle.tables.specs.Tables.{needed}
-use Rattle.tables.specs.Entries.{Entries, Room, roomOf, counted}
+use Rattle.tables.specs.filling.Tables.{needed}
+use Rattle.tables.specs.filling.Entries.{Entries, Room, roomOf, counted}
 use Rattle.tables.proofs.WiringLemmas.{tests, or-cases, or-left, or-right, eq→eqb, unless-good, good-unless}
 use Rattle.tables.specs.JudgingCall.{judgedDomain}
-use Rattle.tables.specs.PreparedLists.{judgedIn}
+use Rattle.tables.specs.lists.PreparedLists.{judgedIn}
 use Rattle.tracing.specs.declared.End.{End}
 use Rattle.tracing.specs.declared.TraceAnswer.{TraceAnswer}
 use Rattle.tracing.specs.declared.TraceAnswer.the-variants.{Refused, Ended}

@@ -8,7 +8,7 @@ use native.Mathlib.Omega.{arith}
 use lib.ListN.{length}
 use lib.Dec.{T, eqb, eqb→eq}
 use Rattle.tables.specs.WiringDefinitions.{In, Domain, expanderAt, phyAt, addressOf, attachedPhyOf, isTable, isSubtractive, attached, toEnd, toExpander, numberOf}
-use Rattle.tables.specs.Tables.{stretch}
+use Rattle.tables.specs.filling.Tables.{stretch}
 use Rattle.tables.proofs.WiringLemmas.{tests, was-true, eq→eqb, in-upTo, expander-attached, attached-cases, in-range}
 use Rattle.tracing.specs.Steps.{Step, here, endDevice, bad, lost, onward, Pick, at, nowhere, pick, phyNumbers, cameFrom, moveBy, subtractively, byTable, directly, bearing, listing, subtracting, step}
 

@@ -8,10 +8,10 @@ use lib.ListN.{length, getD, take, drop, drop-of-length-le}
 use lib.Dec.{T, eqb, ltb, leb}
 use borrow.Author.Tests.{eq-eqb, ne-eqb, eqb-true, eqb-false}
 use Rattle.tables.specs.WiringDefinitions.{bytesFor, Refusal, Result, refused, good, unless, refusal, Setting, Domain, expanderAt, phyAt, addressOf, attached, domainRead, isIn, any}
-use Rattle.tables.specs.Tables.{needed, offset, stretch}
-use Rattle.tables.specs.Entries.{Entries, Room, roomOf, counted}
+use Rattle.tables.specs.filling.Tables.{needed, offset, stretch}
+use Rattle.tables.specs.filling.Entries.{Entries, Room, roomOf, counted}
 use Rattle.tables.specs.JudgingCall.{judgedDomain}
-use Rattle.tables.specs.PreparedLists.{judgedIn}
+use Rattle.tables.specs.lists.PreparedLists.{judgedIn}
 use Rattle.tracing.specs.Steps.{here, lost, Pick, at, nowhere, pick, phyNumbers, cameFrom, moveBy, bearing, listing, subtracting, subtractively, byTable, directly, step}
 use Rattle.tracing.specs.Trace.{Request}
 use Rattle.tracing.specs.Answers.{bearingPick, listingPick, subtractingPick}

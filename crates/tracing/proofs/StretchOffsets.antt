@@ -14,10 +14,10 @@ use borrow.Author.Tests.{eq-eqb, ne-eqb}
 use Rattle.tables.specs.WiringDefinitions.{Domain, Expander, noExpander, expanderAt}
 use Rattle.tables.specs.WiringDefinitions.{bitsOf, any, isIn}
 use Rattle.tables.specs.WiringDefinitions.{Place, place, phyPlaces, placesFrom}
-use Rattle.tables.specs.Tables.{size, sizes, offsetIn, offset}
-use Rattle.tables.specs.Entries.{entries, counted}
-use Rattle.tables.proofs.CountedWords.{counted-at}
-use Rattle.tables.proofs.TablesPut.{sizes-append}
+use Rattle.tables.specs.filling.Tables.{size, sizes, offsetIn, offset}
+use Rattle.tables.specs.filling.Entries.{entries, counted}
+use Rattle.tables.proofs.filling.CountedWords.{counted-at}
+use Rattle.tables.proofs.filling.TablesPut.{sizes-append}
 use Rattle.tracing.specs.Answers.{wordsBefore}
 use Rattle.files.proofs.OneMore.{drop-next}
 

@@ -10,17 +10,17 @@ use lib.Seq.{getD-append-add, getD-drop, getD-take, length-take-le}
 use lib.Dec.{T, eqb}
 use borrow.Author.Tests.{eqb-true}
 use Rattle.tables.specs.WiringDefinitions.{bitsOf, packedIn, good, Result, In, Distinct, Below, Place, place, places, Setting, Domain, expanderAt, phyAt, addressOf, isTable, toEnd, toExpander, numberOf, Steps, neighbours, NoTableToTable, Home}
-use Rattle.tables.specs.Tables.{addressAt, levelList, table, tables, size, sizes, needed, offsetIn, offset, stretch}
-use Rattle.tables.specs.Entries.{Entries, Room, roomOf, Enough, countedBy, counted}
+use Rattle.tables.specs.filling.Tables.{addressAt, levelList, table, tables, size, sizes, needed, offsetIn, offset, stretch}
+use Rattle.tables.specs.filling.Entries.{Entries, Room, roomOf, Enough, countedBy, counted}
 use Rattle.tables.specs.JudgingCall.{judged, tableCall, TablesDone}
 use Rattle.tables.specs.declared.TablesGiven.the-variants.{Counts}
 use Rattle.tables.specs.TableCauses.{Routable}
 use Rattle.tables.proofs.WiringLemmas.{tests, is-true, eq→eqb, in-cast, last-in, take-in, Bits, length-bitsOf, length-packedIn, bit-packed, bits-bitsOf, same-rest, ChainTail, Wired, wired-file, adj-symmetric, end-attached, expander-attached, far-below, far-is, to-adj}
-use Rattle.tables.proofs.LevelsBeyond.{Sub, levels-down, link-both}
-use Rattle.tables.proofs.LevelListMembers.{in-list, held-phy, list-beyond}
-use Rattle.tables.proofs.TableLengths.{in-table}
-use Rattle.tables.proofs.CountedWords.{counted-length, counted-at}
-use Rattle.tables.proofs.TableStretches.{isPlace, is-place, place-is, size-here, in-all, stretch-is, stretch-within, index-tables}
+use Rattle.tables.proofs.levels.LevelsBeyond.{Sub, levels-down, link-both}
+use Rattle.tables.proofs.lists.LevelListMembers.{in-list, held-phy, list-beyond}
+use Rattle.tables.proofs.filling.TableLengths.{in-table}
+use Rattle.tables.proofs.filling.CountedWords.{counted-length, counted-at}
+use Rattle.tables.proofs.filling.TableStretches.{isPlace, is-place, place-is, size-here, in-all, stretch-is, stretch-within, index-tables}
 use Rattle.tables.proofs.AcceptedDomains.{judged-routable, judged-file, judged-wires, table-call}
 use Rattle.tables.proofs.TableRefusals.{TablesOf, tables-of}
 use Rattle.tracing.specs.Steps.{Step, onward, cameFrom, step}

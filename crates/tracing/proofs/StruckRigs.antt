@@ -5,9 +5,9 @@ use mathlib.Core.Path.{_≡_, refl}
 use mathlib.Core.List.{List, [], _∷_, flatMap}
 use Rattle.tables.specs.WiringDefinitions.{bitsOf, numberBits, field, packedIn, marked, Phy, Present, good, Domain}
 use Rattle.tables.proofs.WorkedDefinitions.{numbers, any, keep, isIn, numberOf, unanswered, endAt, claimed, clash, clashing, fixed, phyPlaces, placesFrom, firstIn, wiredDomain, strip, reach, cabled, neighbours, chainsWithin, unlong, unlooped, joined, joinedIn, linkedDomain}
-use Rattle.tables.specs.Levels.{eachOnce, downstreamOfPhys, downstream, nextLevel, levelsFrom, levels}
-use Rattle.tables.specs.Tables.{addressAt, gives, give, giveAll, levelList, table, tablePlaces, tables, size, sizes, offsetIn, stretch}
-use Rattle.tables.specs.Entries.{Entries, entries, roomOf, countedBy}
+use Rattle.tables.specs.levels.Levels.{eachOnce, downstreamOfPhys, downstream, nextLevel, levelsFrom, levels}
+use Rattle.tables.specs.filling.Tables.{addressAt, gives, give, giveAll, levelList, table, tablePlaces, tables, size, sizes, offsetIn, stretch}
+use Rattle.tables.specs.filling.Entries.{Entries, entries, roomOf, countedBy}
 use Rattle.tables.specs.JudgingCall.{overlong, judgedDomain, judgedTables, tablesAfter}
 use Rattle.tracing.specs.Steps.{pick, subtractively, byTable, directly, step}
 use Rattle.tracing.specs.Trace.{Request, request, afterStep, traceFrom, traced, allowed, requested, tracedRequest, judgedRequest}

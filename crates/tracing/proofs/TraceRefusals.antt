@@ -8,8 +8,8 @@ use native.Mathlib.Omega.{arith}
 use lib.ListN.{length}
 use lib.Dec.{eqb, leb}
 use Rattle.tables.specs.WiringDefinitions.{bytesFor, good, then, refusal, Setting, Domain, RefusesExactly}
-use Rattle.tables.specs.Tables.{needed}
-use Rattle.tables.specs.Entries.{Entries, Room, roomOf, counted}
+use Rattle.tables.specs.filling.Tables.{needed}
+use Rattle.tables.specs.filling.Entries.{Entries, Room, roomOf, counted}
 use Rattle.tables.specs.JudgingCall.{judged}
 use Rattle.tables.proofs.WiringLemmas.{then-good, good-then}
 use Rattle.tables.proofs.TableRefusals.{Numbered, numbered-unless, numbered-then, exactly, judged-numbered, judged-causes, causes-judged}

@@ -5,9 +5,9 @@ use mathlib.Core.List.{List, _++_}
 use lib.ListN.{length, take, drop}
 use Rattle.tables.specs.WiringDefinitions.{placesFrom}
 use Rattle.tables.specs.WiringDefinitions.{Result, then, Domain}
-use Rattle.tables.specs.Tables.{sizes}
-use Rattle.tables.specs.Entries.{Entries}
-use Rattle.tables.specs.PreparedLists.{judgedIn}
+use Rattle.tables.specs.filling.Tables.{sizes}
+use Rattle.tables.specs.filling.Entries.{Entries}
+use Rattle.tables.specs.lists.PreparedLists.{judgedIn}
 use Rattle.tracing.specs.Steps.{Step as Stepped, here, endDevice, bad, lost, onward, Pick as Picked, at, nowhere, pick, phyNumbers}
 use Rattle.tracing.specs.Steps.{bearing, listing, subtracting, subtractively, byTable, directly}
 use Rattle.tracing.specs.Trace.{Request, Traced, tracedRequest, report, traceAnswer}

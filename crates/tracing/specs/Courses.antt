@@ -3,7 +3,7 @@ use Prim.Native.Nat.{ℕ}
 use mathlib.Core.Path.{_≡_}
 use mathlib.Core.List.{List}
 use Rattle.tables.specs.WiringDefinitions.{good, Setting, Domain, wiringCall}
-use Rattle.tables.specs.Entries.{Entries, Room}
+use Rattle.tables.specs.filling.Entries.{Entries, Room}
 use Rattle.tables.specs.JudgingCall.{judged, tableCall}
 use Rattle.tracing.specs.Trace.{Request, traceCall}
 

@@ -7,8 +7,8 @@ use lib.ListN.{length, take, drop}
 use lib.Dec.{T}
 use Rattle.tables.specs.WiringDefinitions.{Result, Distinct, Below, last, Domain, expanderAt, phyAt, addressOf, toEnd}
 use Rattle.tables.specs.WiringDefinitions.{ChainIn, ClearChain, Home, Borne}
-use Rattle.tables.specs.Tables.{needed}
-use Rattle.tables.specs.Entries.{Entries, Room, roomOf, Enough, counted}
+use Rattle.tables.specs.filling.Tables.{needed}
+use Rattle.tables.specs.filling.Entries.{Entries, Room, roomOf, Enough, counted}
 use Rattle.tables.specs.JudgingCall.{TablesDone}
 use Rattle.tables.specs.TableCauses.{Routable}
 use Rattle.tables.specs.declared.TablesGiven.{TablesGiven}

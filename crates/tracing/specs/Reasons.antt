@@ -5,10 +5,10 @@ use mathlib.Core.List.{List, [], _∷_}
 use lib.ListN.{length}
 use lib.Dec.{eqb, ltb, leb}
 use Rattle.tables.specs.WiringDefinitions.{bytesFor, Result, refused, good, unless, then, refusal, Setting, Domain, expanderAt, phyAt, addressOf, attached}
-use Rattle.tables.specs.Tables.{needed, stretch}
-use Rattle.tables.specs.Entries.{Entries, Room, roomOf, counted}
+use Rattle.tables.specs.filling.Tables.{needed, stretch}
+use Rattle.tables.specs.filling.Entries.{Entries, Room, roomOf, counted}
 use Rattle.tables.specs.JudgingCall.{judged}
-use Rattle.tables.specs.PreparedLists.{judgedIn}
+use Rattle.tables.specs.lists.PreparedLists.{judgedIn}
 use Rattle.tracing.specs.Steps.{Step, here, bad, lost, Pick, at, nowhere, pick, phyNumbers, cameFrom, moveBy, arriving, bearing, listing, subtracting, step}
 use Rattle.tracing.specs.Trace.{Request}
 use Rattle.tracing.specs.Answers.{stepAnswer}

@@ -6,9 +6,9 @@ use mathlib.Core.List.{List, [], _∷_, _++_}
 use lib.ListN.{length, drop}
 use lib.Dec.{ltb, leb}
 use Rattle.tables.specs.WiringDefinitions.{bytesFor, Result, refused, good, unless, then, refusal, Domain}
-use Rattle.tables.specs.Tables.{needed}
-use Rattle.tables.specs.Entries.{Entries, Room}
-use Rattle.tables.specs.PreparedLists.{judgedIn}
+use Rattle.tables.specs.filling.Tables.{needed}
+use Rattle.tables.specs.filling.Entries.{Entries, Room}
+use Rattle.tables.specs.lists.PreparedLists.{judgedIn}
 use Rattle.tracing.specs.Trace.{Traced, request, tracedRequest, report}
 use Rattle.tracing.specs.Packing.{packed, endPacked}
 use Rattle.tracing.specs.declared.ListAnswer.{ListAnswer}

@@ -5,7 +5,7 @@ use mathlib.Core.List.{List, [], _∷_}
 use lib.ListN.{length}
 use lib.Dec.{eqb}
 use Rattle.tables.specs.WiringDefinitions.{Domain, expanderAt, phyAt, addressOf, attachedPhyOf, isTable, isSubtractive, toEnd, toExpander, bears, numberOf, upTo, isIn}
-use Rattle.tables.specs.Tables.{stretch}
+use Rattle.tables.specs.filling.Tables.{stretch}
 
 -- arrived here; arrived at the end device of a phy; BAD DESTINATION; NO DESTINATION; on to an expander with its arrival phy
 pub data Step : Type 0 where

@@ -7,8 +7,8 @@ use mathlib.Core.List.{List, [], _∷_, _++_, map}
 use lib.ListN.{length, take, drop}
 use lib.Dec.{T, eqb}
 use Rattle.tables.specs.WiringDefinitions.{bitsOf, packedIn, Result, In, Place, places, Domain, phyAt, addressOf, isTable, toEnd, toExpander, NoTableToTable}
-use Rattle.tables.specs.Tables.{size, stretch}
-use Rattle.tables.specs.Entries.{Entries, entries, Room, roomOf, countedBy}
+use Rattle.tables.specs.filling.Tables.{size, stretch}
+use Rattle.tables.specs.filling.Entries.{Entries, entries, Room, roomOf, countedBy}
 use Rattle.tables.specs.JudgingCall.{TablesDone}
 use Rattle.tables.specs.declared.TablesGiven.the-variants.{Counts}
 use Rattle.tracing.specs.Trace.{Traced, Request}

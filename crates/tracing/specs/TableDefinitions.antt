@@ -4,7 +4,7 @@ pub use Rattle.tables.specs.WiringDefinitions.{General, LongGeneral, Discover, 
 pub use Rattle.tables.specs.WiringDefinitions.{Discovered, vacant, fields, discoverRead, discoverAnswer}
 pub use Rattle.tables.specs.WiringDefinitions.{routeWritten, writeAnswer, bufferAfter, routeRead, routeAnswer}
 pub use Rattle.tables.specs.declared.Entry.{Entry}
-pub use Rattle.tables.specs.WordEntries.{wordPlace, wordAnswer}
-pub use Rattle.tables.specs.Entries.{Entries, entries, Room, roomOf}
+pub use Rattle.tables.specs.filling.WordEntries.{wordPlace, wordAnswer}
+pub use Rattle.tables.specs.filling.Entries.{Entries, entries, Room, roomOf}
 pub use Rattle.tables.specs.JudgingCall.{judged, judgeAnswer, expandersIn, tableCall, tablesAnswer, Counted, countsIn, tablesAfter}
 unfoldable pub use Rattle.tables.specs.WiringDefinitions.{inRange}

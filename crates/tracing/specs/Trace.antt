@@ -6,8 +6,8 @@ use mathlib.Core.List.{List, [], _∷_, _++_}
 use lib.ListN.{length, drop}
 use lib.Dec.{eqb, ltb, leb}
 use Rattle.tables.specs.WiringDefinitions.{bytesFor, Result, refused, good, unless, then, refusal, Setting, Domain, phyAt, toEnd}
-use Rattle.tables.specs.Tables.{needed}
-use Rattle.tables.specs.Entries.{Entries, Room, roomOf, counted}
+use Rattle.tables.specs.filling.Tables.{needed}
+use Rattle.tables.specs.filling.Entries.{Entries, Room, roomOf, counted}
 use Rattle.tables.specs.JudgingCall.{judgedDomain, judged}
 use Rattle.tracing.specs.Steps.{Step, here, endDevice, bad, lost, onward, step}
 use Rattle.tracing.specs.declared.Outcome.{Outcome}

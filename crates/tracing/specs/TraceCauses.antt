@@ -6,8 +6,8 @@ use mathlib.Core.List.{List}
 use lib.ListN.{length}
 use lib.Dec.{T}
 use Rattle.tables.specs.WiringDefinitions.{Setting, Domain, phyAt, toEnd}
-use Rattle.tables.specs.Tables.{needed}
-use Rattle.tables.specs.Entries.{Room, Enough}
+use Rattle.tables.specs.filling.Tables.{needed}
+use Rattle.tables.specs.filling.Entries.{Room, Enough}
 use Rattle.tables.specs.TableCauses.{NoJudgingCause, judgingNumber}
 use Rattle.tracing.specs.Trace.{Request}
 

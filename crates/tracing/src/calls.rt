@@ -11,7 +11,7 @@ ghost use lib.ListN.{length};
 ghost use Rattle.tracing.specs.Trace.{request, traceCall, TraceDone};
 ghost use Rattle.tracing.specs.Answers.{requestIn};
 ghost use Rattle.tables.specs.WiringDefinitions.{byte, domainIn, FileRoom};
-ghost use Rattle.tables.specs.Entries.{entries};
+ghost use Rattle.tables.specs.filling.Entries.{entries};
 
 // Causes 7 to 12, 23, 14 and 15 to 18 of a request over rows, then the walk. A chain may have `chain` expanders. `first` and `low` have room for who has which
 // address; 16 where there is too little.

@@ -12,7 +12,7 @@ use tables::PhyId;
 use tables::RouteIndex;
 ghost use mathlib.Core.Path.{_≡_};
 ghost use Rattle.tables.specs.WiringDefinitions.{domainIn};
-ghost use Rattle.tables.specs.Entries.{entries, counted};
+ghost use Rattle.tables.specs.filling.Entries.{entries, counted};
 ghost use Rattle.tracing.specs.Reasons.{because, reason, subtractiveReason, tableReason};
 
 // A rule, the phy picked and the route index of the entry that matched.

@@ -10,7 +10,7 @@ ghost use Rattle.tables.specs.WiringDefinitions.{domainIn, IndexedFirst};
 ghost use Rattle.tables.specs.WiringDefinitions.{Refused};
 ghost use Rattle.tables.specs.WiringDefinitions.{checkAnswer};
 ghost use Rattle.tables.specs.WiringDefinitions.{refusal};
-ghost use Rattle.tables.specs.Entries.{entries};
+ghost use Rattle.tables.specs.filling.Entries.{entries};
 ghost use Rattle.tracing.specs.Trace.{request, allowed, requested, tracedRequest, TraceDone};
 
 // Whether cause 15 does not hold: the start is an expander, and the arrival phy is 255 or attached to an end

@@ -11,7 +11,7 @@ use tables::Setting;
 ghost use mathlib.Core.Path.{_≡_};
 ghost use lib.ListN.{length};
 ghost use Rattle.tables.specs.WiringDefinitions.{domainIn, checkAnswer, IndexedFirst, FileRoom};
-ghost use Rattle.tables.specs.Entries.{entries};
+ghost use Rattle.tables.specs.filling.Entries.{entries};
 ghost use Rattle.tracing.specs.Trace.{request};
 ghost use Rattle.tracing.specs.Reasons.{stepAllowed, stepRequested, stepAsked, stepIn, stepCall, toldAnswer};
 

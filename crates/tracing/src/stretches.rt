@@ -7,8 +7,8 @@ ghost use Prim.Native.Nat.{_<_, _^_};
 ghost use lib.ListN.{length, getD, take, drop};
 ghost use lib.Dec.{eqb};
 ghost use Rattle.tables.specs.WiringDefinitions.{domainIn, expanderAt, isIn};
-ghost use Rattle.tables.specs.Tables.{offset};
-ghost use Rattle.tables.specs.Entries.{entries, counted};
+ghost use Rattle.tables.specs.filling.Tables.{offset};
+ghost use Rattle.tables.specs.filling.Entries.{entries, counted};
 ghost use Rattle.tracing.specs.Reasons.{indexOf};
 
 // Whether word k counts as s: it is s with its disable bit clear. One whose bit is set counts as 0.

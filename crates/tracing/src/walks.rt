@@ -9,7 +9,7 @@ ghost use mathlib.Core.Path.{_≡_};
 ghost use Prim.Native.Nat.{_≤_};
 ghost use lib.ListN.{length};
 ghost use Rattle.tables.specs.WiringDefinitions.{domainIn, IndexedFirst};
-ghost use Rattle.tables.specs.Entries.{entries, counted};
+ghost use Rattle.tables.specs.filling.Entries.{entries, counted};
 ghost use Rattle.tracing.specs.Trace.{request, traced};
 ghost use Rattle.tracing.specs.Answers.{endOf, Walked};
 

@@ -13,18 +13,18 @@ use Rattle.wiring.specs.declared.Wiring.{Wiring}
 use Rattle.wiring.specs.declared.Wiring.the-variants.{Refused, Bits}
 use Rattle.files.specs.Lists.{upTo}
 use Rattle.files.specs.Domain.{Domain}
-use Rattle.wiring.specs.PhyCauses.{wiredDomain}
-use Rattle.wiring.specs.Graph.{strip, loopfree}
-use Rattle.wiring.specs.Neighbours.{neighbours, neighbourWord, neighbourWords, bitsIn, wordsFor, wiringCall, WiringDone}
+use Rattle.wiring.specs.phys.PhyCauses.{wiredDomain}
+use Rattle.wiring.specs.graph.Graph.{strip, loopfree}
+use Rattle.wiring.specs.graph.Neighbours.{neighbours, neighbourWord, neighbourWords, bitsIn, wordsFor, wiringCall, WiringDone}
 use Rattle.files.specs.File.{domainRead}
-use Rattle.wiring.specs.LinkCauses.{unlooped, joinedIn, linkedDomain, checkedDomain}
-use Rattle.wiring.specs.LongChains.{chainsWithin, unlong}
-use Rattle.wiring.specs.AddressIndex.{slotsBefore, IndexRoom}
-use Rattle.wiring.specs.Checks.{checkedIn}
-use Rattle.wiring.specs.Rounds.{NeighbourWordsHeld}
+use Rattle.wiring.specs.graph.LinkCauses.{unlooped, joinedIn, linkedDomain, checkedDomain}
+use Rattle.wiring.specs.graph.LongChains.{chainsWithin, unlong}
+use Rattle.wiring.specs.index.AddressIndex.{slotsBefore, IndexRoom}
+use Rattle.wiring.specs.phys.Checks.{checkedIn}
+use Rattle.wiring.specs.graph.Rounds.{NeighbourWordsHeld}
 use Rattle.files.proofs.ListMembers.{tests, is-false}
 use Rattle.files.proofs.CallResults.{unless-good}
-use Rattle.wiring.proofs.NeighbourWords.{length-words, each-held}
+use Rattle.wiring.proofs.graph.NeighbourWords.{length-words, each-held}
 
 -- the neighbour words at the front of lent words
 pub words-held : (d : Domain) (words rest : List ℕ) → words ≡ neighbourWords d ++ rest → NeighbourWordsHeld d words

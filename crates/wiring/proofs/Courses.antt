@@ -7,8 +7,8 @@ use Rattle.files.specs.declared.Setting.{Setting}
 use Rattle.files.specs.Domain.{Domain}
 use Rattle.files.specs.Settings.{InRange, NoSmaller}
 use Rattle.files.specs.File.{domainRead}
-use Rattle.wiring.specs.PhyCauses.{wiredDomain}
-use Rattle.wiring.specs.Neighbours.{wordsFor, wiringCall}
+use Rattle.wiring.specs.phys.PhyCauses.{wiredDomain}
+use Rattle.wiring.specs.graph.Neighbours.{wordsFor, wiringCall}
 use Rattle.files.proofs.WiderSetting.{read-more}
 
 module _ (most other : Setting) (m : NoSmaller most other) where

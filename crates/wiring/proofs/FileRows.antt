@@ -13,8 +13,8 @@ use Rattle.files.specs.declared.DomainRead.the-variants.{Refused, Expanders}
 use Rattle.files.specs.Domain.{Domain}
 use Rattle.files.specs.File.{domainRead}
 use Rattle.files.specs.Rows.{domainIn, rowsRead, countOf, RowsRead}
-use Rattle.wiring.specs.AddressIndex.{slotsBefore}
-use Rattle.wiring.specs.Checks.{FileRoom}
+use Rattle.wiring.specs.index.AddressIndex.{slotsBefore}
+use Rattle.wiring.specs.phys.Checks.{FileRoom}
 use Rattle.files.proofs.ReadDomain.{read-good}
 
 -- what the answer of the reader says of the file

@@ -3,7 +3,7 @@ use Prim.Native.Nat.{ℕ}
 use mathlib.Core.Path.{_≡_}
 use mathlib.Core.List.{List}
 use Rattle.files.specs.declared.Setting.{Setting}
-use Rattle.wiring.specs.Neighbours.{wiringCall}
+use Rattle.wiring.specs.graph.Neighbours.{wiringCall}
 use Rattle.files.specs.ShortFile.{shortFile}
 use Rattle.files.proofs.ShortFile.{short-file}
 

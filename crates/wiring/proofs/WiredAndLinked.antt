@@ -16,19 +16,19 @@ use Rattle.files.specs.Lists.{upTo, any, In, Distinct}
 use Rattle.files.specs.Domain.{Expander, Domain, noExpander, expanderAt, phyAt, addressOf, attachedPhyOf, attributeOf, isTable, isSubtractive, isDirect, attached, toEnd, toExpander, numberOf}
 use Rattle.files.specs.ReadDomain.{ReadPhy, ReadExpander, addresses, Read}
 use Rattle.files.specs.File.{domainRead}
-use Rattle.wiring.specs.PhyCauses.{Place, place, places, farPhy, names, unanswered, endAt, claimed, clash, clashing, fixed, firstIn, firstOf, wiredDomain, wired}
+use Rattle.wiring.specs.phys.PhyCauses.{Place, place, places, farPhy, names, unanswered, endAt, claimed, clash, clashing, fixed, firstIn, firstOf, wiredDomain, wired}
 use Rattle.wiring.specs.WiringCauses.{Passed, Linked}
-use Rattle.wiring.specs.Graph.{loopfree}
-use Rattle.wiring.specs.Neighbours.{neighbours}
-use Rattle.wiring.specs.LongChains.{chainsWithin, unlong, ShortChains}
-use Rattle.wiring.specs.LinkCauses.{unlooped, joined, joinedIn, linkedDomain}
+use Rattle.wiring.specs.graph.Graph.{loopfree}
+use Rattle.wiring.specs.graph.Neighbours.{neighbours}
+use Rattle.wiring.specs.graph.LongChains.{chainsWithin, unlong, ShortChains}
+use Rattle.wiring.specs.graph.LinkCauses.{unlooped, joined, joinedIn, linkedDomain}
 use Rattle.files.proofs.CallResults.{never, good-one, unless-good, good-unless, then-good, good-then, then-same}
 use Rattle.files.proofs.ReadDomain.{read-good}
 use Rattle.files.proofs.ListMembers.{tests, by-test, or-cases, not-not, is-true, is-false, was-true, was-false, eq→eqb, in-cast, all-cons, any-of, of-any, in-getD, getD-in, in-take, take-in, map-in, in-upTo, numbers-below}
-use Rattle.wiring.proofs.Loops.{loopfree-iff}
-use Rattle.wiring.proofs.ReachedByChain.{reached-iff}
-use Rattle.wiring.proofs.LongChains.{within-iff}
-use Rattle.wiring.proofs.WiredPhys.{LoopIn, ChainIn, AttachedTo, Plain, Wired, plain-attribute, in-places, adj-symmetric}
+use Rattle.wiring.proofs.graph.Loops.{loopfree-iff}
+use Rattle.wiring.proofs.graph.ReachedByChain.{reached-iff}
+use Rattle.wiring.proofs.graph.LongChains.{within-iff}
+use Rattle.wiring.proofs.phys.WiredPhys.{LoopIn, ChainIn, AttachedTo, Plain, Wired, plain-attribute, in-places, adj-symmetric}
 use Rattle.files.proofs.Domains.{end-attached, expander-attached, attribute-one, numberOf-is, expander-range, phy-range, in-range, attribute-range}
 
 -- what causes 1 to 6 leave, expander by expander and phy by phy

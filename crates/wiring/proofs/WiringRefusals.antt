@@ -14,8 +14,8 @@ use Rattle.files.specs.declared.Setting.{Setting}
 use Rattle.wiring.specs.declared.Wiring.{Wiring}
 use Rattle.files.specs.Domain.{Domain}
 use Rattle.files.specs.File.{domainRead}
-use Rattle.wiring.specs.PhyCauses.{Place, unanswered, claimed, clashing, fixed, firstIn, firstOf, wiredDomain, wired}
-use Rattle.wiring.specs.Neighbours.{neighbourWords, bitsIn, wordsFor, wiringCall, wiringAnswer, bitsSet, WiringDone}
+use Rattle.wiring.specs.phys.PhyCauses.{Place, unanswered, claimed, clashing, fixed, firstIn, firstOf, wiredDomain, wired}
+use Rattle.wiring.specs.graph.Neighbours.{neighbourWords, bitsIn, wordsFor, wiringCall, wiringAnswer, bitsSet, WiringDone}
 use Rattle.wiring.specs.WiringCauses.{NoWiringCause, wiringNumber}
 use Rattle.files.proofs.ListMembers.{by-test}
 use Rattle.files.proofs.CallResults.{unless-good, good-unless, then-good, good-then}

@@ -8,10 +8,10 @@ use Rattle.files.specs.declared.Phy.{Phy}
 use Rattle.files.specs.declared.Phy.the-variants.{Present}
 use Rattle.files.specs.Lists.{numbers, any, keep, isIn}
 use Rattle.files.specs.Domain.{Domain, numberOf}
-use Rattle.wiring.specs.PhyCauses.{unanswered, endAt, claimed, clash, clashing, fixed, phyPlaces, placesFrom, firstIn, wiredDomain}
-use Rattle.wiring.specs.Graph.{strip, reach}
-use Rattle.wiring.specs.Neighbours.{cabled, neighbours, setOf, neighbourWord, neighbourWords, bitsIn}
-use Rattle.wiring.specs.LinkCauses.{unlooped, joined, joinedIn, linkedDomain}
+use Rattle.wiring.specs.phys.PhyCauses.{unanswered, endAt, claimed, clash, clashing, fixed, phyPlaces, placesFrom, firstIn, wiredDomain}
+use Rattle.wiring.specs.graph.Graph.{strip, reach}
+use Rattle.wiring.specs.graph.Neighbours.{cabled, neighbours, setOf, neighbourWord, neighbourWords, bitsIn}
+use Rattle.wiring.specs.graph.LinkCauses.{unlooped, joined, joinedIn, linkedDomain}
 
 -- one expander with address 1: a subtractive phy at its own address, with this far phy
 abbrev self : ℕ → Phy

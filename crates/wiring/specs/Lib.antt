@@ -1,14 +1,5 @@
 pub mod FrameDefinitions
-pub mod AddressIndex
-pub mod SearchTree
-pub mod PhyCauses
-pub mod Checks
-pub mod Graph
-pub mod Neighbours
-pub mod Rounds
-pub mod Clashes
-pub mod CableSets
-pub mod LinkCauses
-pub mod Devices
-pub mod LongChains
+pub mod index
+pub mod phys
+pub mod graph
 pub mod WiringCauses

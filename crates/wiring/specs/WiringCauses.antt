@@ -10,8 +10,8 @@ use Rattle.files.specs.declared.Setting.{Setting}
 use Rattle.files.specs.Domain.{Domain}
 use Rattle.files.specs.Settings.{InRange}
 use Rattle.files.specs.File.{domainRead}
-use Rattle.wiring.specs.PhyCauses.{unanswered, claimed, clashing, fixed}
-use Rattle.wiring.specs.Devices.{LoopIn, ChainIn}
+use Rattle.wiring.specs.phys.PhyCauses.{unanswered, claimed, clashing, fixed}
+use Rattle.wiring.specs.graph.Devices.{LoopIn, ChainIn}
 
 -- none of causes 7 to 10 holds of a phy
 pub record Passed (d : Domain) : Type 0 where

@@ -1,18 +1,14 @@
 // Judges the wiring of a domain in rows.
-mod addresses;
-mod causes;
-mod chains;
-mod clashes;
-mod domain_checks;
-mod neighbours;
+pub mod graph;
+pub mod index;
+pub mod phys;
 mod refusals;
-mod rounds;
 mod wiring_call;
 
-pub use addresses::attached_expander;
-pub use addresses::lowest_phy;
-pub use addresses::number_of;
-pub use domain_checks::check_domain;
+pub use graph::domain_checks::check_domain;
+pub use index::addresses::attached_expander;
+pub use index::addresses::lowest_phy;
+pub use index::addresses::number_of;
 pub use refusals::check_refused;
 pub use wiring_call::wire;
 

@@ -1,9 +1,9 @@
 // The wiring call.
 use crate::Check;
 use crate::Wiring;
-use crate::addresses;
-use crate::causes;
-use crate::neighbours;
+use crate::graph::neighbours;
+use crate::index::addresses;
+use crate::phys::causes;
 use files::DomainRead;
 use files::Setting;
 ghost use Prim.Native.Nat.{_≤_};
@@ -11,10 +11,10 @@ ghost use lib.ListN.{length};
 ghost use Rattle.frames.specs.Bytes.{byte};
 ghost use Rattle.frames.specs.Refusals.{then};
 ghost use Rattle.files.specs.Rows.{domainIn};
-ghost use Rattle.wiring.specs.PhyCauses.{wiredDomain};
-ghost use Rattle.wiring.specs.AddressIndex.{IndexRoom};
-ghost use Rattle.wiring.specs.Checks.{FileRoom};
-ghost use Rattle.wiring.specs.Neighbours.{wordsFor, wiringCall, WiringDone};
+ghost use Rattle.wiring.specs.phys.PhyCauses.{wiredDomain};
+ghost use Rattle.wiring.specs.index.AddressIndex.{IndexRoom};
+ghost use Rattle.wiring.specs.phys.Checks.{FileRoom};
+ghost use Rattle.wiring.specs.graph.Neighbours.{wordsFor, wiringCall, WiringDone};
 
 // Causes 7 to 10, then 16, then the neighbour words. There is room for who has which address.
 fn wire_rows(rows: &[u64], first: &mut [u16], low: &mut [u8], words: &mut [u64]) -> Wiring

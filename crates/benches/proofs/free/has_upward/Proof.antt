@@ -9,7 +9,7 @@ use Rattle.files.specs.Domain.{expanderAt}
 use Rattle.files.specs.Rows.{domainIn}
 use Rattle.files.specs.declared.Phy.the-variants.{Vacant}
 use Rattle.benches.specs.JoinCall.{upward}
-use Rattle.wiring.proofs.PlaceSearches.{any-stop, any-go, any-end}
+use Rattle.wiring.proofs.phys.PlaceSearches.{any-stop, any-go, any-end}
 use Rattle.benches.proofs.free.has_upward.Statement.{statement}
 use Rattle.benches.proofs.free.has_upward.Tie as tie
 

@@ -3,9 +3,9 @@ use mathlib.Core.Path.{sym, _∙_, ap}
 use lib.Seq.{length-take-le}
 use Rattle.frames.specs.Refusals.{Result, then}
 use Rattle.files.specs.Domain.{Domain}
-use Rattle.wiring.specs.Checks.{checkAnswer}
+use Rattle.wiring.specs.phys.Checks.{checkAnswer}
 use Rattle.wiring.proofs.FileRows.{opened-as, opened-fits}
-use Rattle.tables.proofs.LevelListsByOwn.{judged-own}
+use Rattle.tables.proofs.lists.LevelListsByOwn.{judged-own}
 use Rattle.benches.specs.SidesFound.{sideOf}
 use Rattle.benches.proofs.JoinOutcomes.{side-room, side-refused, side-good, judged-by}
 use borrow.Author.Needs.{needs}

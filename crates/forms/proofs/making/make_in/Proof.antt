@@ -3,7 +3,7 @@ use Prim.Native.Nat.{_-_}
 use mathlib.Core.Path.{sym}
 use lib.Seq.{length-take-le}
 use Rattle.wiring.proofs.FileRows.{opened-as, opened-fits}
-use Rattle.tables.proofs.LevelListsByOwn.{judged-own}
+use Rattle.tables.proofs.lists.LevelListsByOwn.{judged-own}
 use Rattle.forms.proofs.FormCallOutcomes.{made-refused, made-read}
 use borrow.Author.Needs.{needs}
 use Rattle.forms.proofs.making.make_in.Statement.{statement}

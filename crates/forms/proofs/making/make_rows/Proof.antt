@@ -2,7 +2,7 @@
 use Prim.Native.Nat.{_-_}
 use mathlib.Core.Path.{sym, _∙_, ap}
 use Rattle.files.specs.Rows.{domainIn}
-use Rattle.wiring.specs.Checks.{checkAnswer}
+use Rattle.wiring.specs.phys.Checks.{checkAnswer}
 use Rattle.tables.proofs.CallOutcomes.{judged-room}
 use Rattle.forms.proofs.FormCallOutcomes.{rows-refused, rows-short, rows-made}
 use borrow.Author.Needs.{needs}

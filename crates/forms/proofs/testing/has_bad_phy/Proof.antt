@@ -7,7 +7,7 @@ use Rattle.files.specs.Lists.{any}
 use Rattle.files.specs.Domain.{expanderAt}
 use Rattle.files.specs.Rows.{domainIn}
 use Rattle.forms.specs.FormCalls.{badPhy}
-use Rattle.wiring.proofs.PlaceSearches.{any-stop, any-go, any-end}
+use Rattle.wiring.proofs.phys.PlaceSearches.{any-stop, any-go, any-end}
 use borrow.Author.Needs.{needs}
 use native.Mathlib.Omega.{arith}
 use Rattle.forms.proofs.testing.has_bad_phy.Statement.{statement}

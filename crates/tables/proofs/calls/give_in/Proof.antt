@@ -3,7 +3,7 @@ use mathlib.Core.Path.{sym}
 use lib.Seq.{length-take-le}
 use Rattle.wiring.proofs.FileRows.{opened-as, opened-fits}
 use Rattle.tables.proofs.CallOutcomes.{call-refused}
-use Rattle.tables.proofs.LevelListsByOwn.{judged-own, call-done}
+use Rattle.tables.proofs.lists.LevelListsByOwn.{judged-own, call-done}
 use borrow.Author.Needs.{needs}
 use Rattle.tables.proofs.calls.give_in.Statement.{statement}
 use Rattle.tables.proofs.calls.give_in.Tie as tie

@@ -2,7 +2,7 @@
 use mathlib.Core.Path.{sym, _∙_, ap}
 use native.Mathlib.Omega.{arith}
 use lib.Seq.{length-take-le}
-use Rattle.wiring.specs.Checks.{checkAnswer}
+use Rattle.wiring.specs.phys.Checks.{checkAnswer}
 use Rattle.tables.proofs.CallOutcomes.{fillable, judged-room, own-refused, own-few, own-few-bits, own-done}
 use borrow.Author.Needs.{needs}
 use Rattle.tables.proofs.calls.give_rows.Statement.{statement}

@@ -2,10 +2,10 @@
 use mathlib.Core.Path.{sym, _∙_, ap}
 use lib.Seq.{length-take-le}
 use Rattle.wiring.specs.FrameDefinitions.{good}
-use Rattle.wiring.specs.Checks.{checkAnswer}
+use Rattle.wiring.specs.phys.Checks.{checkAnswer}
 use Rattle.wiring.proofs.FileRows.{opened-as, opened-fits}
 use Rattle.tables.proofs.CallOutcomes.{judge-refused, judge-by}
-use Rattle.tables.proofs.LevelListsByOwn.{judged-own}
+use Rattle.tables.proofs.lists.LevelListsByOwn.{judged-own}
 use borrow.Author.Needs.{needs}
 use Rattle.tables.proofs.calls.judge_in.Statement.{statement}
 use Rattle.tables.proofs.calls.judge_in.Tie as tie

@@ -1,6 +1,6 @@
 -- judge_rows meets its contract: cause 14 by own lists after causes 7 to 12 and 23.
 use mathlib.Core.Path.{sym, _∙_, ap}
-use Rattle.wiring.specs.Checks.{checkAnswer}
+use Rattle.wiring.specs.phys.Checks.{checkAnswer}
 use Rattle.wiring.proofs.CheckOutcomes.{room-checked}
 use Rattle.tables.proofs.CallOutcomes.{own-checked}
 use borrow.Author.Needs.{needs}

@@ -2,8 +2,8 @@
 use mathlib.Core.Path.{sym, _∙_, ap}
 use Rattle.wiring.specs.FrameDefinitions.{Result, good, then}
 use Rattle.tables.specs.JudgingCall.{Counted, judged}
-use Rattle.tables.specs.WordEntries.{Surveyed, surveyAnswer}
-use Rattle.tables.proofs.WordPlaces.{survey-counts}
+use Rattle.tables.specs.filling.WordEntries.{Surveyed, surveyAnswer}
+use Rattle.tables.proofs.filling.WordPlaces.{survey-counts}
 use borrow.Author.Needs.{needs}
 use Rattle.tables.proofs.surveys.needed.Statement.{statement}
 use Rattle.tables.proofs.surveys.needed.Tie as tie

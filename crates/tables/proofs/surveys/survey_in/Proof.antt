@@ -2,8 +2,8 @@
 use mathlib.Core.Path.{sym, _∙_}
 use lib.Seq.{length-take-le}
 use Rattle.wiring.proofs.FileRows.{opened-as, opened-fits}
-use Rattle.tables.proofs.LevelListsByOwn.{judged-own}
-use Rattle.tables.proofs.WordPlaces.{file-refused, file-done}
+use Rattle.tables.proofs.lists.LevelListsByOwn.{judged-own}
+use Rattle.tables.proofs.filling.WordPlaces.{file-refused, file-done}
 use borrow.Author.Needs.{needs}
 use Rattle.tables.proofs.surveys.survey_in.Statement.{statement}
 use Rattle.tables.proofs.surveys.survey_in.Tie as tie

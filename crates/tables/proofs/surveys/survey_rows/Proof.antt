@@ -1,7 +1,7 @@
 -- survey_rows: past the causes by own lists, the counts and the word's place of the domain in rows.
 use mathlib.Core.Path.{sym, _∙_, ap}
-use Rattle.wiring.specs.Checks.{checkAnswer}
-use Rattle.tables.proofs.WordPlaces.{survey-refused, survey-good}
+use Rattle.wiring.specs.phys.Checks.{checkAnswer}
+use Rattle.tables.proofs.filling.WordPlaces.{survey-refused, survey-good}
 use borrow.Author.Needs.{needs}
 use Rattle.tables.proofs.surveys.survey_rows.Statement.{statement}
 use Rattle.tables.proofs.surveys.survey_rows.Tie as tie

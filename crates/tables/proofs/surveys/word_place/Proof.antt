@@ -3,8 +3,8 @@ use mathlib.Core.Path.{sym, _∙_, ap}
 use Rattle.wiring.specs.FrameDefinitions.{Result, then}
 use Rattle.tables.specs.JudgingCall.{judged}
 use Rattle.tables.specs.declared.Entry.{Entry}
-use Rattle.tables.specs.WordEntries.{Surveyed, surveyAnswer}
-use Rattle.tables.proofs.WordPlaces.{survey-place}
+use Rattle.tables.specs.filling.WordEntries.{Surveyed, surveyAnswer}
+use Rattle.tables.proofs.filling.WordPlaces.{survey-place}
 use borrow.Author.Needs.{needs}
 use Rattle.tables.proofs.surveys.word_place.Statement.{statement}
 use Rattle.tables.proofs.surveys.word_place.Tie as tie

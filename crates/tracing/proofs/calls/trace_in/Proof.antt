@@ -2,7 +2,7 @@
 use mathlib.Core.Path.{sym}
 use lib.Seq.{length-take-le}
 use Rattle.tables.proofs.WiringLemmas.{opened-as, opened-fits}
-use Rattle.tables.proofs.LevelListsByOwn.{judged-own}
+use Rattle.tables.proofs.lists.LevelListsByOwn.{judged-own}
 use Rattle.tracing.proofs.RequestCauses.{call-refused, call-done}
 use borrow.Author.Needs.{needs}
 use Rattle.tracing.proofs.calls.trace_in.Statement.{statement}

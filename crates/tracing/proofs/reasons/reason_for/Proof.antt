@@ -3,7 +3,7 @@ use Prim.Native.Nat.{ℕ}
 use mathlib.Core.Path.{sym, _∙_, ap}
 use borrow.Author.Needs.{needs}
 use Rattle.tables.specs.WiringDefinitions.{Domain, domainIn}
-use Rattle.tables.specs.Entries.{entries, counted}
+use Rattle.tables.specs.filling.Entries.{entries, counted}
 use Rattle.tracing.specs.Answers.{pickAnswer, listingPick, subtractingPick}
 use Rattle.tracing.specs.Reasons.{bySubtraction, byEntry}
 use Rattle.tracing.proofs.StepRules.{reason-here, reason-phy, reason-on}

@@ -3,7 +3,7 @@ use mathlib.Core.Path.{sym, _∙_, ap}
 use native.Mathlib.Omega.{arith}
 use borrow.Author.Needs.{needs}
 use Rattle.tables.specs.WiringDefinitions.{Domain, domainIn}
-use Rattle.tables.specs.Entries.{entries, counted}
+use Rattle.tables.specs.filling.Entries.{entries, counted}
 use Rattle.tracing.specs.Answers.{pickAnswer, subtractingPick}
 use Rattle.tracing.specs.Reasons.{because, bySubtraction}
 use Rattle.tracing.proofs.PhyPicks.{listing-range}

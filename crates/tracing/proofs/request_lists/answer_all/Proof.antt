@@ -5,7 +5,7 @@ use native.Mathlib.Omega.{arith}
 use lib.ListN.{length, drop, length-set}
 use lib.Seq.{sets}
 use Rattle.tables.specs.WiringDefinitions.{domainIn}
-use Rattle.tables.specs.Entries.{entries}
+use Rattle.tables.specs.filling.Entries.{entries}
 use Rattle.tracing.specs.RequestLists.{answersOf, requestCount}
 use Rattle.tracing.proofs.RequestLists.{answers-start, answers-go, answers-end}
 use borrow.Author.Needs.{needs}

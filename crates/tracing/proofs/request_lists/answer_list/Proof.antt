@@ -4,8 +4,8 @@ use native.Mathlib.Omega.{arith}
 use lib.ListN.{length}
 use borrow.Author.Tests.{le-leb, lt-leb}
 use Rattle.tables.specs.WiringDefinitions.{bytesFor, refusal, Domain, domainIn}
-use Rattle.tables.specs.Tables.{needed}
-use Rattle.tables.specs.Entries.{entries, roomOf}
+use Rattle.tables.specs.filling.Tables.{needed}
+use Rattle.tables.specs.filling.Entries.{entries, roomOf}
 use Rattle.tracing.specs.RequestLists.{requestCount, listFor}
 use Rattle.tracing.proofs.RequestLists.{list-by, list-no, list-yes}
 use borrow.Author.Needs.{needs}

@@ -4,7 +4,7 @@ use mathlib.Core.Path.{_∙_, ap}
 use native.Mathlib.Omega.{arith}
 use lib.ListN.{length-replicate}
 use Rattle.tables.specs.WiringDefinitions.{domainIn}
-use Rattle.tables.specs.Entries.{entries}
+use Rattle.tables.specs.filling.Entries.{entries}
 use Rattle.tables.proofs.WiringLemmas.{domain-few}
 use Rattle.tracing.specs.Packing.{packRefusal}
 use Rattle.tracing.proofs.RequestLists.{one-high, one-low}

@@ -3,8 +3,8 @@ use mathlib.Core.Path.{refl, sym, _∙_, subst}
 use lib.ListN.{length}
 use borrow.Author.Tests.{eq-eqb, ne-eqb, le-leb, not-true, not-false}
 use Rattle.tables.specs.WiringDefinitions.{bytesFor, Refusal, Domain, domainIn}
-use Rattle.tables.specs.Tables.{needed}
-use Rattle.tables.specs.Entries.{entries, roomOf}
+use Rattle.tables.specs.filling.Tables.{needed}
+use Rattle.tables.specs.filling.Entries.{entries, roomOf}
 use Rattle.tracing.specs.declared.TraceAnswer.the-variants.{Refused}
 use Rattle.tracing.specs.Trace.{request, tracedRequest, TraceDone}
 use Rattle.tracing.proofs.RequestCauses.{requested-by, answer-no, answer-yes}

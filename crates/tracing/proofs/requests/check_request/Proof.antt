@@ -4,7 +4,7 @@ use native.Mathlib.Omega.{arith}
 use lib.ListN.{length}
 use borrow.Author.Tests.{eq-eqb, ne-eqb, le-leb, lt-leb, not-true, not-false}
 use Rattle.tables.specs.WiringDefinitions.{bytesFor, Domain, domainIn, checkAnswer}
-use Rattle.tables.specs.Tables.{needed}
+use Rattle.tables.specs.filling.Tables.{needed}
 use Rattle.tracing.specs.Trace.{request}
 use Rattle.tracing.proofs.RequestCauses.{requested-by}
 use borrow.Author.Needs.{needs}

@@ -4,7 +4,7 @@ use lib.ListN.{length}
 use Rattle.tables.specs.WiringDefinitions.{Domain}
 use Rattle.tables.specs.WiringDefinitions.{domainIn}
 use Rattle.tables.specs.WiringDefinitions.{checkAnswer}
-use Rattle.tables.specs.Entries.{entries, roomOf}
+use Rattle.tables.specs.filling.Entries.{entries, roomOf}
 use Rattle.tracing.specs.Trace.{request}
 use Rattle.tracing.proofs.RequestCauses.{room, answer-no, answer-yes}
 use borrow.Author.Needs.{needs}

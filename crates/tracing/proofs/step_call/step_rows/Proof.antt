@@ -2,7 +2,7 @@
 use mathlib.Core.Path.{sym, _∙_, ap, ap₂}
 use borrow.Author.Needs.{needs}
 use Rattle.tables.specs.WiringDefinitions.{Domain, domainIn, checkAnswer}
-use Rattle.tables.specs.Entries.{entries}
+use Rattle.tables.specs.filling.Entries.{entries}
 use Rattle.tracing.specs.declared.Reason.{Reason}
 use Rattle.tracing.specs.Steps.{Step}
 use Rattle.tracing.specs.Trace.{request}

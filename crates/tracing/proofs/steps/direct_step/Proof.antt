@@ -1,7 +1,7 @@
 -- direct_step meets its contract: the phy that (ii) picks bears the address, so it is attached; without one the table step follows.
 use mathlib.Core.Path.{sym, _∙_, ap}
 use Rattle.tables.specs.WiringDefinitions.{Domain, domainIn}
-use Rattle.tables.specs.Entries.{entries, counted}
+use Rattle.tables.specs.filling.Entries.{entries, counted}
 use Rattle.tracing.specs.Steps.{Step}
 use Rattle.tracing.specs.Answers.{pickAnswer, tableStep}
 use Rattle.tracing.proofs.PhyPicks.{bearing-attached, direct-at, direct-none}

@@ -5,7 +5,7 @@ use borrow.Author.Tests.{eq-eqb, ne-eqb, le-leb, lt-leb}
 use Rattle.tables.specs.WiringDefinitions.{Phy}
 use Rattle.tables.specs.WiringDefinitions.{Domain, phyAt, typeOf, attributeOf}
 use Rattle.tables.specs.WiringDefinitions.{domainIn}
-use Rattle.tables.specs.Entries.{entries, counted}
+use Rattle.tables.specs.filling.Entries.{entries, counted}
 use Rattle.tracing.proofs.PhyPicks.{in-stretch}
 use borrow.Author.Needs.{needs}
 use Rattle.tracing.proofs.steps.is_listing.Statement.{statement}

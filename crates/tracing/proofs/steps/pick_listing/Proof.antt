@@ -7,8 +7,8 @@ use Rattle.tables.specs.WiringDefinitions.{numbers}
 use Rattle.tables.specs.WiringDefinitions.{Domain}
 use Rattle.tables.specs.WiringDefinitions.{domainIn}
 use Rattle.tables.specs.WiringDefinitions.{phyPlaces}
-use Rattle.tables.specs.Tables.{sizes}
-use Rattle.tables.specs.Entries.{entries, counted}
+use Rattle.tables.specs.filling.Tables.{sizes}
+use Rattle.tables.specs.filling.Entries.{entries, counted}
 use Rattle.tracing.specs.Steps.{pick, listing}
 use Rattle.tracing.specs.Answers.{listingPick, wordsBefore}
 use Rattle.tracing.proofs.StretchOffsets.{phys-none, phys-next, offset-is}

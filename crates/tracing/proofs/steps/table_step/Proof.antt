@@ -1,7 +1,7 @@
 -- table_step meets its contract: the phy that (iii) picks is attached to an expander; without one the subtractive step follows.
 use mathlib.Core.Path.{sym, _∙_, ap}
 use Rattle.tables.specs.WiringDefinitions.{Domain, domainIn}
-use Rattle.tables.specs.Entries.{entries, counted}
+use Rattle.tables.specs.filling.Entries.{entries, counted}
 use Rattle.tracing.specs.Answers.{pickAnswer, subtractiveStep}
 use Rattle.tracing.proofs.PhyPicks.{listing-far, table-at, table-none}
 use borrow.Author.Needs.{needs}

@@ -4,7 +4,7 @@ use mathlib.Core.Path.{sym, _∙_, ap}
 use borrow.Author.Tests.{eq-eqb, ne-eqb}
 use Rattle.tables.specs.WiringDefinitions.{Domain, expanderAt}
 use Rattle.tables.specs.WiringDefinitions.{domainIn}
-use Rattle.tables.specs.Entries.{entries, counted}
+use Rattle.tables.specs.filling.Entries.{entries, counted}
 use Rattle.tracing.specs.Answers.{directStep}
 use Rattle.tracing.proofs.PhyPicks.{step-by}
 use borrow.Author.Needs.{needs}

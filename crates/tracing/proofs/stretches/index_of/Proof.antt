@@ -6,8 +6,8 @@ use native.Mathlib.Nat.{zero-add, sub-zero}
 use lib.ListN.{take, drop}
 use borrow.Author.Tests.{eqb-true, eqb-false}
 use Rattle.tables.specs.WiringDefinitions.{bitsOf}
-use Rattle.tables.specs.Entries.{entries, counted}
-use Rattle.tables.proofs.CountedWords.{counted-length}
+use Rattle.tables.specs.filling.Entries.{entries, counted}
+use Rattle.tables.proofs.filling.CountedWords.{counted-length}
 use Rattle.tracing.specs.Reasons.{indexOf}
 use Rattle.tracing.proofs.StepRules.{index-out, index-stop, index-go, index-end}
 use borrow.Author.Needs.{needs}

@@ -4,8 +4,8 @@ use native.Mathlib.Omega.{arith}
 use lib.ListN.{take, drop}
 use borrow.Author.Tests.{eqb-true, eqb-false}
 use Rattle.tables.specs.WiringDefinitions.{isIn, bitsOf}
-use Rattle.tables.specs.Entries.{entries, counted}
-use Rattle.tables.proofs.CountedWords.{counted-length}
+use Rattle.tables.specs.filling.Entries.{entries, counted}
+use Rattle.tables.proofs.filling.CountedWords.{counted-length}
 use Rattle.tracing.proofs.StretchOffsets.{lists-out, lists-stop, lists-go, lists-end}
 use Rattle.tracing.proofs.stretches.lists.Statement.{statement}
 use Rattle.tracing.proofs.stretches.lists.Tie as tie

@@ -3,7 +3,7 @@ use Prim.Native.Nat.{_+_, _-_, _*_, _≤_}
 use mathlib.Core.Path.{_≡_, sym, _∙_}
 use native.Mathlib.Omega.{arith}
 use Rattle.tables.specs.WiringDefinitions.{domainIn, phyPlaces}
-use Rattle.tables.specs.Tables.{sizes}
+use Rattle.tables.specs.filling.Tables.{sizes}
 use Rattle.tracing.specs.Answers.{wordsBefore}
 use Rattle.tracing.proofs.StretchOffsets.{phys-none, phys-next, offset-is}
 use borrow.Author.Needs.{needs}

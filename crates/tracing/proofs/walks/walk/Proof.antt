@@ -6,7 +6,7 @@ use native.Mathlib.Nat.{sub-zero}
 use lib.ListN.{length, take, drop, length-set}
 use Rattle.tables.specs.WiringDefinitions.{Domain}
 use Rattle.tables.specs.WiringDefinitions.{domainIn}
-use Rattle.tables.specs.Entries.{entries, counted}
+use Rattle.tables.specs.filling.Entries.{entries, counted}
 use Rattle.tracing.specs.declared.Outcome.the-variants.{Arrived, NoDestination, BadDestination}
 use Rattle.tracing.specs.Trace.{after, afterStep, traceFrom, request, traced}
 use Rattle.tracing.specs.Answers.{stepAnswer}

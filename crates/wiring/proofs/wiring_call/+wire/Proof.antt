@@ -3,7 +3,7 @@ use mathlib.Core.Path.{sym}
 use native.Mathlib.Omega.{arith}
 use lib.ListN.{length}
 use lib.Seq.{length-take-le}
-use Rattle.wiring.specs.Neighbours.{wiringCall}
+use Rattle.wiring.specs.graph.Neighbours.{wiringCall}
 use Rattle.files.proofs.PastLimits.{header-cut}
 use borrow.Author.Needs.{needs}
 use Prim.Native.Nat.{ℕ, _<_}

@@ -1,6 +1,6 @@
 -- wire_rows meets its contract: the causes in order, the room, and the words.
 use mathlib.Core.Path.{sym, _∙_, ap}
-use Rattle.wiring.specs.Checks.{checkAnswer}
+use Rattle.wiring.specs.phys.Checks.{checkAnswer}
 use Rattle.wiring.proofs.CheckOutcomes.{wiring-refused, wiring-short, wiring-done}
 use borrow.Author.Needs.{needs}
 use native.Mathlib.Omega.{arith}

@@ -1,0 +1,9 @@
+-- Tables in words with their disable bits.
+pub mod TableLengths
+pub mod TableStretches
+pub mod CountedWords
+pub mod FilledTable
+pub mod TablesPut
+pub mod WordPlaces
+pub mod WordEntries
+pub mod WorkedTables

@@ -1,0 +1,120 @@
+-- put_tables meets its contract: the words so far, with the tables of the phys from p on put in, are the words after the call.
+use Prim.Native.Nat.{ℕ, _+_, _-_, _≤_}
+use mathlib.Core.List.{List, [], _∷_}
+use mathlib.Core.Path.{_≡_, refl, sym, _∙_, ap}
+use native.Mathlib.Omega.{arith}
+use lib.ListN.{length, List·getD-eq-default}
+use lib.Seq.{length-take-le}
+use Rattle.files.proofs.RowsAsDomain.{phy-held}
+use Rattle.files.specs.declared.Phy.the-variants.{Vacant}
+use Rattle.files.specs.Domain.{Domain, expanderAt, phyAt}
+use Rattle.wiring.specs.phys.PhyCauses.{Place, place, phyPlaces}
+use Rattle.files.specs.Rows.{domainIn}
+use Rattle.wiring.proofs.index.SlotDevices.{short-in}
+use Rattle.tables.specs.filling.Tables.{sizes}
+use Rattle.tables.specs.lists.GrowingLists.{Grown, placesAt, overlay}
+use Rattle.tables.specs.lists.PreparedLists.{orderOf, ownTablesOf}
+use Rattle.tables.proofs.lists.GrowingLists.{grown-kept, grown-again}
+use Rattle.tables.proofs.levels.LevelOrders.{order-none}
+use Rattle.tables.proofs.filling.TablesPut.{phys-next, phys-last, phys-sizes, sizes-none, length-tables, put-go, put-long, put-end}
+use borrow.Author.Needs.{needs}
+use Rattle.tables.proofs.filling.all_tables.put_tables.Statement.{statement}
+use Rattle.tables.proofs.filling.all_tables.put_tables.Tie as tie
+
+abbrev Inv-loop : tie.InvT-loop
+Inv-loop rows first lists downstream order₀ i words₀ at n to₀ q₀ g₀ m₀ p₀ order words to q g m p =
+    (p ≤ n)
+    × ((length order ≡ length order₀)
+    × (((g ≡ phyAt (domainIn rows) (i .0) (q .0)) × Grown order order m (orderOf (domainIn rows) g))
+    × ((length words ≡ length words₀)
+    × ((to + sizes (domainIn rows) (phyPlaces (i .0) p (n - p)) ≡ at + sizes (domainIn rows) (placesAt (domainIn rows) (i .0)))
+    × (overlay words to (ownTablesOf (domainIn rows) (phyPlaces (i .0) p (n - p)))
+    ≡ overlay words₀ at (ownTablesOf (domainIn rows) (placesAt (domainIn rows) (i .0))))))))
+
+abbrev μ-loop : tie.MeasureT-loop
+μ-loop rows first lists downstream order₀ i words₀ at n to₀ q₀ g₀ m₀ p₀ order words to q g m p = n - p
+
+phy-count-requires : tie.Need-phy-count-requires Inv-loop μ-loop
+phy-count-requires c κs = search needs
+
+loop-holds : tie.Need-loop-holds Inv-loop μ-loop
+loop-holds c =
+    let a = (c .before .before .before .before .before .before .before .args) in
+    let d : Domain = domainIn (a .rows .now) in
+    let e : c .phy-count .result - 0 ≡ length (expanderAt d (a .i .0) .phys) = omega arith in
+    let o = grown-kept 0 (a .order .now) (order-none d (Vacant 0) refl) (omega arith) in
+    let s = ap (λ (x : ℕ). a .at + sizes d (phyPlaces (a .i .0) 0 x)) e in
+    let none : Vacant 0 ≡ phyAt d (a .i .0) 255 = sym (List·getD-eq-default (expanderAt d (a .i .0) .phys) (Vacant 0) (omega (arith, short-in (a .rows .now) (a .i .0)))) in
+    (omega arith, (refl, ((none, o), (refl, (s, ap (λ (x : ℕ). overlay (a .words .now) (a .at) (ownTablesOf d (phyPlaces (a .i .0) 0 x))) e)))))
+
+phy-in-row-requires : tie.Need-phy-in-row-requires Inv-loop μ-loop
+phy-in-row-requires c κs = search needs
+
+order-for-requires : tie.Need-order-for-requires Inv-loop μ-loop
+order-for-requires c κs =
+    let at-pre = c .before .before .before .before .before .before .before .before .before .before .before .pre in
+    ((record { index = at-pre .0; phy = (c .before .phy-in-row) .ensures ∙ phy-held _ _ _ (omega arith) }, (c .before .before .before .loop) .inv .1 .1 .0 .0), (at-pre .1 .1 .0, (omega (arith, at-pre .1 .1 .1 .0), (c .before .before .before .loop) .inv .1 .1 .0 .1)))
+
+slice-reshare-prefix-put-table : tie.Need-slice-reshare-prefix-put-table Inv-loop μ-loop
+slice-reshare-prefix-put-table c = omega (arith, (c .before .before .order-for) .ensures .same, (c .before .before .order-for) .ensures .fits)
+
+slice-aggregate-put-table : tie.Need-slice-aggregate-put-table Inv-loop μ-loop
+slice-aggregate-put-table c = sym (length-take-le ((c .before .before .before .order-for) .result) _ (omega (arith, (c .before .before .before .order-for) .ensures .same, (c .before .before .before .order-for) .ensures .fits)))
+
+put-table-requires : tie.Need-put-table-requires Inv-loop μ-loop
+put-table-requires c κs =
+    let at-args = c .before .before .before .before .before .before .before .before .before .before .before .before .before .before .before .before .args in
+    let at-phy-in-row = c .before .before .before .before .before .before .phy-in-row in
+    let at-pre = c .before .before .before .before .before .before .before .before .before .before .before .before .before .before .before .before .pre in
+    let at-phy-count = c .before .before .before .before .before .before .before .before .before .phy-count in
+    let at-loop = c .before .before .before .before .before .before .before .before .loop in
+    let q = (c .before .before .before .before .order-for) .ensures .whole ∙ ap (orderOf (domainIn (at-args .rows .now))) (at-phy-in-row .ensures ∙ phy-held _ _ _ (omega arith)) in
+    (at-pre .1 .0, (q, (at-pre .1 .1 .1 .1 .0, omega (arith, phys-sizes (domainIn (at-args .rows .now)) (at-args .i .0) (at-phy-count .result) (at-loop .p) (omega arith)))))
+
+add-p : tie.Need-add-p Inv-loop μ-loop
+add-p c = omega arith
+
+loop-less : tie.Need-loop-less Inv-loop μ-loop
+loop-less c = omega arith
+
+loop-again : tie.Need-loop-again Inv-loop μ-loop
+loop-again c =
+    let at-phy-count = c .before .before .before .before .before .before .before .before .before .before .before .before .phy-count in
+    let at-order-for = c .before .before .before .before .before .before .before .order-for in
+    let at-pre = c .before .before .before .before .before .before .before .before .before .before .before .before .before .before .before .before .before .before .before .pre in
+    let a = (c .before .before .before .before .before .before .before .before .before .before .before .before .before .before .before .before .before .before .before .args) in
+    let l = (c .before .before .before .before .before .before .before .before .before .before .before .loop) in
+    let d : Domain = domainIn (a .rows .now) in
+    let n : ℕ = at-phy-count .result in
+    let o = at-order-for .ensures in
+    let f = (c .before .before .before .before .before .before .before .before .before .phy-in-row) in
+    let u = (c .before .before .put-table) .ensures in
+    let rest : List Place = phyPlaces (a .i .0) (l .p) (n - l .p) in
+    let piece : List Place = place (a .i .0) (l .p) ∷ [] in
+    let e = phys-next (a .i .0) n (l .p) (omega arith) in
+    let v = l .inv .1 .1 .1 in
+    let s = put-long d (l .to) rest piece _ (u .next) e ∙ v .1 .0 in
+    let g = put-go d (l .words) (l .to) rest (v .1 .1) piece _ u e (omega (arith, at-pre .1 .1 .1 .1 .1, v .0, v .1 .0)) in
+    (omega arith, (o .same ∙ l .inv .1 .0, ((f .ensures ∙ phy-held _ _ _ (omega arith), grown-again o), (u .same ∙ v .0, (s, g)))))
+
+same-length : tie.Need-same-length Inv-loop μ-loop
+same-length c = search needs
+
+same-length-2 : tie.Need-same-length-2 Inv-loop μ-loop
+same-length-2 c = search needs
+
+returns : tie.Need-returns Inv-loop μ-loop
+returns c =
+    let a = (c .before .before .before .before .before .before .before .before .before .args) in
+    let l = (c .before .loop) in
+    let d : Domain = domainIn (a .rows .now) in
+    let v = l .inv .1 .1 .1 in
+    let e = phys-last (a .i .0) ((c .before .before .phy-count) .result) (l .p) (omega arith) in
+    record {
+      same = v .0;
+      next = omega (arith, sizes-none d _ e, length-tables d (placesAt d (a .i .0)));
+      words = put-end d (l .words) (l .to) _ (v .1 .1) e;
+    }
+
+pub put-tables-spec : {M : Type 1} → statement M
+put-tables-spec = tie.close (tie.spec Inv-loop μ-loop phy-count-requires loop-holds phy-in-row-requires order-for-requires slice-reshare-prefix-put-table slice-aggregate-put-table put-table-requires add-p loop-less loop-again same-length same-length-2 returns)

@@ -1,0 +1,95 @@
+-- copy_own meets its contract: the cell of expander i has the length of its own list, and then the list.
+use Prim.Native.Nat.{ℕ, _+_, _-_, _*_, _<_}
+use mathlib.Core.List.{List, _++_, append-nil}
+use mathlib.Core.Path.{_≡_, _∙_, ap}
+use native.Mathlib.Omega.{arith}
+use lib.ListN.{length, getD, take, drop}
+use Rattle.files.specs.Domain.{Domain}
+use Rattle.files.specs.Rows.{domainIn}
+use Rattle.tables.specs.lists.OwnLists.{ownWords}
+use Rattle.tables.specs.lists.PreparedLists.{OwnListsHeld}
+use Rattle.tables.proofs.lists.GrowingLists.{grown-kept, grown-same}
+use Rattle.tables.proofs.lists.OwnListLoops.{own-count, own-list, own-fits, own-none, own-few}
+use borrow.Author.Needs.{needs}
+use Rattle.tables.proofs.filling.table_filling.copy_own.Statement.{statement}
+use Rattle.tables.proofs.filling.table_filling.copy_own.Tie as tie
+
+-- expander i's own list as a part of the lent words
+part-own : (d : Domain) (words : List ℕ) → OwnListsHeld d words → (i : ℕ) → i < length d
+    → take (129 * i + 1 + getD words (129 * i) 0 - (129 * i + 1)) (drop (129 * i + 1) words) ≡ ownWords d i
+part-own d words held i h =
+    let k : 129 * i + 1 + getD words (129 * i) 0 - (129 * i + 1) ≡ length (ownWords d i) = omega (arith, own-count d words held i h) in
+    ap (λ (m : ℕ). take m (drop (129 * i + 1) words)) k ∙ own-list d words held i h
+
+expander-count-requires : tie.Need-expander-count-requires
+expander-count-requires c κs = search needs
+
+returns : tie.Need-returns
+returns c =
+    let a = c .before .before .before .before .before .before .args in
+    let e = c .before .before .expander-count .ensures .0 in
+    let l : List ℕ = take (a .n) (a .part .now) in
+    let o = own-none (domainIn (a .rows .now)) (a .i .0) (omega arith) in
+    grown-kept (a .n) (a .part .now) (ap (λ (m : List ℕ). l ++ m) o ∙ append-nil l) (omega arith)
+
+cast-a : tie.Need-cast-a
+cast-a c = search needs
+
+mul-a : tie.Need-mul-a
+mul-a c = search needs
+
+add-from : tie.Need-add-from
+add-from c = search needs
+
+mul-to : tie.Need-mul-to
+mul-to c = search needs
+
+shared-slice-read-to : tie.Need-shared-slice-read-to
+shared-slice-read-to c = search needs
+
+add-to : tie.Need-add-to
+add-to c =
+    let s = c .before .before .before .before .before .before .before .before in
+    let e = c .before .before .before .before .expander-count .ensures .0 in
+    let d : Domain = domainIn (s .args .rows .now) in
+    omega (arith, own-count d (s .args .lists .now) (s .pre .0) (s .args .i .0) (omega arith), own-few (s .args .rows .now) (s .args .i .0))
+
+mul-copy-words : tie.Need-mul-copy-words
+mul-copy-words c = search needs
+
+sub-copy-words : tie.Need-sub-copy-words
+sub-copy-words c = search needs
+
+part-copy-words-start : tie.Need-part-copy-words-start
+part-copy-words-start c = search needs
+
+part-copy-words-end : tie.Need-part-copy-words-end
+part-copy-words-end c =
+    let s = c .before .before .before .before .before .before .before .before in
+    let e = c .before .before .before .before .expander-count .ensures .0 in
+    let d : Domain = domainIn (s .args .rows .now) in
+    let n = own-count d (s .args .lists .now) (s .pre .0) (s .args .i .0) (omega arith) in
+    omega (arith, own-fits d (s .args .lists .now) (s .pre .0) (s .args .i .0) (omega arith))
+
+copy-words-requires : tie.Need-copy-words-requires
+copy-words-requires c κs =
+    let at-expander-count = c .before .before .before .before .before .before .expander-count in
+    let s = c .before .before .before .before .before .before .before .before .before .before in
+    let a = s .args in
+    let e = at-expander-count .ensures .0 in
+    omega (arith, ap length (part-own (domainIn (a .rows .now)) (a .lists .now) (s .pre .0) (a .i .0) (omega arith)))
+
+same-length : tie.Need-same-length
+same-length c = search needs
+
+returns-2 : tie.Need-returns-2
+returns-2 c =
+    let at-expander-count = c .before .before .before .before .before .before .before .before .before .expander-count in
+    let s = c .before .before .before .before .before .before .before .before .before .before .before .before .before in
+    let a = s .args in
+    let e = at-expander-count .ensures .0 in
+    grown-same (c .before .before .copy-words .ensures) (ap (λ (m : List ℕ). take (a .n) (a .part .now) ++ m)
+    (part-own (domainIn (a .rows .now)) (a .lists .now) (s .pre .0) (a .i .0) (omega arith)))
+
+pub copy-own-spec : {M : Type 1} → statement M
+copy-own-spec = tie.close (tie.spec expander-count-requires returns cast-a mul-a add-from mul-to shared-slice-read-to add-to mul-copy-words sub-copy-words part-copy-words-start part-copy-words-end copy-words-requires same-length returns-2)

@@ -1,0 +1,48 @@
+-- What the functions that write touched tables afresh promise: the numbers from a place on renewed, how far they went, and what they counted.
+use Prim.Native.Nat.{ℕ, _+_, _*_, _≤_, _<_}
+use mathlib.Core.Path.{_≡_}
+use mathlib.Core.Bool.{Bool, _&&_}
+use mathlib.Core.List.{List, _++_}
+use lib.ListN.{length, take, drop}
+pub use Rattle.frames.specs.Bits.{withBit}
+use Rattle.wiring.specs.FrameDefinitions.{bitsOf, zeroBits}
+use Rattle.files.specs.Lists.{keep}
+use Rattle.files.specs.declared.Phy.{Phy}
+use Rattle.files.specs.Domain.{Domain, isTable, toExpander}
+use Rattle.wiring.specs.phys.PhyCauses.{Place}
+use Rattle.tables.specs.filling.Tables.{size, sizes}
+use Rattle.tables.specs.filling.Entries.{Entries, roomOf}
+use Rattle.tables.specs.events.TouchedTables.{renewed, changed}
+use Rattle.tables.specs.events.ReplugCall.{ownTouched, ownTableAt}
+use Rattle.tables.specs.declared.events.refilling.Tally.{Tally}
+
+-- numbers renewed from a place on, where the tables at these places stand one after the other
+unfoldable pub renewedAt : Domain → (Place → Bool) → (Place → List ℕ) → List Place → ℕ → List ℕ → List ℕ
+renewedAt d test new qs at l = take at l ++ renewed test (size d) new qs (drop at l)
+
+-- a table phy attached to an expander: no other phy has levels
+abbrev pub tableLink : Phy → Bool
+tableLink φ = isTable φ && toExpander φ
+
+-- a place that is passed over: its words are gone through, and nothing is counted
+pub record Passed (d : Domain) (q : Place) (s r : Tally) : Type 0 where
+  pub next : r .at ≡ s .at + size d q
+  pub tables : r .tables ≡ s .tables
+  pub words : r .words ≡ s .words
+  pub few : size d q < 65536
+
+-- from one tally to the next at n places: at most 65536 words and one table for each, and no more words changed than gone through
+pub record TallyBounds (n : ℕ) (s r : Tally) : Type 0 where
+  pub far : r .at ≤ s .at + 65536 * n
+  pub few : r .tables ≤ s .tables + n
+  pub less : r .words + s .at ≤ s .words + r .at
+
+-- the tables at these places gone through: those with expander e in their order are written afresh with their bits, and are counted as
+-- the words changed are
+pub record Rewritten (d : Domain) (e : ℕ) (qs : List Place) (s r : Tally) (before after : Entries) : Type 0 where
+  pub same : roomOf after ≡ roomOf before
+  pub words : after .words ≡ renewedAt d (ownTouched d e) (ownTableAt d) qs (s .at) (before .words)
+  pub bits : bitsOf (after .bits) ≡ renewedAt d (ownTouched d e) (λ q. zeroBits (ownTableAt d q)) qs (s .at) (bitsOf (before .bits))
+  pub next : r .at ≡ s .at + sizes d qs
+  pub counted : r .tables ≡ s .tables + length (keep (ownTouched d e) qs)
+  pub differs : r .words ≡ s .words + changed (before .words) (after .words)

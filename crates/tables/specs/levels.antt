@@ -1,0 +1,2 @@
+-- The levels of a table phy.
+pub mod Levels

@@ -1,0 +1,4 @@
+-- Level lists, own lists, and cause 14.
+pub mod OwnLists
+pub mod PreparedLists
+pub mod GrowingLists

@@ -1,0 +1,3 @@
+-- Who has an address.
+pub mod AddressIndex
+pub mod SearchTree

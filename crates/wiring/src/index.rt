@@ -1,0 +1,2 @@
+// Who has an address.
+pub(crate) mod addresses;
