@@ -35,24 +35,6 @@ pub(crate) fn bits_at(s: &[u8], at: usize, width: usize) -> u64
     word_from(s, at) >> (64 - width)
 }
 
-// The weight of bit r of a byte, from the most significant one on.
-fn weight(r: usize) -> u64
-    requires { ⌜ r < 8 ⌝ }
-    ensures { λ m. ⌜ (m ≡ 2 ^ (7 - r)) × ((0 < m) × (m ≤ 128)) ⌝ }
-{
-    1 << (7 - r)
-}
-
-// A byte with b as its bit r, from the most significant one on.
-fn with_bit(byte: u8, r: usize, b: u64) -> u8
-    requires { ⌜ (r < 8) × (b < 2) ⌝ }
-    ensures { λ x. ⌜ x ≡ withBit byte (7 - r) b ⌝ }
-{
-    let m = weight(r);
-    let v = byte as u64;
-    (v / (2 * m) * (2 * m) + (b * m + v % m)) as u8
-}
-
 // Sets the bit that stands r bits after byte j starts to b; nothing past the end.
 fn set_bit(s: &mut [u8], j: usize, r: usize, b: u64)
     requires { ⌜ (r < 8) × (b < 2) ⌝ }
@@ -60,7 +42,7 @@ fn set_bit(s: &mut [u8], j: usize, r: usize, b: u64)
 {
     if j < s.len() {
         let v = s[j];
-        s[j] = with_bit(v, r, b);
+        s[j] = wiring::with_bit(v, r, b);
     }
 }
 

@@ -14,29 +14,6 @@ use Rattle.frames.proofs.PackedBits.{pow-suc, length-numberBits}
 use Rattle.frames.proofs.NumberBits.{bit-set, low-lt}
 use Rattle.frames.proofs.PackedRows.{set-past}
 
--- the weight of a bit in its byte
-pub weighed : (r : ℕ) → ((1 * 2 ^ (7 - r)) % 2 ^ 64 ≡ 2 ^ (7 - r)) × ((0 < (1 * 2 ^ (7 - r)) % 2 ^ 64) × ((1 * 2 ^ (7 - r)) % 2 ^ 64 ≤ 128))
-weighed r =
-    let e : (1 * 2 ^ (7 - r)) % 2 ^ 64 ≡ 2 ^ (7 - r) = shl-exact {a = 1} 1 (7 - r) 64 (omega arith) (omega arith) ∙ one-mul (2 ^ (7 - r)) in
-    let p = pow-pos (7 - r) in
-    let q : 2 ^ (7 - r) ≤ 2 ^ 7 = pow-mono {i = 7 - r} {j = 7} (omega arith) in
-    (e, (omega arith, omega arith))
-
--- a byte with another bit, in the code's terms
-pub record Mixed (v m b : ℕ) : Type 0 where
-  pub high : v / (2 * m) * (2 * m) ≤ v
-  pub middle : b * m ≤ m
-  pub low : v % m < m
-
-pub mixed : (v m b : ℕ) → 0 < m → b < 2 → Mixed v m b
-mixed v m b h k =
-    let b1 : b ≤ 1 = omega arith in
-    let e : b * m ≤ 1 * m = mul-le-mul-right m b1 in
-    record { high = div-mul-le-self v (2 * m); middle = omega arith; low = mod-lt v h }
-
-pub mixed-is : (v m b n : ℕ) → m ≡ 2 ^ n → v / (2 * m) * (2 * m) + (b * m + v % m) ≡ withBit v n b
-mixed-is v m b n e = rw (e, pow-suc n)
-
 -- a number by a bit and what stands around it
 parts : (v k : ℕ) → v ≡ withBit v k (v / 2 ^ k % 2)
 parts v k =

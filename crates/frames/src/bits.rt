@@ -2,7 +2,7 @@
 ghost use mathlib.Core.Path.{_≡_};
 ghost use Prim.Native.Nat.{_+_, _-_, _%_, _^_, _<_};
 ghost use lib.ListN.{getD, drop};
-ghost use Rattle.frames.specs.Bits.{field, bitsOf, bytesFor, zeroBits, marked};
+ghost use Rattle.frames.specs.Bits.{withBit, field, bitsOf, bytesFor, zeroBits, marked};
 
 // The weight of bit k in its byte.
 fn weight(k: usize) -> u8
@@ -21,6 +21,15 @@ pub fn bit_at(s: &[u8], k: usize) -> u8
         return s[j] / m % 2;
     }
     0
+}
+
+// A byte with b as its bit k, counted on from byte to byte; of both what is left by eight and by two.
+pub fn with_bit(byte: u8, k: usize, b: u64) -> u8
+    ensures { λ r. ⌜ r ≡ withBit byte (7 - k % 8) (b % 2) ⌝ }
+{
+    let m = weight(k) as u64;
+    let v = byte as u64;
+    (v - (v & m) + b % 2 * m) as u8
 }
 
 // How many bytes n bits take: n over eight, rounded up.

@@ -12,6 +12,7 @@ mod sizes;
 pub use bits::bit_at;
 pub use bits::bytes_for;
 pub use bits::mark_zeros;
+pub use bits::with_bit;
 pub use bytes::address_at;
 pub use bytes::byte_at;
 pub use bytes::put_address;

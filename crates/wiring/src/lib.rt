@@ -69,6 +69,7 @@ pub use frames::read_general_sas2;
 pub use frames::read_route;
 pub use frames::refusal_at;
 pub use frames::refused;
+pub use frames::with_bit;
 
 // How many slots of the index of addresses are expanders'.
 pub(crate) const EXPANDER_SLOTS: usize = 64;

@@ -11,17 +11,17 @@ use Rattle.frames.proofs.PackedBits.{length-bitsOf}
 use Rattle.frames.proofs.DisableBits.{bits-zeroBits, marked-room}
 use Rattle.frames.proofs.PackedRows.{sets-append, bitsOf-append, bitsOf-drop, unpacked}
 use Rattle.frames.proofs.SetBits.{bits-set}
-pub use Rattle.frames.proofs.SetBits.{weighed, bit-worth, with-is, withBit-lt}
 use Rattle.files.proofs.OneMore.{drop-next}
 use Rattle.tables.specs.lists.GrowingLists.{overlay}
 use Rattle.tables.specs.events.TablesRewritten.{withBit}
 
 -- bit k of bytes replaced, by its byte
-pub bit-replaced : (s : List ℕ) (k b x : ℕ) → x ≡ withBit (getD s (k / 8) 0) (7 - k % 8) b → k < 8 * length s → b < 2
+pub bit-replaced : (s : List ℕ) (k b x : ℕ) → x ≡ withBit (getD s (k / 8) 0) (7 - k % 8) (b % 2) → k < 8 * length s → b < 2
     → bitsOf (set s (k / 8) x) ≡ set (bitsOf s) k b
 bit-replaced s k b x q h i =
     let e : 8 * (k / 8) + k % 8 ≡ k = omega arith in
-    ap (λ (v : ℕ). bitsOf (set s (k / 8) v)) q ∙ bits-set s (k / 8) (k % 8) b (omega arith) (omega arith) i ∙ ap (λ (j : ℕ). set (bitsOf s) j b) e
+    let m : b % 2 ≡ b = omega arith in
+    ap (λ (v : ℕ). bitsOf (set s (k / 8) v)) (q ∙ ap (withBit (getD s (k / 8) 0) (7 - k % 8)) m) ∙ bits-set s (k / 8) (k % 8) b (omega arith) (omega arith) i ∙ ap (λ (j : ℕ). set (bitsOf s) j b) e
 
 -- disable bits one by one: the start, a turn and the end
 zeroBits-next : (words : List ℕ) (k : ℕ) → k < length words → zeroBits (drop k words) ≡ zeroBit (getD words k 0) ∷ zeroBits (drop (k + 1) words)

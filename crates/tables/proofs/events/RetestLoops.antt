@@ -2,17 +2,16 @@
 -- address, and one own list more among those that stand. `inv` is the loop's invariant.
 use Prim.Native.Nat.{ℕ, zero, suc, _+_, _-_, _*_, _≤_, _<_}
 use mathlib.Core.Path.{_≡_, refl, sym, _∙_, ap, ap₂}
-use mathlib.Core.Logic.{_≢_, by-cases}
-use mathlib.Core.Bool.{Bool, true, false, cond, _||_, _&&_}
+use mathlib.Core.Logic.{by-cases}
+use mathlib.Core.Bool.{Bool, true, false, _||_, _&&_}
 use mathlib.Core.List.{List, [], _∷_, _++_}
 use native.Mathlib.Decide.{decLt}
 use native.Mathlib.Omega.{arith}
 use native.Mathlib.Nat.{zero-add, add-zero}
 use native.Mathlib.Numerals.{add-one}
-use lib.ListN.{length, getD, take, drop, set, length-take, drop-of-length-le}
-use lib.Seq.{take-suc, drop-cons, getD-take, drop-set-lt, drop-append-add, drop-drop, length-take-le}
+use lib.ListN.{length, getD, take, drop, set, length-take}
+use lib.Seq.{take-suc, getD-take, drop-set-lt, drop-append-add, drop-drop, length-take-le}
 use lib.Dec.{eqb, ltb}
-use borrow.Author.Tests.{eq-eqb, ne-eqb, lt-ltb, le-ltb}
 use Rattle.wiring.specs.FrameDefinitions.{Result, refused, good, then}
 use Rattle.wiring.specs.declared.Check.{Check}
 use Rattle.wiring.specs.declared.Check.the-variants.{Refused, Passed}
@@ -31,28 +30,6 @@ use Rattle.tables.specs.lists.PreparedLists.{Cells, ownOverlong}
 use Rattle.tables.specs.events.ReplugCall.{claimedWith, retested, OwnListsHeldBut}
 use Rattle.tables.specs.events.EndDeviceTests.{isEnd, endsAt, isFound}
 use Rattle.tables.proofs.lists.ListCells.{cells-put}
-
--- the first expander with an address
-module _ (d : Domain) (s i : ℕ) (inv : i + numberOf (drop i d) s ≡ numberOf d s) where
-  number-next : i < length d → numberOf (drop i d) s ≡ cond (eqb (expanderAt d i .address) s) 0 (suc (numberOf (drop (i + 1) d) s))
-  unfolding numberOf
-  number-next h = rw (drop-cons d i noExpander h, add-one) refl
-
-  pub expander-stop : i < length d → expanderAt d i .address ≡ s → true ≡ ltb (numberOf d s) (length d)
-  expander-stop h q =
-      let e : numberOf (drop i d) s ≡ 0 = number-next h ∙ rw (eq-eqb (expanderAt d i .address) s q) refl in
-      sym (lt-ltb (numberOf d s) (length d) (omega arith))
-
-  pub expander-go : i < length d → expanderAt d i .address ≢ s → i + 1 + numberOf (drop (i + 1) d) s ≡ numberOf d s
-  expander-go h q =
-      let e : numberOf (drop i d) s ≡ suc (numberOf (drop (i + 1) d) s) = number-next h ∙ rw (ne-eqb (expanderAt d i .address) s q) refl in
-      omega arith
-
-  pub expander-end : length d ≤ i → false ≡ ltb (numberOf d s) (length d)
-  unfolding numberOf
-  expander-end h =
-      let e : numberOf (drop i d) s ≡ 0 = ap (λ (l : Domain). numberOf l s) (drop-of-length-le d h) in
-      sym (le-ltb (numberOf d s) (length d) (omega arith))
 
 -- booleans
 or-assoc : (a b c : Bool) → ((a || b) || c) ≡ (a || (b || c))

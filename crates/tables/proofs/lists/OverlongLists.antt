@@ -13,7 +13,7 @@ use Rattle.tables.specs.levels.Levels.{down}
 use Rattle.tables.specs.lists.OwnLists.{ownWords}
 use Rattle.tables.specs.lists.PreparedLists.{orderOf, ownWordsOfOrder, oneLink, ownOverlong}
 use Rattle.tables.proofs.levels.LevelOrders.{order-none, order-linked}
-use borrow.Author.Count.{downstream-more}
+use borrow.Author.Count.{below-more}
 
 -- phys of one link are table phys with the same order
 module _ (d : Domain) (φ ψ : Phy) (one : T (oneLink d φ ψ)) where
@@ -54,4 +54,4 @@ module _ (d : Domain) (i p : ℕ) (φ : Phy) (at : φ ≡ phyAt d i p) where
 
 -- false below p, and at p
 pub below-next : (test : ℕ → Bool) (p : ℕ) → ((k : ℕ) → k < p → test k ≡ false) → test p ≡ false → (k : ℕ) → k < p + 1 → test k ≡ false
-below-next test = downstream-more (λ k. test k ≡ false)
+below-next test = below-more (λ k. test k ≡ false)

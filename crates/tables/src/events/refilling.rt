@@ -27,7 +27,7 @@ ghost use Rattle.tables.specs.lists.GrowingLists.{placesAt, overlay};
 ghost use Rattle.tables.specs.lists.PreparedLists.{AttachedExpandersKnown, OwnListsHeld, DownstreamListsHeld, orderOf, ownWordsOfOrder, filledTo, Fillable, FilledFrom, mostDownstream};
 ghost use Rattle.tables.specs.events.TouchedTables.{changed, movedBy};
 ghost use Rattle.tables.specs.events.ReplugCall.{ownTouched, ownRefilled, replugAnswer};
-ghost use Rattle.tables.specs.events.TablesRewritten.{withBit, tableLink, Passed, TallyBounds, Rewritten};
+ghost use Rattle.tables.specs.events.TablesRewritten.{tableLink, Passed, TallyBounds, Rewritten};
 
 // How far the tables gone through reach, how many of them were touched, and how many words changed.
 struct Tally {
@@ -105,24 +105,6 @@ fn count_table(rows: &[u64], lists: &[u64], order: &[u8], part: &[u64]) -> usize
     sum + count_nonzero(&part[m..])
 }
 
-// The weight of bit r of a byte, from the most significant one on.
-fn weight(r: usize) -> u64
-    requires { ⌜ r < 8 ⌝ }
-    ensures { λ m. ⌜ (m ≡ 2 ^ (7 - r)) × ((0 < m) × (m ≤ 128)) ⌝ }
-{
-    1 << (7 - r)
-}
-
-// A byte with b as its bit r, from the most significant one on.
-fn with_bit(byte: u8, r: usize, b: u64) -> u8
-    requires { ⌜ (r < 8) × (b < 2) ⌝ }
-    ensures { λ x. ⌜ x ≡ withBit byte (7 - r) b ⌝ }
-{
-    let m = weight(r);
-    let v = byte as u64;
-    (v - (v & m) + b * m) as u8
-}
-
 // The disable bit of a word.
 fn zero_bit(w: u64) -> u64
     ensures { λ r. ⌜ (r ≡ zeroBit w) × (r < 2) ⌝ }
@@ -140,7 +122,7 @@ fn set_bit(s: &mut [u8], k: usize, b: u64)
 {
     let j = k / 8;
     let v = s[j];
-    s[j] = with_bit(v, k % 8, b);
+    s[j] = wiring::with_bit(v, k, b);
 }
 
 // Sets the bits from `at` on one by one, a bit for each word, exactly where the word is zero. All other bits stay.

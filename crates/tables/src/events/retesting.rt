@@ -25,15 +25,7 @@ ghost use Rattle.tables.specs.events.EndDeviceTests.{isEnd, endsAt, isFo
 fn is_expander(rows: &[u64], s: u64) -> bool
     ensures { λ r. ⌜ r ≡ ltb (numberOf (domainIn (now (rows .entry))) s) (length (domainIn (now (rows .entry)))) ⌝ }
 {
-    let n = wiring::expander_count(rows);
-    let mut i: u8 = 0;
-    while i < n {
-        if wiring::expander_address(rows, ExpanderNumber(i)) == s {
-            return true;
-        }
-        i += 1;
-    }
-    false
+    wiring::number_of(rows, s) < wiring::expander_count(rows)
 }
 
 // Whether it is attached to an end device with address s.

@@ -1,9 +1,10 @@
 -- set_bit writes byte j with the bit in it; past the end there is no byte, and no bit.
-use Prim.Native.Nat.{ℕ}
-use mathlib.Core.Path.{ap, _∙_}
+use Prim.Native.Nat.{ℕ, _-_, _%_}
+use mathlib.Core.Path.{_≡_, ap, ap₂, _∙_}
+use native.Mathlib.Omega.{arith}
 use borrow.Author.Needs.{needs}
-use lib.ListN.{set}
-use Rattle.frames.specs.Bits.{bitsOf}
+use lib.ListN.{getD, set}
+use Rattle.frames.specs.Bits.{bitsOf, withBit}
 use Rattle.frames.proofs.SetBits.{bits-set}
 use Rattle.cards.proofs.BitPlaces.{bit-past}
 use Rattle.cards.proofs.bits.set_bit.Statement.{statement}
@@ -25,7 +26,9 @@ returns : tie.Need-returns
 returns c =
     let a = c .before .before .before .before .args in
     let p = c .before .before .before .before .pre in
-    ap (λ (v : ℕ). bitsOf (set (a .s .now) (a .j) v)) (c .with-bit .ensures) ∙ bits-set (a .s .now) (a .j) (a .r) (a .b) (c .before .before .if1 .taken) (p .0) (p .1)
+    let n : a .r % 8 ≡ a .r = omega (arith, p .0) in
+    let x : a .b % 2 ≡ a .b = omega (arith, p .1) in
+    ap (λ (v : ℕ). bitsOf (set (a .s .now) (a .j) v)) (c .with-bit .ensures ∙ ap₂ (λ (k y : ℕ). withBit (getD (a .s .now) (a .j) 0) (7 - k) y) n x) ∙ bits-set (a .s .now) (a .j) (a .r) (a .b) (c .before .before .if1 .taken) (p .0) (p .1)
 
 returns-2 : tie.Need-returns-2
 returns-2 c = bit-past _ _ _ _ (c .if1 .left)
