@@ -172,9 +172,9 @@ pub record HeadOf (u : ExpanderUnit) (h : List ℕ) : Type 0 where
   pub reads : generalRead (drop 8 h) ≡ good general
   pub is : unitOf (numberAt h 0 8) general ≡ u
 
-pub head-reads : (u : ExpanderUnit) (h : List ℕ) → HeadOf u h → (most : Setting) (file seen : List ℕ) (i at : ℕ) (rest : List ℕ) → drop at file ≡ h ++ rest
-    → expanderUnit most file seen i at ≡ then (unitTested most seen i u) (endsAt (at + length h))
-head-reads u h o most file seen i at rest q =
+pub head-reads : (u : ExpanderUnit) (h : List ℕ) → HeadOf u h → (most : Setting) (file used : List ℕ) (i at : ℕ) (rest : List ℕ) → drop at file ≡ h ++ rest
+    → expanderUnit most file used i at ≡ then (unitTested most used i u) (endsAt (at + length h))
+head-reads u h o most file used i at rest q =
     let n = o .size in
     let l = o .whole in
     let m = o .least in
@@ -182,16 +182,16 @@ head-reads u h o most file seen i at rest q =
     let e : drop (at + 8) file ≡ drop 8 h ++ rest = sym (drop-drop 8 at file) ∙ ap (drop 8) q ∙ drop-append-le 8 h rest (omega arith) in
     let a : numberAt file at 8 ≡ numberAt h 0 8 = number-drop file at 8 ∙ ap (λ (v : List ℕ). numberAt v 0 8) q ∙ number-left h rest 0 8 (omega arith) in
     let z : at + 8 + n ≡ at + length h = omega arith in
-    expander-unit-by most file seen i at (numberAt h 0 8) a n (good (o .general)) (size-there ReportGeneral file (at + 8) n (drop 8 h) rest e (omega arith) (omega arith) (o .states))
+    expander-unit-by most file used i at (numberAt h 0 8) a n (good (o .general)) (size-there ReportGeneral file (at + 8) n (drop 8 h) rest e (omega arith) (omega arith) (o .states))
     (ap (λ (v : List ℕ). generalRead (take n v)) e ∙ ap generalRead (take-at (drop 8 h) rest n (omega arith)) ∙ o .reads)
-    ∙ ap₂ (λ (v : ExpanderUnit) (m : ℕ). then (unitTested most seen i v) (endsAt m)) (o .is) z
+    ∙ ap₂ (λ (v : ExpanderUnit) (m : ℕ). then (unitTested most used i v) (endsAt m)) (o .is) z
 
-pub head-of : (most : Setting) (file seen : List ℕ) (i at : ℕ) (u : Parsed ExpanderUnit) → expanderUnit most file seen i at ≡ good u
+pub head-of : (most : Setting) (file used : List ℕ) (i at : ℕ) (u : Parsed ExpanderUnit) → expanderUnit most file used i at ≡ good u
     → (h : List ℕ) × HeadOf (u .value) h × (drop at file ≡ h ++ drop (u .next) file) × (u .next ≡ at + length h)
 unfolding expanderUnit frameSize
-head-of most file seen i at u e =
+head-of most file used i at u e =
     let ownAddress = numberAt file at 8 in
-    let f = unit-found ReportGeneral generalRead (λ g. unitTested most seen i (unitOf ownAddress g)) i 0 file (at + 8) u e in
+    let f = unit-found ReportGeneral generalRead (λ g. unitTested most used i (unitOf ownAddress g)) i 0 file (at + 8) u e in
     let n = f .size in
     let w = size-whole ReportGeneral file (at + 8) n (f .found) in
     let m = size-least ReportGeneral (drop (at + 8) file) n (w .size) in
@@ -213,7 +213,7 @@ head-of most file seen i at u e =
         states = ap (λ (v : List ℕ). sizeStated ReportGeneral (byte v 3)) e8 ∙ ap (sizeStated ReportGeneral) (getD-take n (drop (at + 8) file) 3 0 (omega arith)) ∙ s .1;
         general = f .fields;
         reads = ap generalRead e8 ∙ f .reads;
-        is = ap (λ (x : ℕ). unitOf x (f .fields)) a ∙ tested-same most seen i (unitOf ownAddress (f .fields)) (u .value) (f .tested);
+        is = ap (λ (x : ℕ). unitOf x (f .fields)) a ∙ tested-same most used i (unitOf ownAddress (f .fields)) (u .value) (f .tested);
       },
       sym (take-append-drop (8 + n) (drop at file)) ∙ ap (λ (v : List ℕ). h ++ v) (drop-drop (8 + n) at file ∙ ap (λ (x : ℕ). drop x file) z),
       omega (arith, f .next),
@@ -244,30 +244,30 @@ expandersAll (x ∷ xs) = expanderOf (x .fields) (physAll (x .frames)) ∷ expan
 
 -- 3 and 4 of units one after the other, and their expanders
 unfoldable pub testedAll : Setting → ℕ → List ℕ → List UnitBytes → Result Domain
-testedAll most i seen [] = good []
-testedAll most i seen (x ∷ xs) =
-    then (unitTested most seen i (x .fields)) (λ u.
-    then (testedAll most (i + 1) (seen ++ (u .address ∷ [])) xs) (λ d.
+testedAll most i used [] = good []
+testedAll most i used (x ∷ xs) =
+    then (unitTested most used i (x .fields)) (λ u.
+    then (testedAll most (i + 1) (used ++ (u .address ∷ [])) xs) (λ d.
     good (expanderOf u (physAll (x .frames)) ∷ d)))
 
 -- units one after the other to the end of a file read as the tests of 3 and 4 say
-pub units-read : (most : Setting) (xs : List UnitBytes) → UnitsOf xs → (file seen : List ℕ) (i at : ℕ) → at ≤ length file → drop at file ≡ unitsBytes xs
-    → expanders most file (length xs) i at seen ≡ testedAll most i seen xs
+pub units-read : (most : Setting) (xs : List UnitBytes) → UnitsOf xs → (file used : List ℕ) (i at : ℕ) → at ≤ length file → drop at file ≡ unitsBytes xs
+    → expanders most file (length xs) i at used ≡ testedAll most i used xs
 unfolding expanders testedAll
-units-read most [] o file seen i at h q = let l = length-drop at file in let c = ap length q in rw (eq-eqb at (length file) (omega arith))
-units-read most (x ∷ xs) o file seen i at h q =
+units-read most [] o file used i at h q = let l = length-drop at file in let c = ap length q in rw (eq-eqb at (length file) (omega arith))
+units-read most (x ∷ xs) o file used i at h q =
     let hd = x .head in
     let bs = bytesAll (x .frames) in
-    let e = head-reads (x .fields) hd (o .0 .heads) most file seen i at (bs ++ unitsBytes xs) q in
-    go (λ more to l k. units-read most xs (o .1) file more (i + 1) to l k) (unitTested most seen i (x .fields)) refl e
+    let e = head-reads (x .fields) hd (o .0 .heads) most file used i at (bs ++ unitsBytes xs) q in
+    go (λ more to l k. units-read most xs (o .1) file more (i + 1) to l k) (unitTested most used i (x .fields)) refl e
   where
     go : ((more : List ℕ) (to : ℕ) → to ≤ length file → drop to file ≡ unitsBytes xs → expanders most file (length xs) (i + 1) to more ≡ testedAll most (i + 1) more xs)
-        → (y : Result ExpanderUnit) → unitTested most seen i (x .fields) ≡ y → expanderUnit most file seen i at ≡ then y (endsAt (at + length (x .head)))
-        → expanders most file (suc (length xs)) i at seen
-        ≡ then y (λ u. then (testedAll most (i + 1) (seen ++ (u .address ∷ [])) xs) (λ d. good (expanderOf u (physAll (x .frames)) ∷ d)))
+        → (y : Result ExpanderUnit) → unitTested most used i (x .fields) ≡ y → expanderUnit most file used i at ≡ then y (endsAt (at + length (x .head)))
+        → expanders most file (suc (length xs)) i at used
+        ≡ then y (λ u. then (testedAll most (i + 1) (used ++ (u .address ∷ [])) xs) (λ d. good (expanderOf u (physAll (x .frames)) ∷ d)))
     go again (refused r) t e = rw e
     go again (good u) t e =
-        let same = tested-same most seen i (x .fields) u t in
+        let same = tested-same most used i (x .fields) u t in
         let hd = x .head in
         let bs = bytesAll (x .frames) in
         let next = at + length hd in
@@ -281,7 +281,7 @@ units-read most (x ∷ xs) o file seen i at h q =
         let l1 = length-append hd (bs ++ unitsBytes xs) in
         let l2 = length-append bs (unitsBytes xs) in
         let w = o .0 .heads .whole in
-        let r = again (seen ++ (u .address ∷ [])) (next + length bs) (omega arith) (f .1) in
+        let r = again (used ++ (u .address ∷ [])) (next + length bs) (omega arith) (f .1) in
         rw (e, f1, r)
 
 -- where the frame of phy p of unit k stands among the bytes of units
@@ -304,21 +304,21 @@ pub record CutUnits (file : List ℕ) (at : ℕ) (d : Domain) : Type 0 where
   pub bytes : drop at file ≡ unitsBytes units
   pub place : (k p : ℕ) → HasPhy units k p → physAfter file p (physFrom file (expandersAfter file k at)) ≡ at + placeIn units k p
 
-pub units-cut : (most : Setting) (file : List ℕ) (count i at : ℕ) (seen : List ℕ) (d : Domain) → expanders most file count i at seen ≡ good d → CutUnits file at d
+pub units-cut : (most : Setting) (file : List ℕ) (count i at : ℕ) (used : List ℕ) (d : Domain) → expanders most file count i at used ≡ good d → CutUnits file at d
 unfolding expanders expandersAfter
-units-cut most file zero i at seen d e =
+units-cut most file zero i at used d e =
     let u = unless-good (eqb at (length file)) (refusal 1 i 0) (good []) d e in
     let q = eqb→eq at (length file) (u .0) in
     record { units = []; each = tt; domain = good-one [] d (u .1); bytes = drop-of-length-le file {i = at} (omega arith); place = λ k p h. absurd h }
-units-cut most file (suc count) i at seen d e =
-    let one = then-good (expanderUnit most file seen i at) _ d e in
+units-cut most file (suc count) i at used d e =
+    let one = then-good (expanderUnit most file used i at) _ d e in
     let u = one .0 in
     let two = then-good (phyUnits file (u .value .address) i (u .value .phys) 0 (u .next)) _ d (one .2) in
     let φs = two .0 in
-    let next = seen ++ (u .value .address ∷ []) in
+    let next = used ++ (u .value .address ∷ []) in
     let more = then-good (expanders most file count (i + 1) (φs .next) next) _ d (two .2) in
     let q = good-one (expanderOf (u .value) (φs .value) ∷ more .0) d (more .2) in
-    let h = head-of most file seen i at u (one .1) in
+    let h = head-of most file used i at u (one .1) in
     let c = phys-cut file (u .value .address) i (u .value .phys) 0 (u .next) φs (two .1) in
     let r = units-cut most file count (i + 1) (φs .next) next (more .0) (more .1) in
     let n = phys-count file (u .value .address) i (u .value .phys) 0 (u .next) φs (two .1) in
@@ -328,7 +328,7 @@ units-cut most file (suc count) i at seen d e =
       each = (record { heads = h .1; each = c .each; count = sym (length-phys (c .frames)) ∙ ap length (c .phys) ∙ n }, r .each);
       domain = ap₂ (λ (v : List Phy) (t : Domain). expanderOf (u .value) v ∷ t) (c .phys) (r .domain) ∙ q;
       bytes = h .2 ∙ ap (λ (v : List ℕ). h .0 ++ v) (c .bytes ∙ ap (λ (v : List ℕ). bytesAll (c .frames) ++ v) (r .bytes));
-      place = placed x (r .units) (u .next) (φs .next) (h .3) (head-found most file seen i at u (one .1) .next) (c .place) (unit-after most file seen i at u φs (one .1) (two .1))
+      place = placed x (r .units) (u .next) (φs .next) (h .3) (head-found most file used i at u (one .1) .next) (c .place) (unit-after most file used i at u φs (one .1) (two .1))
           (phys-after file (u .value .address) i (u .value .phys) 0 (u .next) φs (two .1)) (sym (length-phys (c .frames)) ∙ ap length (c .phys) ∙ n) (r .place);
     }
   where
@@ -405,28 +405,28 @@ length-units [] = refl
 length-units (x ∷ xs) = ap suc (length-units xs)
 
 -- what passes 3 and 4 is the expanders
-pub tested-is : (most : Setting) (xs : List UnitBytes) (i : ℕ) (seen : List ℕ) (d : Domain) → testedAll most i seen xs ≡ good d → expandersAll xs ≡ d
+pub tested-is : (most : Setting) (xs : List UnitBytes) (i : ℕ) (used : List ℕ) (d : Domain) → testedAll most i used xs ≡ good d → expandersAll xs ≡ d
 unfolding testedAll
-tested-is most [] i seen d e = good-one [] d e
-tested-is most (x ∷ xs) i seen d e =
-    let a = then-good (unitTested most seen i (x .fields)) _ d e in
-    let b = then-good (testedAll most (i + 1) (seen ++ (a .0 .address ∷ [])) xs) _ d (a .2) in
-    ap₂ (λ (u : ExpanderUnit) (t : Domain). expanderOf u (physAll (x .frames)) ∷ t) (tested-same most seen i (x .fields) (a .0) (a .1)) (tested-is most xs (i + 1) (seen ++ (a .0 .address ∷ [])) (b .0) (b .1))
+tested-is most [] i used d e = good-one [] d e
+tested-is most (x ∷ xs) i used d e =
+    let a = then-good (unitTested most used i (x .fields)) _ d e in
+    let b = then-good (testedAll most (i + 1) (used ++ (a .0 .address ∷ [])) xs) _ d (a .2) in
+    ap₂ (λ (u : ExpanderUnit) (t : Domain). expanderOf u (physAll (x .frames)) ∷ t) (tested-same most used i (x .fields) (a .0) (a .1)) (tested-is most xs (i + 1) (used ++ (a .0 .address ∷ [])) (b .0) (b .1))
     ∙ good-one (expanderOf (a .0) (physAll (x .frames)) ∷ b .0) d (b .2)
 
 -- and where addresses differ, none is zero and phys are within the limit, all pass
-pub tested-pass : (most : Setting) (xs : List UnitBytes) (i : ℕ) (seen : List ℕ) → UnitsOf xs → ((e : Expander) → In e (expandersAll xs) → ReadExpander most e)
-    → Distinct (addresses (expandersAll xs)) → ((s : ℕ) → In s (addresses (expandersAll xs)) → ¬ (In s seen)) → testedAll most i seen xs ≡ good (expandersAll xs)
+pub tested-pass : (most : Setting) (xs : List UnitBytes) (i : ℕ) (used : List ℕ) → UnitsOf xs → ((e : Expander) → In e (expandersAll xs) → ReadExpander most e)
+    → Distinct (addresses (expandersAll xs)) → ((s : ℕ) → In s (addresses (expandersAll xs)) → ¬ (In s used)) → testedAll most i used xs ≡ good (expandersAll xs)
 unfolding testedAll
-tested-pass most [] i seen o each differ new = refl
-tested-pass most (x ∷ xs) i seen o each differ new =
+tested-pass most [] i used o each differ new = refl
+tested-pass most (x ∷ xs) i used o each differ new =
     let u = x .fields in
     let r = each (expanderOf u (physAll (x .frames))) (inl refl) in
     let l = length-phys (x .frames) in
     let c = o .0 .count in
     let a : leb 1 (u .phys) ≡ true = le-leb 1 (u .phys) (omega (arith, r .some)) in
     let b : leb (u .phys) (most .phys) ≡ true = le-leb (u .phys) (most .phys) (omega (arith, r .few)) in
-    let f : isIn (u .address) seen ≡ false = is-false (isIn (u .address) seen) (λ t. new (u .address) (inl refl) (of-isIn (u .address) seen t)) in
-    let t = tested-pass most xs (i + 1) (seen ++ (u .address ∷ [])) (o .1) (λ e h. each e (inr h)) (differ .1)
-    (λ s h k. ⊎-elim (λ m. new s (inr h) m) (λ m. ⊎-elim (λ n. differ .0 (in-cast (addresses (expandersAll xs)) (sym n) h)) (λ n. n) m) (in-append seen (u .address ∷ []) s k)) in
+    let f : isIn (u .address) used ≡ false = is-false (isIn (u .address) used) (λ t. new (u .address) (inl refl) (of-isIn (u .address) used t)) in
+    let t = tested-pass most xs (i + 1) (used ++ (u .address ∷ [])) (o .1) (λ e h. each e (inr h)) (differ .1)
+    (λ s h k. ⊎-elim (λ m. new s (inr h) m) (λ m. ⊎-elim (λ n. differ .0 (in-cast (addresses (expandersAll xs)) (sym n) h)) (λ n. n) m) (in-append used (u .address ∷ []) s k)) in
     rw (a, b, ne-eqb (u .address) 0 (r .borne), f, t)

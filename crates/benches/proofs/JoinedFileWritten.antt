@@ -75,11 +75,11 @@ module _ (s q : ℕ) where
   frame-left x y h =
       let e : x ≡ listed (λ k. byte x k) (drop 33 x) = all-firsts 33 0 x (omega arith) in
       subst (λ (v : List ℕ). take 12 (v ++ y) ++ (typedTwo (byte (v ++ y) 12) ∷ (take 11 (drop 13 (v ++ y)) ++ (bytesOf 8 s ++ (q ∷ drop 33 (v ++ y)))))
-      ≡ (take 12 v ++ (typedTwo (byte v 12) ∷ (take 11 (drop 13 v) ++ (bytesOf 8 s ++ (q ∷ drop 33 v))))) ++ y) (sym e) (seen (λ k. byte x k) (drop 33 x))
+      ≡ (take 12 v ++ (typedTwo (byte v 12) ∷ (take 11 (drop 13 v) ++ (bytesOf 8 s ++ (q ∷ drop 33 v))))) ++ y) (sym e) (used (λ k. byte x k) (drop 33 x))
     where
-      seen : (g : ℕ → ℕ) (r : List ℕ) → take 12 (listed g r ++ y) ++ (typedTwo (g 12) ∷ (take 11 (drop 13 (listed g r ++ y)) ++ (bytesOf 8 s ++ (q ∷ (r ++ y)))))
+      used : (g : ℕ → ℕ) (r : List ℕ) → take 12 (listed g r ++ y) ++ (typedTwo (g 12) ∷ (take 11 (drop 13 (listed g r ++ y)) ++ (bytesOf 8 s ++ (q ∷ (r ++ y)))))
           ≡ (take 12 (listed g r) ++ (typedTwo (g 12) ∷ (take 11 (drop 13 (listed g r)) ++ (bytesOf 8 s ++ (q ∷ r))))) ++ y
-      seen g r = refl
+      used g r = refl
 
   pub cabled-left : (x y : List ℕ) (at : ℕ) → at + 33 ≤ length x → cabledAt (x ++ y) at s q ≡ cabledAt x at s q ++ y
   unfolding cabledAt

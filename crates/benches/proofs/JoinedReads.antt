@@ -46,7 +46,7 @@ use Rattle.benches.proofs.JoinedAccepted.{each-joined, joined-accepted}
 pub address-in : (most : Setting) (file : List ℕ) (d : Domain) → domainRead most file ≡ good d → (i : ℕ) → i < length d → addressIn file i ≡ expanderAt d i .address
 address-in most file d e i h =
     let t = expander-there most file (length d) 0 2 [] d (units-of most file d e .1) i h in
-    let o = head-found most file (t .seen) (0 + i) (expanderOffset file i) (t .unit) (t .head) in
+    let o = head-found most file (t .used) (0 + i) (expanderOffset file i) (t .unit) (t .head) in
     sym (o .address) ∙ ap (λ (x : Expander). x .address) (t .is)
 
 -- one file with the cable, after its header: units that read as the domain with the cabled phy

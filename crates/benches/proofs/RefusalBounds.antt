@@ -75,22 +75,22 @@ module _ (file : List ℕ) (n ownAddress i : ℕ) (h : i ≤ n) where
       up-then n (phyUnits file ownAddress i count (p + 1) (u .next)) _ (phyUnits-up count (p + 1) (u .next)) (λ us _. tt))
 
 module _ (most : Setting) (file : List ℕ) where
-  expanderUnit-up : (n i at : ℕ) (seen : List ℕ) → i ≤ n → UpTo n (expanderUnit most file seen i at)
+  expanderUnit-up : (n i at : ℕ) (used : List ℕ) → i ≤ n → UpTo n (expanderUnit most file used i at)
   unfolding expanderUnit
-  expanderUnit-up n i at seen h =
+  expanderUnit-up n i at used h =
       let ownAddress = numberAt file at 8 in
       up-then n (placed i 0 (frameAt ReportGeneral generalRead file (at + 8))) _ (up-placed n i 0 (frameAt ReportGeneral generalRead file (at + 8)) h) (λ g _.
       let u = unitOf ownAddress (g .value) in
-      up-then n (unitTested most seen i u) _
-      (up-unless n (within (most .phys) (u .phys)) (refusal 3 i 0) _ h (up-unless n (not (eqb (u .address) 0) && not (isIn (u .address) seen)) (refusal 4 i 0) (good u) h tt)) (λ v _. tt))
+      up-then n (unitTested most used i u) _
+      (up-unless n (within (most .phys) (u .phys)) (refusal 3 i 0) _ h (up-unless n (not (eqb (u .address) 0) && not (isIn (u .address) used)) (refusal 4 i 0) (good u) h tt)) (λ v _. tt))
 
-  expanders-up : (count n i at : ℕ) (seen : List ℕ) → i + count ≤ n → UpTo n (expanders most file count i at seen)
+  expanders-up : (count n i at : ℕ) (used : List ℕ) → i + count ≤ n → UpTo n (expanders most file count i at used)
   unfolding expanders
-  expanders-up zero n i at seen h = up-unless n (eqb at (length file)) (refusal 1 i 0) (good []) (omega arith) tt
-  expanders-up (suc count) n i at seen h =
-      up-then n (expanderUnit most file seen i at) _ (expanderUnit-up n i at seen (omega arith)) (λ u _.
+  expanders-up zero n i at used h = up-unless n (eqb at (length file)) (refusal 1 i 0) (good []) (omega arith) tt
+  expanders-up (suc count) n i at used h =
+      up-then n (expanderUnit most file used i at) _ (expanderUnit-up n i at used (omega arith)) (λ u _.
       up-then n (phyUnits file (u .value .address) i (u .value .phys) 0 (u .next)) _ (phyUnits-up file n (u .value .address) i (omega arith) (u .value .phys) 0 (u .next)) (λ φs _.
-      up-then n (expanders most file count (i + 1) (φs .next) (seen ++ (u .value .address ∷ []))) _ (expanders-up count n (i + 1) (φs .next) (seen ++ (u .value .address ∷ [])) (omega arith)) (λ d _. tt)))
+      up-then n (expanders most file count (i + 1) (φs .next) (used ++ (u .value .address ∷ []))) _ (expanders-up count n (i + 1) (φs .next) (used ++ (u .value .address ∷ [])) (omega arith)) (λ d _. tt)))
 
   header-few : (k : ℕ) → headerUnit most file ≡ good k → k ≤ most .expanders
   unfolding headerUnit

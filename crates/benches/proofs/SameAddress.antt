@@ -79,7 +79,7 @@ then-unless true r e d = refl
 then-unless false r e d = refl
 
 -- one unit of which 3 does not hold and whose address is not zero: 4 holds of it, or of a later one
-module _ (most : Setting) (x : UnitBytes) (xs : List UnitBytes) (d : Domain) (i : ℕ) (seen : List ℕ) (o : UnitOf x) (r : ReadExpander most (expanderOf (x .fields) (physAll (x .frames))))
+module _ (most : Setting) (x : UnitBytes) (xs : List UnitBytes) (d : Domain) (i : ℕ) (used : List ℕ) (o : UnitOf x) (r : ReadExpander most (expanderOf (x .fields) (physAll (x .frames))))
     (at : expanderAt d i ≡ expanderOf (x .fields) (physAll (x .frames))) where
   some : leb 1 (x .fields .phys) ≡ true
   some = let l = length-phys (x .frames) in le-leb 1 (x .fields .phys) (omega (arith, r .some, o .count))
@@ -87,33 +87,33 @@ module _ (most : Setting) (x : UnitBytes) (xs : List UnitBytes) (d : Domain) (i 
   few : leb (x .fields .phys) (most .phys) ≡ true
   few = let l = length-phys (x .frames) in le-leb (x .fields .phys) (most .phys) (omega (arith, r .few, o .count))
 
-  tested-old : isIn (x .fields .address) seen ≡ true → numberOf d (x .fields .address) < i → i < length d
-      → testedAll most i seen (x ∷ xs) ≡ unless (leb (length d) (repeatedFrom d (length (x ∷ xs)) i)) (refusal 4 (repeatedFrom d (length (x ∷ xs)) i) 0) (good (expandersAll (x ∷ xs)))
+  tested-old : isIn (x .fields .address) used ≡ true → numberOf d (x .fields .address) < i → i < length d
+      → testedAll most i used (x ∷ xs) ≡ unless (leb (length d) (repeatedFrom d (length (x ∷ xs)) i)) (refusal 4 (repeatedFrom d (length (x ∷ xs)) i) 0) (good (expandersAll (x ∷ xs)))
   unfolding testedAll repeatedFrom
   tested-old q h k = rw (some, few, ne-eqb (x .fields .address) 0 (r .borne), q, at, ne-eqb (numberOf d (x .fields .address)) i (λ z. omega arith), lt-leb (length d) i k) refl
 
-  tested-new : isIn (x .fields .address) seen ≡ false → numberOf d (x .fields .address) ≡ i
-      → testedAll most (i + 1) (seen ++ (x .fields .address ∷ [])) xs ≡ unless (leb (length d) (repeatedFrom d (length xs) (i + 1))) (refusal 4 (repeatedFrom d (length xs) (i + 1)) 0) (good (expandersAll xs))
-      → testedAll most i seen (x ∷ xs) ≡ unless (leb (length d) (repeatedFrom d (length (x ∷ xs)) i)) (refusal 4 (repeatedFrom d (length (x ∷ xs)) i) 0) (good (expandersAll (x ∷ xs)))
+  tested-new : isIn (x .fields .address) used ≡ false → numberOf d (x .fields .address) ≡ i
+      → testedAll most (i + 1) (used ++ (x .fields .address ∷ [])) xs ≡ unless (leb (length d) (repeatedFrom d (length xs) (i + 1))) (refusal 4 (repeatedFrom d (length xs) (i + 1)) 0) (good (expandersAll xs))
+      → testedAll most i used (x ∷ xs) ≡ unless (leb (length d) (repeatedFrom d (length (x ∷ xs)) i)) (refusal 4 (repeatedFrom d (length (x ∷ xs)) i) 0) (good (expandersAll (x ∷ xs)))
   unfolding testedAll repeatedFrom
   tested-new q h next =
       rw (some, few, ne-eqb (x .fields .address) 0 (r .borne), q, next, at, eq-eqb (numberOf d (x .fields .address)) i h)
       (then-unless (leb (length d) (repeatedFrom d (length xs) (i + 1))) (refusal 4 (repeatedFrom d (length xs) (i + 1)) 0) (expanderOf (x .fields) (physAll (x .frames))) (expandersAll xs))
 
 -- units after those of other expanders: 4 holds where the domain of all says
-pub tested-apart : (most : Setting) (xs : List UnitBytes) (before d : Domain) (i : ℕ) (seen : List ℕ) → UnitsOf xs → ((e : Expander) → In e (expandersAll xs) → ReadExpander most e)
-    → d ≡ before ++ expandersAll xs → i ≡ length before → seen ≡ addresses before
-    → testedAll most i seen xs ≡ unless (leb (length d) (repeatedFrom d (length xs) i)) (refusal 4 (repeatedFrom d (length xs) i) 0) (good (expandersAll xs))
+pub tested-apart : (most : Setting) (xs : List UnitBytes) (before d : Domain) (i : ℕ) (used : List ℕ) → UnitsOf xs → ((e : Expander) → In e (expandersAll xs) → ReadExpander most e)
+    → d ≡ before ++ expandersAll xs → i ≡ length before → used ≡ addresses before
+    → testedAll most i used xs ≡ unless (leb (length d) (repeatedFrom d (length xs) i)) (refusal 4 (repeatedFrom d (length xs) i) 0) (good (expandersAll xs))
 unfolding testedAll repeatedFrom
-tested-apart most [] before d i seen o each e n s = let l : length d ≡ i = ap length (e ∙ append-nil before) ∙ sym n in rw (le-leb (length d) i (omega arith)) refl
-tested-apart most (x ∷ xs) before d i seen o each e n s =
+tested-apart most [] before d i used o each e n s = let l : length d ≡ i = ap length (e ∙ append-nil before) ∙ sym n in rw (le-leb (length d) i (omega arith)) refl
+tested-apart most (x ∷ xs) before d i used o each e n s =
     let y : Expander = expanderOf (x .fields) (physAll (x .frames)) in
     let l : length d ≡ length before + suc (length (expandersAll xs)) = ap length e ∙ length-append before (y ∷ expandersAll xs) in
     let at : expanderAt d i ≡ y = ap₂ expanderAt e n ∙ getD-append-seam before y (expandersAll xs) noExpander in
-    let next = tested-apart most xs (before ++ (y ∷ [])) d (i + 1) (seen ++ (x .fields .address ∷ [])) (o .1) (λ f h. each f (inr h)) (e ∙ sym (append-assoc before (y ∷ []) (expandersAll xs)))
+    let next = tested-apart most xs (before ++ (y ∷ [])) d (i + 1) (used ++ (x .fields .address ∷ [])) (o .1) (λ f h. each f (inr h)) (e ∙ sym (append-assoc before (y ∷ []) (expandersAll xs)))
     (let k = length-append before (y ∷ []) in omega arith) (ap (λ (v : List ℕ). v ++ (x .fields .address ∷ [])) s ∙ sym (map-append (λ f. f .address) before (y ∷ []))) in
-    by-test (isIn (x .fields .address) seen)
-    (λ q. tested-old most x xs d i seen (o .0) (each y (inl refl)) at q
+    by-test (isIn (x .fields .address) used)
+    (λ q. tested-old most x xs d i used (o .0) (each y (inl refl)) at q
     (let h = number-old before y (expandersAll xs) (ap (isIn (x .fields .address)) (sym s) ∙ q) in let k = ap (λ (v : Domain). numberOf v (x .fields .address)) e in omega arith) (omega arith))
-    (λ q. tested-new most x xs d i seen (o .0) (each y (inl refl)) at q
+    (λ q. tested-new most x xs d i used (o .0) (each y (inl refl)) at q
     (ap (λ (v : Domain). numberOf v (x .fields .address)) e ∙ number-new before y (expandersAll xs) (ap (isIn (x .fields .address)) (sym s) ∙ q) ∙ sym n) next)

@@ -83,7 +83,7 @@ six-refused i n r h k = rw (lt-leb n r h)
 pub six-passed : (i n r : ℕ) → n ≤ r → (k : Result Domain) → k ≡ unless (leb n r) (refusal 6 i r) k
 six-passed i n r h k = rw (le-leb n r h)
 
-module _ (most : Setting) (l seen : List ℕ) (i at : ℕ) where
+module _ (most : Setting) (l used : List ℕ) (i at : ℕ) where
   fields-on : unitFields (expanderOn (drop at l)) ≡ unitOn (drop at l)
   unfolding expanderOn
   fields-on =
@@ -91,24 +91,24 @@ module _ (most : Setting) (l seen : List ℕ) (i at : ℕ) where
       (count-phys (suc (field 7 (drop 81 (drop at l)))) (drop 88 (drop at l)))
 
   unit-is : (e : Expander) (u : ExpanderUnit) (r : ℕ) → u ≡ unitFields e → r ≡ rangedCount (e .phys) → (k : Result Domain)
-      → then (unitTested most (take i seen) i u) (λ w. unless (leb (u .phys) r) (refusal 6 i r) k) ≡ then (unitTested most (take i seen) i (unitFields e)) (λ w. physTested i 0 (e .phys) k)
+      → then (unitTested most (take i used) i u) (λ w. unless (leb (u .phys) r) (refusal 6 i r) k) ≡ then (unitTested most (take i used) i (unitFields e)) (λ w. physTested i 0 (e .phys) k)
   unit-is e u r qu qr k =
       let b = phys-by i 0 (e .phys) k (length (e .phys)) r (sym (zero-add (length (e .phys)))) (qr ∙ sym (zero-add (rangedCount (e .phys)))) in
-      ap (λ (v : ExpanderUnit). then (unitTested most (take i seen) i v) (λ w. unless (leb (v .phys) r) (refusal 6 i r) k)) qu
-      ∙ ap (λ (x : Result Domain). then (unitTested most (take i seen) i (unitFields e)) (λ w. x)) (sym b)
+      ap (λ (v : ExpanderUnit). then (unitTested most (take i used) i v) (λ w. unless (leb (v .phys) r) (refusal 6 i r) k)) qu
+      ∙ ap (λ (x : Result Domain). then (unitTested most (take i used) i (unitFields e)) (λ w. x)) (sym b)
 
   -- one expander more: what the tests so far and this one's say, with those of the expanders to come behind
   pub tests-go : (d : Domain) (check unit both : Check) (u : ExpanderUnit) (r : ℕ) (v : Result Domain → Result Domain) → u ≡ unitOn (drop at l) → r ≡ rangedCount (expanderOn (drop at l) .phys)
-      → ((k : Result Domain) → afterCheck unit k ≡ then (unitTested most (take i seen) i u) (λ w. unless (leb (u .phys) r) (refusal 6 i r) k))
-      → ((k : Result Domain) → afterCheck both k ≡ afterCheck check (afterCheck unit k)) → i < length seen
-      → ((k : Result Domain) → afterCheck check (unitsTested most i (take i seen) (expanderOn (drop at l) ∷ d) k) ≡ v k)
-      → (k : Result Domain) → afterCheck both (unitsTested most (i + 1) (take (i + 1) (set seen i (u .address))) d k) ≡ v k
+      → ((k : Result Domain) → afterCheck unit k ≡ then (unitTested most (take i used) i u) (λ w. unless (leb (u .phys) r) (refusal 6 i r) k))
+      → ((k : Result Domain) → afterCheck both k ≡ afterCheck check (afterCheck unit k)) → i < length used
+      → ((k : Result Domain) → afterCheck check (unitsTested most i (take i used) (expanderOn (drop at l) ∷ d) k) ≡ v k)
+      → (k : Result Domain) → afterCheck both (unitsTested most (i + 1) (take (i + 1) (set used i (u .address))) d k) ≡ v k
   unfolding unitsTested
   tests-go d check unit both u r v qu qr f g h inv k =
       let o : u ≡ unitFields (expanderOn (drop at l)) = qu ∙ sym fields-on in
-      let t = set-next seen i (u .address) h in
-      let s : take (i + 1) (set seen i (u .address)) ≡ take i seen ++ (expanderOn (drop at l) .address ∷ []) = t ∙ ap (λ (w : ExpanderUnit). take i seen ++ (w .address ∷ [])) o in
+      let t = set-next used i (u .address) h in
+      let s : take (i + 1) (set used i (u .address)) ≡ take i used ++ (expanderOn (drop at l) .address ∷ []) = t ∙ ap (λ (w : ExpanderUnit). take i used ++ (w .address ∷ [])) o in
       ap (λ (x : List ℕ). afterCheck both (unitsTested most (i + 1) x d k)) s
-      ∙ g (unitsTested most (i + 1) (take i seen ++ (expanderOn (drop at l) .address ∷ [])) d k)
-      ∙ ap (afterCheck check) (f (unitsTested most (i + 1) (take i seen ++ (expanderOn (drop at l) .address ∷ [])) d k)
-      ∙ unit-is (expanderOn (drop at l)) u r o qr (unitsTested most (i + 1) (take i seen ++ (expanderOn (drop at l) .address ∷ [])) d k)) ∙ inv k
+      ∙ g (unitsTested most (i + 1) (take i used ++ (expanderOn (drop at l) .address ∷ [])) d k)
+      ∙ ap (afterCheck check) (f (unitsTested most (i + 1) (take i used ++ (expanderOn (drop at l) .address ∷ [])) d k)
+      ∙ unit-is (expanderOn (drop at l)) u r o qr (unitsTested most (i + 1) (take i used ++ (expanderOn (drop at l) .address ∷ [])) d k)) ∙ inv k

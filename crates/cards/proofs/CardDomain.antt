@@ -310,15 +310,15 @@ phys-pass i p (φ ∷ φs) k x e =
     let r = phys-pass i (p + 1) φs k x (t .1) in
     (r .0, λ m. good-unless (phyRanged φ) (refusal 6 i p) (physTested i (p + 1) φs m) (t .0) ∙ r .1 m)
 
-pub units-pass : (most : Setting) (i : ℕ) (seen : List ℕ) (d : Domain) (k : Result Domain) (x : Domain) → unitsTested most i seen d k ≡ good x
-    → (k ≡ good x) × ((m : Result Domain) → unitsTested most i seen d m ≡ m)
+pub units-pass : (most : Setting) (i : ℕ) (used : List ℕ) (d : Domain) (k : Result Domain) (x : Domain) → unitsTested most i used d k ≡ good x
+    → (k ≡ good x) × ((m : Result Domain) → unitsTested most i used d m ≡ m)
 unfolding unitsTested
-units-pass most i seen [] k x e = (e, λ m. refl)
-units-pass most i seen (e ∷ d) k x q =
-    let next : Result Domain → Result Domain = unitsTested most (i + 1) (seen ++ (e .address ∷ [])) d in
-    let t = then-good (unitTested most seen i (unitFields e)) (λ u. physTested i 0 (e .phys) (next k)) x q in
+units-pass most i used [] k x e = (e, λ m. refl)
+units-pass most i used (e ∷ d) k x q =
+    let next : Result Domain → Result Domain = unitsTested most (i + 1) (used ++ (e .address ∷ [])) d in
+    let t = then-good (unitTested most used i (unitFields e)) (λ u. physTested i 0 (e .phys) (next k)) x q in
     let p = phys-pass i 0 (e .phys) (next k) x (t .2) in
-    let r = units-pass most (i + 1) (seen ++ (e .address ∷ [])) d k x (p .0) in
+    let r = units-pass most (i + 1) (used ++ (e .address ∷ [])) d k x (p .0) in
     (r .0, λ m. ap (λ (y : Result ExpanderUnit). then y (λ u. physTested i 0 (e .phys) (next m))) (t .1) ∙ p .1 (next m) ∙ r .1 m)
 
 -- what is read of a card

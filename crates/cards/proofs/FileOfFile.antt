@@ -160,17 +160,17 @@ unfolding shortGeneral keptGeneral
 general-kept s b = rw (two-of s 6 b)
 
 module _ (most : Setting) (file : List ℕ) (b : Bytes file) where
-  head-kept : (seen : List ℕ) (i at : ℕ) (u : Parsed ExpanderUnit) (φs : List Phy) → expanderUnit most file seen i at ≡ good u → length φs ≡ u .value .phys
+  head-kept : (used : List ℕ) (i at : ℕ) (u : Parsed ExpanderUnit) (φs : List Phy) → expanderUnit most file used i at ≡ good u → length φs ≡ u .value .phys
       → unitHead (expanderOf (u .value) φs) ≡ eight file at ++ keptGeneral (take (u .next - (at + 8)) (drop (at + 8) file))
   unfolding expanderUnit unitHead
-  head-kept seen i at u φs e c =
-      let t = then-good (placed i 0 (frameAt ReportGeneral generalRead file (at + 8))) (λ g. then (unitTested most seen i (unitOf (numberAt file at 8) (g .value))) (λ v. good (parsed v (g .next)))) u e in
-      let s = then-good (unitTested most seen i (unitOf (numberAt file at 8) (t .0 .value))) (λ v. good (parsed v (t .0 .next))) u (t .2) in
+  head-kept used i at u φs e c =
+      let t = then-good (placed i 0 (frameAt ReportGeneral generalRead file (at + 8))) (λ g. then (unitTested most used i (unitOf (numberAt file at 8) (g .value))) (λ v. good (parsed v (g .next)))) u e in
+      let s = then-good (unitTested most used i (unitOf (numberAt file at 8) (t .0 .value))) (λ v. good (parsed v (t .0 .next))) u (t .2) in
       let z : parsed (s .0) (t .0 .next) ≡ u = good-one (parsed (s .0) (t .0 .next)) u (s .2) in
       let f = framed ReportGeneral generalRead i 0 file (at + 8) (t .0) (t .1) in
       let k : u .next - (at + 8) ≡ f .size = omega (arith, ap (λ (y : Parsed ExpanderUnit). y .next) z, f .next) in
       let d = general-is (take (f .size) (drop (at + 8) file)) (t .0 .value) (f .reads) in
-      let v : unitOf (numberAt file at 8) (t .0 .value) ≡ u .value = tested-same most seen i (unitOf (numberAt file at 8) (t .0 .value)) (s .0) (s .1) ∙ ap (λ (y : Parsed ExpanderUnit). y .value) z in
+      let v : unitOf (numberAt file at 8) (t .0 .value) ≡ u .value = tested-same most used i (unitOf (numberAt file at 8) (t .0 .value)) (s .0) (s .1) ∙ ap (λ (y : Parsed ExpanderUnit). y .value) z in
       let g : generalOf (expanderOf (u .value) φs) ≡ t .0 .value =
       ap (λ (n : ℕ). record { routeIndexes = u .value .routeIndexes; phys = n; configurable = u .value .configurable }) c
       ∙ sym (ap (λ (w : ExpanderUnit). record { routeIndexes = w .routeIndexes; phys = w .phys; configurable = w .configurable }) v) in
@@ -179,38 +179,38 @@ module _ (most : Setting) (file : List ℕ) (b : Bytes file) where
       ∙ ap (λ (l : List ℕ). eight file at ++ l) (ap shortGeneral (g ∙ sym d) ∙ general-kept (take (f .size) (drop (at + 8) file)) (part (f .size) (at + 8) file b)
       ∙ ap (λ (n : ℕ). keptGeneral (take n (drop (at + 8) file))) (sym k))
 
-  expanders-kept : (count i at : ℕ) (seen : List ℕ) (d : Domain) → expanders most file count i at seen ≡ good d → unitsOf d ≡ keptExpanders most file count i at seen
+  expanders-kept : (count i at : ℕ) (used : List ℕ) (d : Domain) → expanders most file count i at used ≡ good d → unitsOf d ≡ keptExpanders most file count i at used
   unfolding expanders unitsOf keptExpanders
-  expanders-kept zero i at seen d e =
+  expanders-kept zero i at used d e =
       let t = unless-good (eqb at (length file)) (refusal 1 i 0) (good []) d e in
       sym (ap unitsOf (good-one [] d (t .1)))
-  expanders-kept (suc count) i at seen d e =
-      let next : Parsed ExpanderUnit → List ℕ = λ u. seen ++ (u .value .address ∷ []) in
-      let t = then-good (expanderUnit most file seen i at) (λ u. then (phyUnits file (u .value .address) i (u .value .phys) 0 (u .next)) (λ φs. then (expanders most file count (i + 1) (φs .next) (seen ++ (u .value .address ∷ []))) (λ r. good (expanderOf (u .value) (φs .value) ∷ r)))) d e in
+  expanders-kept (suc count) i at used d e =
+      let next : Parsed ExpanderUnit → List ℕ = λ u. used ++ (u .value .address ∷ []) in
+      let t = then-good (expanderUnit most file used i at) (λ u. then (phyUnits file (u .value .address) i (u .value .phys) 0 (u .next)) (λ φs. then (expanders most file count (i + 1) (φs .next) (used ++ (u .value .address ∷ []))) (λ r. good (expanderOf (u .value) (φs .value) ∷ r)))) d e in
       let u : Parsed ExpanderUnit = t .0 in
-      let s = then-good (phyUnits file (t .0 .value .address) i (t .0 .value .phys) 0 (t .0 .next)) (λ φs. then (expanders most file count (i + 1) (φs .next) (seen ++ (t .0 .value .address ∷ []))) (λ r. good (expanderOf (t .0 .value) (φs .value) ∷ r))) d (t .2) in
-      let r = then-good (expanders most file count (i + 1) (s .0 .next) (seen ++ (t .0 .value .address ∷ []))) (λ r. good (expanderOf (t .0 .value) (s .0 .value) ∷ r)) d (s .2) in
+      let s = then-good (phyUnits file (t .0 .value .address) i (t .0 .value .phys) 0 (t .0 .next)) (λ φs. then (expanders most file count (i + 1) (φs .next) (used ++ (t .0 .value .address ∷ []))) (λ r. good (expanderOf (t .0 .value) (φs .value) ∷ r))) d (t .2) in
+      let r = then-good (expanders most file count (i + 1) (s .0 .next) (used ++ (t .0 .value .address ∷ []))) (λ r. good (expanderOf (t .0 .value) (s .0 .value) ∷ r)) d (s .2) in
       let z : expanderOf (t .0 .value) (s .0 .value) ∷ r .0 ≡ d = good-one (expanderOf (t .0 .value) (s .0 .value) ∷ r .0) d (r .2) in
       let c = phys-count file (t .0 .value .address) i (t .0 .value .phys) 0 (t .0 .next) (s .0) (s .1) in
-      let h = head-kept seen i at (t .0) (s .0 .value) (t .1) c in
-      let k = expanders-kept count (i + 1) (s .0 .next) (seen ++ (t .0 .value .address ∷ [])) (r .0) (r .1) in
-      let p = phys-kept file b (t .0 .value .address) i (t .0 .value .phys) 0 (t .0 .next) (s .0) (λ n. keptExpanders most file count (i + 1) n (seen ++ (t .0 .value .address ∷ []))) (s .1) in
+      let h = head-kept used i at (t .0) (s .0 .value) (t .1) c in
+      let k = expanders-kept count (i + 1) (s .0 .next) (used ++ (t .0 .value .address ∷ [])) (r .0) (r .1) in
+      let p = phys-kept file b (t .0 .value .address) i (t .0 .value .phys) 0 (t .0 .next) (s .0) (λ n. keptExpanders most file count (i + 1) n (used ++ (t .0 .value .address ∷ []))) (s .1) in
       sym (ap unitsOf z)
       ∙ ap (λ (l : List ℕ). unitHead (expanderOf (t .0 .value) (s .0 .value)) ++ (physFrames (t .0 .value .address) 0 (s .0 .value) ++ l)) k
       ∙ ap (λ (l : List ℕ). unitHead (expanderOf (t .0 .value) (s .0 .value)) ++ l) p
-      ∙ ap (λ (l : List ℕ). l ++ keptPhys file (t .0 .value .address) i (t .0 .value .phys) 0 (t .0 .next) (λ n. keptExpanders most file count (i + 1) n (seen ++ (t .0 .value .address ∷ [])))) h
+      ∙ ap (λ (l : List ℕ). l ++ keptPhys file (t .0 .value .address) i (t .0 .value .phys) 0 (t .0 .next) (λ n. keptExpanders most file count (i + 1) n (used ++ (t .0 .value .address ∷ [])))) h
       ∙ sym (ap (λ (x : Result (Parsed ExpanderUnit)). orStay [] x (λ v. (eight file at ++ keptGeneral (take (v .next - (at + 8)) (drop (at + 8) file)))
-      ++ keptPhys file (v .value .address) i (v .value .phys) 0 (v .next) (λ n. keptExpanders most file count (i + 1) n (seen ++ (v .value .address ∷ []))))) (t .1))
+      ++ keptPhys file (v .value .address) i (v .value .phys) 0 (v .next) (λ n. keptExpanders most file count (i + 1) n (used ++ (v .value .address ∷ []))))) (t .1))
 
   -- as many expanders as the header says
-  count-expanders : (count i at : ℕ) (seen : List ℕ) (d : Domain) → expanders most file count i at seen ≡ good d → length d ≡ count
+  count-expanders : (count i at : ℕ) (used : List ℕ) (d : Domain) → expanders most file count i at used ≡ good d → length d ≡ count
   unfolding expanders
-  count-expanders zero i at seen d e = sym (ap length (good-one [] d (unless-good (eqb at (length file)) (refusal 1 i 0) (good []) d e .1)))
-  count-expanders (suc count) i at seen d e =
-      let t = then-good (expanderUnit most file seen i at) (λ u. then (phyUnits file (u .value .address) i (u .value .phys) 0 (u .next)) (λ φs. then (expanders most file count (i + 1) (φs .next) (seen ++ (u .value .address ∷ []))) (λ r. good (expanderOf (u .value) (φs .value) ∷ r)))) d e in
-      let s = then-good (phyUnits file (t .0 .value .address) i (t .0 .value .phys) 0 (t .0 .next)) (λ φs. then (expanders most file count (i + 1) (φs .next) (seen ++ (t .0 .value .address ∷ []))) (λ r. good (expanderOf (t .0 .value) (φs .value) ∷ r))) d (t .2) in
-      let r = then-good (expanders most file count (i + 1) (s .0 .next) (seen ++ (t .0 .value .address ∷ []))) (λ r. good (expanderOf (t .0 .value) (s .0 .value) ∷ r)) d (s .2) in
-      sym (ap length (good-one (expanderOf (t .0 .value) (s .0 .value) ∷ r .0) d (r .2))) ∙ ap suc (count-expanders count (i + 1) (s .0 .next) (seen ++ (t .0 .value .address ∷ [])) (r .0) (r .1))
+  count-expanders zero i at used d e = sym (ap length (good-one [] d (unless-good (eqb at (length file)) (refusal 1 i 0) (good []) d e .1)))
+  count-expanders (suc count) i at used d e =
+      let t = then-good (expanderUnit most file used i at) (λ u. then (phyUnits file (u .value .address) i (u .value .phys) 0 (u .next)) (λ φs. then (expanders most file count (i + 1) (φs .next) (used ++ (u .value .address ∷ []))) (λ r. good (expanderOf (u .value) (φs .value) ∷ r)))) d e in
+      let s = then-good (phyUnits file (t .0 .value .address) i (t .0 .value .phys) 0 (t .0 .next)) (λ φs. then (expanders most file count (i + 1) (φs .next) (used ++ (t .0 .value .address ∷ []))) (λ r. good (expanderOf (t .0 .value) (φs .value) ∷ r))) d (t .2) in
+      let r = then-good (expanders most file count (i + 1) (s .0 .next) (used ++ (t .0 .value .address ∷ []))) (λ r. good (expanderOf (t .0 .value) (s .0 .value) ∷ r)) d (s .2) in
+      sym (ap length (good-one (expanderOf (t .0 .value) (s .0 .value) ∷ r .0) d (r .2))) ∙ ap suc (count-expanders count (i + 1) (s .0 .next) (used ++ (t .0 .value .address ∷ [])) (r .0) (r .1))
 
   -- the file of the domain keeps the file's fields, and has zeros elsewhere
   pub kept-file : (d : Domain) → domainRead most file ≡ good d → fileOf d ≡ keptFile most file

@@ -113,10 +113,10 @@ module _ (file : List ℕ) (ownAddress i : ℕ) (o : ownAddress < 2 ^ 64) where
       rw (u, r, e)
 
 module _ (most : Setting) (file : List ℕ) where
-  expander-unit : (seen : List ℕ) (i at : ℕ) (e : Expander) (rest : List ℕ) (u : ExpanderUnit) → drop at file ≡ unitHead e ++ rest → ExpanderRange e
-      → unitTested most seen i (unitFields e) ≡ good u → expanderUnit most file seen i at ≡ good (parsed u (at + 36))
+  expander-unit : (used : List ℕ) (i at : ℕ) (e : Expander) (rest : List ℕ) (u : ExpanderUnit) → drop at file ≡ unitHead e ++ rest → ExpanderRange e
+      → unitTested most used i (unitFields e) ≡ good u → expanderUnit most file used i at ≡ good (parsed u (at + 36))
   unfolding unitHead
-  expander-unit seen i at e rest u q h t =
+  expander-unit used i at e rest u q h t =
       let a : List ℕ = bytesOf 8 (e .address) in
       let g : List ℕ = shortGeneral (generalOf e) in
       let b = length-bytesOf 8 (e .address) in
@@ -126,25 +126,25 @@ module _ (most : Setting) (file : List ℕ) where
       let q1 : drop (at + 8) file ≡ g ++ rest = after file at a (g ++ rest) q′ 8 b in
       let n = length-general (generalOf e) in
       let z : at + 8 + 28 ≡ at + 36 = omega arith in
-      expander-unit-by most file seen i at (e .address) o 28 (good (generalOf e))
+      expander-unit-by most file used i at (e .address) o 28 (good (generalOf e))
       (size-there file (at + 8) g rest q1 ReportGeneral 28 n (omega arith) (size-general (generalOf e) rest))
       (ap generalRead (frame-at file (at + 8) g rest q1 28 n) ∙ general-back (generalOf e) (h .route-indexes-in) (h .configurable-in))
       ∙ rw (t, z)
 
-  expanders-back : (d : Domain) (i at : ℕ) (seen : List ℕ) (x : Domain) → drop at file ≡ unitsOf d → at ≤ length file → ExpandersRange d
-      → unitsTested most i seen d (good x) ≡ good x → expanders most file (length d) i at seen ≡ good d
+  expanders-back : (d : Domain) (i at : ℕ) (used : List ℕ) (x : Domain) → drop at file ≡ unitsOf d → at ≤ length file → ExpandersRange d
+      → unitsTested most i used d (good x) ≡ good x → expanders most file (length d) i at used ≡ good d
   unfolding expanders unitsOf unitsTested
-  expanders-back [] i at seen x q m h k =
+  expanders-back [] i at used x q m h k =
       let l : at ≡ length file = omega (arith, length-drop at file, ap length q) in
       rw (eq-eqb at (length file) l)
-  expanders-back (e ∷ d) i at seen x q m h k =
+  expanders-back (e ∷ d) i at used x q m h k =
       let ps : List ℕ = physFrames (e .address) 0 (e .phys) in
       let n : ℕ = length (e .phys) in
-      let next : List ℕ = seen ++ (e .address ∷ []) in
-      let t = then-good (unitTested most seen i (unitFields e)) (λ u. physTested i 0 (e .phys) (unitsTested most (i + 1) next d (good x))) x k in
-      let s : unitTested most seen i (unitFields e) ≡ good (unitFields e) = t .1 ∙ ap good (sym (tested-same most seen i (unitFields e) (t .0) (t .1))) in
+      let next : List ℕ = used ++ (e .address ∷ []) in
+      let t = then-good (unitTested most used i (unitFields e)) (λ u. physTested i 0 (e .phys) (unitsTested most (i + 1) next d (good x))) x k in
+      let s : unitTested most used i (unitFields e) ≡ good (unitFields e) = t .1 ∙ ap good (sym (tested-same most used i (unitFields e) (t .0) (t .1))) in
       let p = phys-pass i 0 (e .phys) (unitsTested most (i + 1) next d (good x)) x (t .2) in
-      let u = expander-unit seen i at e (ps ++ unitsOf d) (unitFields e) q (h .0) s in
+      let u = expander-unit used i at e (ps ++ unitsOf d) (unitFields e) q (h .0) s in
       let q3 : drop (at + 36) file ≡ ps ++ unitsOf d = after file at (unitHead e) (ps ++ unitsOf d) q 36 (length-head e) in
       let v = phy-units file (e .address) i (h .0 .own-address-in) (e .phys) 0 (at + 36) (unitsOf d) x q3 (h .0 .phys-in) (p .1 (good x)) in
       let q4 : drop (at + 36 + 52 * n) file ≡ unitsOf d = after file (at + 36) ps (unitsOf d) q3 (52 * n) (length-frames (e .address) 0 (e .phys)) in

@@ -121,18 +121,18 @@ phys-few l at b =
     omega arith
 
 -- what a walk through the expanders before expander i of a card's domain d holds, where `rest` are those to come
-pub record Walking (most : Setting) (before : List ℕ) (d : Domain) (i at : ℕ) (rows seen : List ℕ) (fine : Bool) (check : Check) (rest : Domain) : Type 0 where
+pub record Walking (most : Setting) (before : List ℕ) (d : Domain) (i at : ℕ) (rows used : List ℕ) (fine : Bool) (check : Check) (rest : Domain) : Type 0 where
   pub words : sets rows (258 * i) (rowsOf rest) ≡ sets before 0 (rowsOf d)
   pub place : at + expandersSize rest ≡ cardSize d
   pub results : (fine && allFine rest) ≡ allFine d
-  pub tests : (k : Result Domain) → afterCheck check (unitsTested most i (take i seen) rest k) ≡ unitsTested most 0 [] d k
+  pub tests : (k : Result Domain) → afterCheck check (unitsTested most i (take i used) rest k) ≡ unitsTested most 0 [] d k
 
 pub domain-on : (l : List ℕ) (n : ℕ) → n ≡ suc (field 6 (drop 4 l)) → expandersOn n (drop 16 l) ≡ domainOn l
 unfolding domainOn
 domain-on l n e = rw e
 
-pub walk-starts : (most : Setting) (l rows seen : List ℕ) (n : ℕ) → n ≡ suc (field 6 (drop 4 l)) → Walking most rows (domainOn l) 0 16 rows seen true AllPassed (expandersOn (n - 0) (drop 16 l))
-walk-starts most l rows seen n e =
+pub walk-starts : (most : Setting) (l rows used : List ℕ) (n : ℕ) → n ≡ suc (field 6 (drop 4 l)) → Walking most rows (domainOn l) 0 16 rows used true AllPassed (expandersOn (n - 0) (drop 16 l))
+walk-starts most l rows used n e =
     let z : n - 0 ≡ n = omega arith in
     let q : expandersOn (n - 0) (drop 16 l) ≡ domainOn l = ap (λ (m : ℕ). expandersOn m (drop 16 l)) z ∙ domain-on l n e in
     record {
@@ -143,12 +143,12 @@ walk-starts most l rows seen n e =
     }
 
 -- one expander more, and the end
-module _ (most : Setting) (l before : List ℕ) (d : Domain) (n i at : ℕ) (rows seen : List ℕ) (fine : Bool) (check : Check)
-    (inv : Walking most before d i at rows seen fine check (expandersOn (n - i) (drop at l))) where
+module _ (most : Setting) (l before : List ℕ) (d : Domain) (n i at : ℕ) (rows used : List ℕ) (fine : Bool) (check : Check)
+    (inv : Walking most before d i at rows used fine check (expandersOn (n - i) (drop at l))) where
   pub walk-goes : (b : Bits l) (u : ExpanderUnit) (walk : PhysWalk) (r : List ℕ) (a k : ℕ) (unit both : Check) → i < n → RowStored (expanderOn (drop at l)) at walk r → u ≡ unitOn (drop at l)
-      → ((k : Result Domain) → afterCheck unit k ≡ then (unitTested most (take i seen) i u) (λ w. unless (leb (u .phys) (walk .ranged)) (refusal 6 i (walk .ranged)) k))
-      → ((k : Result Domain) → afterCheck both k ≡ afterCheck check (afterCheck unit k)) → i < length seen → a ≡ 258 * i → k ≡ 258 → 258 * i + 258 ≤ length rows
-      → Walking most before d (i + 1) (walk .next) (take a rows ++ (r ++ drop k (drop a rows))) (set seen i (u .address)) (fine && walk .fine) both (expandersOn (n - (i + 1)) (drop (walk .next) l))
+      → ((k : Result Domain) → afterCheck unit k ≡ then (unitTested most (take i used) i u) (λ w. unless (leb (u .phys) (walk .ranged)) (refusal 6 i (walk .ranged)) k))
+      → ((k : Result Domain) → afterCheck both k ≡ afterCheck check (afterCheck unit k)) → i < length used → a ≡ 258 * i → k ≡ 258 → 258 * i + 258 ≤ length rows
+      → Walking most before d (i + 1) (walk .next) (take a rows ++ (r ++ drop k (drop a rows))) (set used i (u .address)) (fine && walk .fine) both (expandersOn (n - (i + 1)) (drop (walk .next) l))
       × (walk .next ≤ at + 10072)
   unfolding rowsOf expandersSize allFine
   walk-goes b u walk r a k unit both g s qu f o h qa qk m =
@@ -168,8 +168,8 @@ module _ (most : Setting) (l before : List ℕ) (d : Domain) (n i at : ℕ) (row
           place = omega (arith, inv .place, s .place);
           results = ap (λ (x : Bool). (fine && x) && allFine (expandersOn (n - (i + 1)) (drop (walk .next) l))) (s .results)
               ∙ and-assoc fine (resultsFine (expanderOn (drop at l) .phys)) (allFine (expandersOn (n - (i + 1)) (drop (walk .next) l))) ∙ sym (ap (λ (x : Domain). fine && allFine x) w) ∙ inv .results;
-          tests = tests-go most l seen i at (expandersOn (n - (i + 1)) (drop (walk .next) l)) check unit both u (walk .ranged) (λ x. unitsTested most 0 [] d x) qu (s .tests) f o h
-              (λ x. sym (ap (λ (y : Domain). afterCheck check (unitsTested most i (take i seen) y x)) w) ∙ inv .tests x);
+          tests = tests-go most l used i at (expandersOn (n - (i + 1)) (drop (walk .next) l)) check unit both u (walk .ranged) (λ x. unitsTested most 0 [] d x) qu (s .tests) f o h
+              (λ x. sym (ap (λ (y : Domain). afterCheck check (unitsTested most i (take i used) y x)) w) ∙ inv .tests x);
         },
         omega (arith, s .place),
       )
@@ -184,5 +184,5 @@ module _ (most : Setting) (l before : List ℕ) (d : Domain) (n i at : ℕ) (row
         place = omega (arith, inv .place);
         few = f;
         results = sym (ap (λ (x : Domain). fine && allFine x) w ∙ and-true fine) ∙ inv .results;
-        tests = λ k. sym (ap (λ (x : Domain). afterCheck check (unitsTested most i (take i seen) x k)) w) ∙ inv .tests k;
+        tests = λ k. sym (ap (λ (x : Domain). afterCheck check (unitsTested most i (take i used) x k)) w) ∙ inv .tests k;
       }

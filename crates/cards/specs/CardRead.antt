@@ -48,12 +48,12 @@ physTested i p (φ ∷ φs) k = unless (phyRanged φ) (refusal 6 i p) (physTeste
 abbrev pub unitFields : Expander → ExpanderUnit
 unitFields e = record { address = e .address; routeIndexes = e .routeIndexes; phys = length (e .phys); configurable = e .configurable }
 
--- 3, 4 and 6, unit by unit from expander i on, where `seen` are the addresses of the expanders before it, and then what follows
+-- 3, 4 and 6, unit by unit from expander i on, where `used` are the addresses of the expanders before it, and then what follows
 unfoldable pub unitsTested : Setting → ℕ → List ℕ → Domain → Result Domain → Result Domain
-unitsTested most i seen [] k = k
-unitsTested most i seen (e ∷ d) k =
-    then (unitTested most seen i (unitFields e)) (λ u.
-    physTested i 0 (e .phys) (unitsTested most (i + 1) (seen ++ (e .address ∷ [])) d k))
+unitsTested most i used [] k = k
+unitsTested most i used (e ∷ d) k =
+    then (unitTested most used i (unitFields e)) (λ u.
+    physTested i 0 (e .phys) (unitsTested most (i + 1) (used ++ (e .address ∷ [])) d k))
 
 -- 19 over the whole card, then 3 for the count, then unit by unit
 abbrev pub cardReadBy : Setting → List ℕ → Domain → Result Domain

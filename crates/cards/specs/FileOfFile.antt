@@ -43,12 +43,12 @@ keptPhys file ownAddress i (suc count) p at rest =
 
 -- the last `count` expanders, from expander i and offset `at` on
 unfoldable pub keptExpanders : Setting → List ℕ → ℕ → ℕ → ℕ → List ℕ → List ℕ
-keptExpanders most file zero i at seen = []
-keptExpanders most file (suc count) i at seen =
-    orStay [] (expanderUnit most file seen i at) (λ u.
+keptExpanders most file zero i at used = []
+keptExpanders most file (suc count) i at used =
+    orStay [] (expanderUnit most file used i at) (λ u.
     (eight file at ++ keptGeneral (take (u .next - (at + 8)) (drop (at + 8) file)))
     ++ keptPhys file (u .value .address) i (u .value .phys) 0 (u .next) (λ next.
-    keptExpanders most file count (i + 1) next (seen ++ (u .value .address ∷ []))))
+    keptExpanders most file count (i + 1) next (used ++ (u .value .address ∷ []))))
 
 unfoldable pub keptFile : Setting → List ℕ → List ℕ
 keptFile most file = orStay [] (headerUnit most file) (λ n. 0x10 ∷ n ∷ keptExpanders most file n 0 2 [])

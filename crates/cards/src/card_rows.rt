@@ -94,10 +94,10 @@ fn put_row(row: &mut [u64], card: &[u8], u: ExpanderUnit, at: usize) -> PhysWalk
 }
 
 // 3 and 4 of expander i, whose fields are u, then 6, where `ranged` of its phys come before the first of which it holds.
-fn check_unit(most: Setting, seen: &[u64], u: ExpanderUnit, i: ExpanderNumber, ranged: u8) -> Check
-    ensures { λ r. ⌜ ((k : Result Domain) → afterCheck r k ≡ then (unitTested most (now (seen .entry)) (i .0) u) (λ _. unless (leb (u .phys) ranged) (refusal 6 (i .0) ranged) k)) ⌝ }
+fn check_unit(most: Setting, used: &[u64], u: ExpanderUnit, i: ExpanderNumber, ranged: u8) -> Check
+    ensures { λ r. ⌜ ((k : Result Domain) → afterCheck r k ≡ then (unitTested most (now (used .entry)) (i .0) u) (λ _. unless (leb (u .phys) ranged) (refusal 6 (i .0) ranged) k)) ⌝ }
 {
-    let test = wiring::test_unit(most, seen, u, i, 0);
+    let test = wiring::test_unit(most, used, u, i, 0);
     match test {
         ExpanderRead::Refused(r) => Check::Refused(r),
         ExpanderRead::Read(_, _) => {
@@ -125,7 +125,7 @@ pub(crate) fn walk_card(rows: &mut [u64], most: Setting, card: &[u8], n: u8) -> 
     ensures { λ r. ⌜ CardStored most (domainOn (bitsOf (now (card .entry)))) r (now (rows .entry)) (now (rows .exit)) ⌝ }
 {
     // the addresses of the expanders before expander i
-    let mut seen = [0u64; 64];
+    let mut used = [0u64; 64];
     let mut at: usize = 16;
     let mut fine = true;
     let mut check = Check::Passed;
@@ -136,9 +136,9 @@ pub(crate) fn walk_card(rows: &mut [u64], most: Setting, card: &[u8], n: u8) -> 
         let e = a + files::ROW_WORDS;
         let u = reading::unit_from(card, at);
         let walk = put_row(&mut rows[a..e], card, u, at);
-        let unit = check_unit(most, &seen[..k], u, ExpanderNumber(i), walk.ranged);
+        let unit = check_unit(most, &used[..k], u, ExpanderNumber(i), walk.ranged);
         check = first(check, unit);
-        seen[k] = u.address;
+        used[k] = u.address;
         fine = fine & walk.fine;
         at = walk.next;
         i += 1;

@@ -117,13 +117,13 @@ phys-end file ownAddress i (suc n) p at us e =
     )
 
 -- an expander's unit: where its frame ends, and its number of phys
-expander-ends : (most : Setting) (file seen : List ℕ) (i at : ℕ) (u : Parsed ExpanderUnit) → expanderUnit most file seen i at ≡ good u
+expander-ends : (most : Setting) (file used : List ℕ) (i at : ℕ) (u : Parsed ExpanderUnit) → expanderUnit most file used i at ≡ good u
     → (u .next ≡ pastFrame ReportGeneral file (at + 8)) × (u .value .phys ≡ byte file (at + 8 + 9))
 unfolding expanderUnit generalRead
-expander-ends most file seen i at u e = go (sizeAt ReportGeneral file (at + 8)) refl
+expander-ends most file used i at u e = go (sizeAt ReportGeneral file (at + 8)) refl
   where
     test : General → Result ExpanderUnit
-    test g = unitTested most seen i (unitOf (numberAt file at 8) g)
+    test g = unitTested most used i (unitOf (numberAt file at 8) g)
 
     go : (x : Result ℕ) → sizeAt ReportGeneral file (at + 8) ≡ x → (u .next ≡ pastFrame ReportGeneral file (at + 8)) × (u .value .phys ≡ byte file (at + 8 + 9))
     go (refused r) f = never _ u (sym (unit-cut ReportGeneral generalRead test i 0 file (at + 8) r f) ∙ e)
@@ -149,7 +149,7 @@ expander-ends most file seen i at u e = go (sizeAt ReportGeneral file (at + 8)) 
         counted (good g) q k =
             let t = then-good (test g) (endsAt (at + 8 + n)) u k in
             let w = unless-good (within (most .phys) (g .phys)) (refusal 3 i 0) _ (t .0) (t .1) in
-            let y = unless-good (not (eqb (numberAt file at 8) 0) && not (isIn (numberAt file at 8) seen)) (refusal 4 i 0) (good (unitOf (numberAt file at 8) g)) (t .0) (w .1) in
+            let y = unless-good (not (eqb (numberAt file at 8) 0) && not (isIn (numberAt file at 8) used)) (refusal 4 i 0) (good (unitOf (numberAt file at 8) g)) (t .0) (w .1) in
             sym (ap (λ (y : Parsed ExpanderUnit). y .value .phys) (good-one (parsed (t .0) (at + 8 + n)) u (t .2))) ∙ sym (ap (λ (y : ExpanderUnit). y .phys) (good-one (unitOf (numberAt file at 8) g) (t .0) (y .1))) ∙ read g q
 
 -- files of one length with the same byte 3 of a frame: the same size of it
@@ -201,14 +201,14 @@ module _ (file file′ : List ℕ) (lo a : ℕ) (long : length file′ ≡ lengt
   unfolding phyUnit
   phy-alike ownAddress i p at = unit-alike DiscoverResponse discoverRead (phyOf ownAddress i p) i p at
 
-  expander-alike : (most : Setting) (seen : List ℕ) (i at : ℕ) (u : Parsed ExpanderUnit) → expanderUnit most file seen i at ≡ good u → Apart at (u .next)
-      → expanderUnit most file′ seen i at ≡ good u
+  expander-alike : (most : Setting) (used : List ℕ) (i at : ℕ) (u : Parsed ExpanderUnit) → expanderUnit most file used i at ≡ good u → Apart at (u .next)
+      → expanderUnit most file′ used i at ≡ good u
   unfolding expanderUnit
-  expander-alike most seen i at u e h =
-      let m = expander-ends most file seen i at u e .0 in
+  expander-alike most used i at u e h =
+      let m = expander-ends most file used i at u e .0 in
       let l = general-more file (at + 8) in
       let n : numberAt file′ at 8 ≡ numberAt file at 8 = number-alike file′ file at at 8 (λ j o. same-in at (u .next) (at + j) h (omega arith) (omega arith)) in
-      rw n (unit-alike ReportGeneral generalRead (λ g. unitTested most seen i (unitOf (numberAt file at 8) g)) i 0 (at + 8) u e (⊎-elim inl (λ o. inr (omega arith)) h))
+      rw n (unit-alike ReportGeneral generalRead (λ g. unitTested most used i (unitOf (numberAt file at 8) g)) i 0 (at + 8) u e (⊎-elim inl (λ o. inr (omega arith)) h))
 
   phys-alike : (ownAddress i n p at : ℕ) (us : Parsed (List Phy)) → phyUnits file ownAddress i n p at ≡ good us → Apart at (us .next) → phyUnits file′ ownAddress i n p at ≡ good us
   unfolding phyUnits
@@ -251,60 +251,60 @@ module _ (file file′ : List ℕ) (lo a : ℕ) (long : length file′ ≡ lengt
       (good-then (phyUnit file′ ownAddress i p at) _ (u .0) (parsed (u .0 .value ∷ w) (v .0 .next)) (phy-alike ownAddress i p at (u .0) (u .1) (inl (omega arith)))
       (good-then (phyUnits file′ ownAddress i n (p + 1) (u .0 .next)) _ (parsed w (v .0 .next)) (parsed (u .0 .value ∷ w) (v .0 .next)) r refl))
 
-  expanders-alike : (most : Setting) (n i at : ℕ) (seen : List ℕ) (d : Domain) → expanders most file n i at seen ≡ good d → lo + 33 ≤ at → expanders most file′ n i at seen ≡ good d
+  expanders-alike : (most : Setting) (n i at : ℕ) (used : List ℕ) (d : Domain) → expanders most file n i at used ≡ good d → lo + 33 ≤ at → expanders most file′ n i at used ≡ good d
   unfolding expanders
-  expanders-alike most zero i at seen d e h = ap (λ (k : ℕ). unless (eqb at k) (refusal 1 i 0) (good [])) long ∙ e
-  expanders-alike most (suc n) i at seen d e h =
-      let u = then-good (expanderUnit most file seen i at) _ d e in
+  expanders-alike most zero i at used d e h = ap (λ (k : ℕ). unless (eqb at k) (refusal 1 i 0) (good [])) long ∙ e
+  expanders-alike most (suc n) i at used d e h =
+      let u = then-good (expanderUnit most file used i at) _ d e in
       let v = then-good (phyUnits file (u .0 .value .address) i (u .0 .value .phys) 0 (u .0 .next)) _ d (u .2) in
-      let w = then-good (expanders most file n (i + 1) (v .0 .next) (seen ++ (u .0 .value .address ∷ []))) _ d (v .2) in
-      let b = expander-ends most file seen i at (u .0) (u .1) .0 in
+      let w = then-good (expanders most file n (i + 1) (v .0 .next) (used ++ (u .0 .value .address ∷ []))) _ d (v .2) in
+      let b = expander-ends most file used i at (u .0) (u .1) .0 in
       let c = general-more file (at + 8) in
       let g = phys-end file (u .0 .value .address) i (u .0 .value .phys) 0 (u .0 .next) (v .0) (v .1) .0 in
       let o = phys-more file (u .0 .value .phys) (u .0 .next) in
-      good-then (expanderUnit most file′ seen i at) _ (u .0) d (expander-alike most seen i at (u .0) (u .1) (inr h))
+      good-then (expanderUnit most file′ used i at) _ (u .0) d (expander-alike most used i at (u .0) (u .1) (inr h))
       (good-then (phyUnits file′ (u .0 .value .address) i (u .0 .value .phys) 0 (u .0 .next)) _ (v .0) d (phys-alike (u .0 .value .address) i (u .0 .value .phys) 0 (u .0 .next) (v .0) (v .1) (inr (omega arith)))
-      (good-then (expanders most file′ n (i + 1) (v .0 .next) (seen ++ (u .0 .value .address ∷ []))) _ (w .0) d (expanders-alike most n (i + 1) (v .0 .next) (seen ++ (u .0 .value .address ∷ [])) (w .0) (w .1) (omega arith)) (w .2)))
+      (good-then (expanders most file′ n (i + 1) (v .0 .next) (used ++ (u .0 .value .address ∷ []))) _ (w .0) d (expanders-alike most n (i + 1) (v .0 .next) (used ++ (u .0 .value .address ∷ [])) (w .0) (w .1) (omega arith)) (w .2)))
 
-  expanders-edited : (most : Setting) (n i at : ℕ) (seen : List ℕ) (d : Domain) (e q : ℕ) → expanders most file n i at seen ≡ good d → lo ≡ phyFrame file e q at
-      → T (pluggable (phyAt d e q)) → expanders most file′ n i at seen ≡ good (setPhy d e q (replug a (phyAt d e q)))
+  expanders-edited : (most : Setting) (n i at : ℕ) (used : List ℕ) (d : Domain) (e q : ℕ) → expanders most file n i at used ≡ good d → lo ≡ phyFrame file e q at
+      → T (pluggable (phyAt d e q)) → expanders most file′ n i at used ≡ good (setPhy d e q (replug a (phyAt d e q)))
   unfolding expanders phyFrame setPhy withPhy
-  expanders-edited most zero i at seen d e q h l f =
+  expanders-edited most zero i at used d e q h l f =
       absurd (subst (λ (y : Domain). T (pluggable (phyAt y e q))) (sym (good-one [] d (unless-good (eqb at (length file)) (refusal 1 i 0) (good []) d h .1))) f)
-  expanders-edited most (suc n) i at seen d zero q h l f =
-      let u = then-good (expanderUnit most file seen i at) _ d h in
+  expanders-edited most (suc n) i at used d zero q h l f =
+      let u = then-good (expanderUnit most file used i at) _ d h in
       let v = then-good (phyUnits file (u .0 .value .address) i (u .0 .value .phys) 0 (u .0 .next)) _ d (u .2) in
-      let w = then-good (expanders most file n (i + 1) (v .0 .next) (seen ++ (u .0 .value .address ∷ []))) _ d (v .2) in
+      let w = then-good (expanders most file n (i + 1) (v .0 .next) (used ++ (u .0 .value .address ∷ []))) _ d (v .2) in
       let z : expanderOf (u .0 .value) (v .0 .value) ∷ w .0 ≡ d = good-one (expanderOf (u .0 .value) (v .0 .value) ∷ w .0) d (w .2) in
       let f′ = subst (λ (y : Domain). T (pluggable (phyAt y 0 q))) (sym z) f in
-      let b = expander-ends most file seen i at (u .0) (u .1) .0 in
+      let b = expander-ends most file used i at (u .0) (u .1) .0 in
       let l′ : lo ≡ pastPhys file q (u .0 .next) = l ∙ ap (pastPhys file q) (sym b) in
       let k = phys-end file (u .0 .value .address) i (u .0 .value .phys) 0 (u .0 .next) (v .0) (v .1) in
       let there = phy-range (expanderOf (u .0 .value) (v .0 .value) ∷ w .0) pluggable 0 q f′ (λ t. t) in
       let o = phys-more file q (u .0 .next) in
       let g = phys-before file (u .0 .value .phys) q (u .0 .next) (omega (arith, k .1)) in
       let φs : List Phy = set (v .0 .value) q (replug a (getD (v .0 .value) q (Vacant 0))) in
-      subst (λ (y : Domain). expanders most file′ (suc n) i at seen ≡ good (setPhy y 0 q (replug a (phyAt y 0 q)))) z
-      (good-then (expanderUnit most file′ seen i at) _ (u .0) (expanderOf (u .0 .value) φs ∷ w .0) (expander-alike most seen i at (u .0) (u .1) (inl (omega arith)))
+      subst (λ (y : Domain). expanders most file′ (suc n) i at used ≡ good (setPhy y 0 q (replug a (phyAt y 0 q)))) z
+      (good-then (expanderUnit most file′ used i at) _ (u .0) (expanderOf (u .0 .value) φs ∷ w .0) (expander-alike most used i at (u .0) (u .1) (inl (omega arith)))
       (good-then (phyUnits file′ (u .0 .value .address) i (u .0 .value .phys) 0 (u .0 .next)) _ (parsed φs (v .0 .next)) (expanderOf (u .0 .value) φs ∷ w .0) (phys-edited (u .0 .value .address) i (u .0 .value .phys) 0 (u .0 .next) q (v .0) (v .1) l′ f′)
-      (good-then (expanders most file′ n (i + 1) (v .0 .next) (seen ++ (u .0 .value .address ∷ []))) _ (w .0) (expanderOf (u .0 .value) φs ∷ w .0) (expanders-alike most n (i + 1) (v .0 .next) (seen ++ (u .0 .value .address ∷ [])) (w .0) (w .1) (omega (arith, k .0))) refl)))
-  expanders-edited most (suc n) i at seen d (suc e) q h l f =
-      let u = then-good (expanderUnit most file seen i at) _ d h in
+      (good-then (expanders most file′ n (i + 1) (v .0 .next) (used ++ (u .0 .value .address ∷ []))) _ (w .0) (expanderOf (u .0 .value) φs ∷ w .0) (expanders-alike most n (i + 1) (v .0 .next) (used ++ (u .0 .value .address ∷ [])) (w .0) (w .1) (omega (arith, k .0))) refl)))
+  expanders-edited most (suc n) i at used d (suc e) q h l f =
+      let u = then-good (expanderUnit most file used i at) _ d h in
       let v = then-good (phyUnits file (u .0 .value .address) i (u .0 .value .phys) 0 (u .0 .next)) _ d (u .2) in
-      let w = then-good (expanders most file n (i + 1) (v .0 .next) (seen ++ (u .0 .value .address ∷ []))) _ d (v .2) in
+      let w = then-good (expanders most file n (i + 1) (v .0 .next) (used ++ (u .0 .value .address ∷ []))) _ d (v .2) in
       let z : expanderOf (u .0 .value) (v .0 .value) ∷ w .0 ≡ d = good-one (expanderOf (u .0 .value) (v .0 .value) ∷ w .0) d (w .2) in
       let f′ = subst (λ (y : Domain). T (pluggable (phyAt y (suc e) q))) (sym z) f in
-      let b = expander-ends most file seen i at (u .0) (u .1) in
+      let b = expander-ends most file used i at (u .0) (u .1) in
       let k = phys-end file (u .0 .value .address) i (u .0 .value .phys) 0 (u .0 .next) (v .0) (v .1) .0 in
       let m : v .0 .next ≡ pastPhys file (byte file (at + 8 + 9)) (pastFrame ReportGeneral file (at + 8)) = k ∙ ap₂ (pastPhys file) (b .1) (b .0) in
       let l′ : lo ≡ phyFrame file e q (v .0 .next) = l ∙ ap (phyFrame file e q) (sym m) in
       let o = frame-more file e q (v .0 .next) in
       let g = phys-more file (u .0 .value .phys) (u .0 .next) in
       let x : Domain = setPhy (w .0) e q (replug a (phyAt (w .0) e q)) in
-      subst (λ (y : Domain). expanders most file′ (suc n) i at seen ≡ good (setPhy y (suc e) q (replug a (phyAt y (suc e) q)))) z
-      (good-then (expanderUnit most file′ seen i at) _ (u .0) (expanderOf (u .0 .value) (v .0 .value) ∷ x) (expander-alike most seen i at (u .0) (u .1) (inl (omega arith)))
+      subst (λ (y : Domain). expanders most file′ (suc n) i at used ≡ good (setPhy y (suc e) q (replug a (phyAt y (suc e) q)))) z
+      (good-then (expanderUnit most file′ used i at) _ (u .0) (expanderOf (u .0 .value) (v .0 .value) ∷ x) (expander-alike most used i at (u .0) (u .1) (inl (omega arith)))
       (good-then (phyUnits file′ (u .0 .value .address) i (u .0 .value .phys) 0 (u .0 .next)) _ (v .0) (expanderOf (u .0 .value) (v .0 .value) ∷ x) (phys-alike (u .0 .value .address) i (u .0 .value .phys) 0 (u .0 .next) (v .0) (v .1) (inl (omega arith)))
-      (good-then (expanders most file′ n (i + 1) (v .0 .next) (seen ++ (u .0 .value .address ∷ []))) _ x (expanderOf (u .0 .value) (v .0 .value) ∷ x) (expanders-edited most n (i + 1) (v .0 .next) (seen ++ (u .0 .value .address ∷ [])) (w .0) e q (w .1) l′ f′) refl)))
+      (good-then (expanders most file′ n (i + 1) (v .0 .next) (used ++ (u .0 .value .address ∷ []))) _ x (expanderOf (u .0 .value) (v .0 .value) ∷ x) (expanders-edited most n (i + 1) (v .0 .next) (used ++ (u .0 .value .address ∷ [])) (w .0) e q (w .1) l′ f′) refl)))
 
 -- bytes stored one after the other: those elsewhere stay, and each stands at its place
 stay-sets : (vs l : List ℕ) (i k : ℕ) → (k < i) ⊎ (i + length vs ≤ k) → byte (sets l i vs) k ≡ byte l k
@@ -575,46 +575,46 @@ unit-edited a at file fits ownAddress i p u e t = go (sizeAt DiscoverResponse fi
         (sym (unit-by DiscoverResponse discoverRead test i p file at n _ q refl) ∙ e)
 
 -- where all units end
-expanders-end : (most : Setting) (file : List ℕ) (n i at : ℕ) (seen : List ℕ) (d : Domain) → expanders most file n i at seen ≡ good d → at ≤ length file
+expanders-end : (most : Setting) (file : List ℕ) (n i at : ℕ) (used : List ℕ) (d : Domain) → expanders most file n i at used ≡ good d → at ≤ length file
 unfolding expanders
-expanders-end most file zero i at seen d h = omega (arith, eqb→eq at (length file) (unless-good (eqb at (length file)) (refusal 1 i 0) (good []) d h .0))
-expanders-end most file (suc n) i at seen d h =
-    let u = then-good (expanderUnit most file seen i at) _ d h in
+expanders-end most file zero i at used d h = omega (arith, eqb→eq at (length file) (unless-good (eqb at (length file)) (refusal 1 i 0) (good []) d h .0))
+expanders-end most file (suc n) i at used d h =
+    let u = then-good (expanderUnit most file used i at) _ d h in
     let v = then-good (phyUnits file (u .0 .value .address) i (u .0 .value .phys) 0 (u .0 .next)) _ d (u .2) in
-    let w = then-good (expanders most file n (i + 1) (v .0 .next) (seen ++ (u .0 .value .address ∷ []))) _ d (v .2) in
-    let b = expander-ends most file seen i at (u .0) (u .1) .0 in
+    let w = then-good (expanders most file n (i + 1) (v .0 .next) (used ++ (u .0 .value .address ∷ []))) _ d (v .2) in
+    let b = expander-ends most file used i at (u .0) (u .1) .0 in
     let c = general-more file (at + 8) in
     let k = phys-end file (u .0 .value .address) i (u .0 .value .phys) 0 (u .0 .next) (v .0) (v .1) .0 in
     let g = phys-more file (u .0 .value .phys) (u .0 .next) in
-    omega (arith, expanders-end most file n (i + 1) (v .0 .next) (seen ++ (u .0 .value .address ∷ [])) (w .0) (w .1))
+    omega (arith, expanders-end most file n (i + 1) (v .0 .next) (used ++ (u .0 .value .address ∷ [])) (w .0) (w .1))
 
 -- the frame of a phy that was read lies within its file
-expanders-within : (most : Setting) (file : List ℕ) (n i at : ℕ) (seen : List ℕ) (d : Domain) (e q : ℕ) → expanders most file n i at seen ≡ good d → q < length (expanderAt d e .phys)
+expanders-within : (most : Setting) (file : List ℕ) (n i at : ℕ) (used : List ℕ) (d : Domain) (e q : ℕ) → expanders most file n i at used ≡ good d → q < length (expanderAt d e .phys)
     → phyFrame file e q at + 52 ≤ length file
 unfolding expanders phyFrame
-expanders-within most file zero i at seen d e q h l =
+expanders-within most file zero i at used d e q h l =
     let z = good-one [] d (unless-good (eqb at (length file)) (refusal 1 i 0) (good []) d h .1) in
     absurd (subst (λ (y : Domain). q < length (expanderAt y e .phys) → ⊥) z (λ k. omega arith) l)
-expanders-within most file (suc n) i at seen d zero q h l =
-    let u = then-good (expanderUnit most file seen i at) _ d h in
+expanders-within most file (suc n) i at used d zero q h l =
+    let u = then-good (expanderUnit most file used i at) _ d h in
     let v = then-good (phyUnits file (u .0 .value .address) i (u .0 .value .phys) 0 (u .0 .next)) _ d (u .2) in
-    let w = then-good (expanders most file n (i + 1) (v .0 .next) (seen ++ (u .0 .value .address ∷ []))) _ d (v .2) in
+    let w = then-good (expanders most file n (i + 1) (v .0 .next) (used ++ (u .0 .value .address ∷ []))) _ d (v .2) in
     let z : expanderOf (u .0 .value) (v .0 .value) ∷ w .0 ≡ d = good-one (expanderOf (u .0 .value) (v .0 .value) ∷ w .0) d (w .2) in
     let l′ = subst (λ (y : Domain). q < length (expanderAt y 0 .phys)) (sym z) l in
-    let b = expander-ends most file seen i at (u .0) (u .1) .0 in
+    let b = expander-ends most file used i at (u .0) (u .1) .0 in
     let k = phys-end file (u .0 .value .address) i (u .0 .value .phys) 0 (u .0 .next) (v .0) (v .1) in
     let g = phys-before file (u .0 .value .phys) q (u .0 .next) (omega (arith, k .1)) in
     let m : pastPhys file q (u .0 .next) ≡ pastPhys file q (pastFrame ReportGeneral file (at + 8)) = ap (pastPhys file q) b in
-    omega (arith, k .0, expanders-end most file n (i + 1) (v .0 .next) (seen ++ (u .0 .value .address ∷ [])) (w .0) (w .1))
-expanders-within most file (suc n) i at seen d (suc e) q h l =
-    let u = then-good (expanderUnit most file seen i at) _ d h in
+    omega (arith, k .0, expanders-end most file n (i + 1) (v .0 .next) (used ++ (u .0 .value .address ∷ [])) (w .0) (w .1))
+expanders-within most file (suc n) i at used d (suc e) q h l =
+    let u = then-good (expanderUnit most file used i at) _ d h in
     let v = then-good (phyUnits file (u .0 .value .address) i (u .0 .value .phys) 0 (u .0 .next)) _ d (u .2) in
-    let w = then-good (expanders most file n (i + 1) (v .0 .next) (seen ++ (u .0 .value .address ∷ []))) _ d (v .2) in
+    let w = then-good (expanders most file n (i + 1) (v .0 .next) (used ++ (u .0 .value .address ∷ []))) _ d (v .2) in
     let z : expanderOf (u .0 .value) (v .0 .value) ∷ w .0 ≡ d = good-one (expanderOf (u .0 .value) (v .0 .value) ∷ w .0) d (w .2) in
-    let b = expander-ends most file seen i at (u .0) (u .1) in
+    let b = expander-ends most file used i at (u .0) (u .1) in
     let k = phys-end file (u .0 .value .address) i (u .0 .value .phys) 0 (u .0 .next) (v .0) (v .1) .0 in
     let m : v .0 .next ≡ pastPhys file (byte file (at + 8 + 9)) (pastFrame ReportGeneral file (at + 8)) = k ∙ ap₂ (pastPhys file) (b .1) (b .0) in
-    rw (← m) (expanders-within most file n (i + 1) (v .0 .next) (seen ++ (u .0 .value .address ∷ [])) (w .0) e q (w .1) (subst (λ (y : Domain). q < length (expanderAt y (suc e) .phys)) (sym z) l))
+    rw (← m) (expanders-within most file n (i + 1) (v .0 .next) (used ++ (u .0 .value .address ∷ [])) (w .0) e q (w .1) (subst (λ (y : Domain). q < length (expanderAt y (suc e) .phys)) (sym z) l))
 
 -- the edited file reads as the edited domain
 module _ (setting : Setting) (file : List ℕ) (d : Domain) (h : domainRead setting file ≡ good d) (v : Event) (f : T (pluggable (named d v))) (fits : v .address < 256 ^ 8) where

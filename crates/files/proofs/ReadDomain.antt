@@ -185,10 +185,10 @@ module _ (file : List ℕ) where
       next (PhysFacts ownAddress i count (p + 1) (u .next)) P (phyUnits file ownAddress i count (p + 1) (u .next)) _ (phyUnits-facts ownAddress i count (p + 1) (u .next)) (λ us _ r.
       record { size = ap suc (r .size); each = all-cons (PhyFacts file) (u .value) (us .value) f (r .each); again = simp (q, r .again) }))
 
--- an expander's unit: one that passes where addresses were seen passes where none were
-record ExpanderFacts (most : Setting) (file seen : List ℕ) (i at : ℕ) (u : Parsed ExpanderUnit) : Type 0 where
+-- an expander's unit: one that passes where addresses were used passes where none were
+record ExpanderFacts (most : Setting) (file used : List ℕ) (i at : ℕ) (u : Parsed ExpanderUnit) : Type 0 where
   borne : u .value .address ≢ 0
-  new : ¬ (In (u .value .address) seen)
+  new : ¬ (In (u .value .address) used)
   configurable : u .value .configurable ≤ 1
   some : 1 ≤ u .value .phys
   few : u .value .phys ≤ most .phys
@@ -196,25 +196,25 @@ record ExpanderFacts (most : Setting) (file seen : List ℕ) (i at : ℕ) (u : P
   again : expanderUnit most file [] i at ≡ good u
 
 module _ (most : Setting) (file : List ℕ) where
-  expanderUnit-facts : (seen : List ℕ) (i at : ℕ) → Reads (ExpanderFacts most file seen i at) (expanderUnit most file seen i at)
+  expanderUnit-facts : (used : List ℕ) (i at : ℕ) → Reads (ExpanderFacts most file used i at) (expanderUnit most file used i at)
   unfolding expanderUnit isIn any
-  expanderUnit-facts seen i at =
+  expanderUnit-facts used i at =
       let ownAddress = numberAt file at 8 in
-      let P = ExpanderFacts most file seen i at in
+      let P = ExpanderFacts most file used i at in
       let Q : Parsed General → Type 0 = λ g. GeneralFacts file (g .value) in
       let x = frameAt ReportGeneral generalRead file (at + 8) in
       next Q P (placed i 0 x) _ (placed-holds Q i 0 x (frame-holds (GeneralFacts file) ReportGeneral generalRead file (at + 8) (general-at file (at + 8)))) (λ g q f.
       let w = unitOf ownAddress (g .value) in
       let R : ExpanderUnit → Type 0 = λ u. P (parsed u (g .next)) in
-      next R P (unitTested most seen i w) _
+      next R P (unitTested most used i w) _
       (tested R (within (most .phys) (w .phys)) (refusal 3 i 0) _ tt (λ three.
-      tested R (not (eqb ownAddress 0) && not (isIn ownAddress seen)) (refusal 4 i 0) _ tt (λ four.
+      tested R (not (eqb ownAddress 0) && not (isIn ownAddress used)) (refusal 4 i 0) _ tt (λ four.
       let n = both (leb 1 (w .phys)) _ three in
       let o = both (not (eqb ownAddress 0)) _ four in
       let free = o .0 in
       record {
         borne = eqb-false ownAddress 0 (not-true _ (o .0));
-        new = λ h. was-false (isIn ownAddress seen) (not-true _ (o .1)) (isIn-of ownAddress seen h);
+        new = λ h. was-false (isIn ownAddress used) (not-true _ (o .1)) (isIn-of ownAddress used h);
         configurable = f .configurable;
         some = leb-true 1 (w .phys) (n .0);
         few = leb-true (w .phys) (most .phys) (n .1);
@@ -222,26 +222,26 @@ module _ (most : Setting) (file : List ℕ) where
         again = simp (q, three, free);
       }))) (λ u _ r. r))
 
-  -- the expanders that follow those with the addresses in `seen`
-  record RestFacts (seen : List ℕ) (count i at : ℕ) (d : Domain) : Type 0 where
+  -- the expanders that follow those with the addresses in `used`
+  record RestFacts (used : List ℕ) (count i at : ℕ) (d : Domain) : Type 0 where
     size : length d ≡ count
-    new : (s : ℕ) → In s (addresses d) → ¬ (In s seen)
+    new : (s : ℕ) → In s (addresses d) → ¬ (In s used)
     differ : Distinct (addresses d)
     each : (e : Expander) → In e d → ReadExpander most e
     fits : Bytes file → (e : Expander) → In e d → FitsExpander e
     again : domainGot most file count i at ≡ d
 
-  expanders-facts : (count i at : ℕ) (seen : List ℕ) → Reads (RestFacts seen count i at) (expanders most file count i at seen)
+  expanders-facts : (count i at : ℕ) (used : List ℕ) → Reads (RestFacts used count i at) (expanders most file count i at used)
   unfolding expanders domainGot
-  expanders-facts zero i at seen = tested (RestFacts seen 0 i at) (eqb at (length file)) (refusal 1 i 0) _ tt (λ _.
+  expanders-facts zero i at used = tested (RestFacts used 0 i at) (eqb at (length file)) (refusal 1 i 0) _ tt (λ _.
       record { size = refl; new = λ s h. absurd h; differ = tt; each = λ e h. absurd h; fits = λ b e h. absurd h; again = refl })
-  expanders-facts (suc count) i at seen =
-      let P = RestFacts seen (suc count) i at in
-      next (ExpanderFacts most file seen i at) P (expanderUnit most file seen i at) _ (expanderUnit-facts seen i at) (λ u _ x.
+  expanders-facts (suc count) i at used =
+      let P = RestFacts used (suc count) i at in
+      next (ExpanderFacts most file used i at) P (expanderUnit most file used i at) _ (expanderUnit-facts used i at) (λ u _ x.
       let ownAddress = u .value .address in
       let n = u .value .phys in
       next (PhysFacts file ownAddress i n 0 (u .next)) P (phyUnits file ownAddress i n 0 (u .next)) _ (phyUnits-facts file ownAddress i n 0 (u .next)) (λ φs _ y.
-      let more = seen ++ (ownAddress ∷ []) in
+      let more = used ++ (ownAddress ∷ []) in
       next (RestFacts more count (i + 1) (φs .next)) P (expanders most file count (i + 1) (φs .next) more) _ (expanders-facts count (i + 1) (φs .next) more) (λ d _ z.
       let k = y .size in
       let read : ReadExpander most (expanderOf (u .value) (φs .value)) = record {
@@ -253,8 +253,8 @@ module _ (most : Setting) (file : List ℕ) where
       } in
       record {
         size = ap suc (z .size);
-        new = λ s. ⊎-elim (λ o h. x .new (in-cast seen (sym o) h)) (λ o h. z .new s o (in-left seen (ownAddress ∷ []) s h));
-        differ = (λ h. z .new ownAddress h (in-right seen (ownAddress ∷ []) ownAddress (inl refl)), z .differ);
+        new = λ s. ⊎-elim (λ o h. x .new (in-cast used (sym o) h)) (λ o h. z .new s o (in-left used (ownAddress ∷ []) s h));
+        differ = (λ h. z .new ownAddress h (in-right used (ownAddress ∷ []) ownAddress (inl refl)), z .differ);
         each = all-cons (ReadExpander most) (expanderOf (u .value) (φs .value)) d read (z .each);
         fits = λ b. all-cons FitsExpander (expanderOf (u .value) (φs .value)) d
             (record { address = x .fits b .0; routeIndexes = x .fits b .1 .0; count = omega (arith, x .fits b .1 .1); phys = λ φ h. y .each φ h .fits b }) (z .fits b);
@@ -318,5 +318,5 @@ module _ (most : Setting) (file : List ℕ) where
   pub read-numbered : (N : ℕ → Type 0) → ((n : ℕ) → readNumber n → N n) → Numbered N (domainRead most file)
   read-numbered N h = weaker readNumber N FileFacts (λ _. Unit {0}) (domainRead most file) file-facts h (λ _ _. tt)
 
-  pub few-phys : (seen : List ℕ) (i at : ℕ) (u : Parsed ExpanderUnit) → expanderUnit most file seen i at ≡ good u → u .value .phys ≤ most .phys
-  few-phys seen i at u q = held readNumber (ExpanderFacts most file seen i at) (expanderUnit most file seen i at) u (expanderUnit-facts seen i at) q .few
+  pub few-phys : (used : List ℕ) (i at : ℕ) (u : Parsed ExpanderUnit) → expanderUnit most file used i at ≡ good u → u .value .phys ≤ most .phys
+  few-phys used i at u q = held readNumber (ExpanderFacts most file used i at) (expanderUnit most file used i at) u (expanderUnit-facts used i at) q .few

@@ -1,4 +1,4 @@
--- Any words seen as a domain: what stands where.
+-- Any words used as a domain: what stands where.
 use Prim.Native.Nat.{ℕ, zero, suc, _+_, _*_, _/_, _%_, _≤_, _<_, min}
 use mathlib.Core.Path.{_≡_, refl, sym, _∙_, ap, subst}
 use mathlib.Core.List.{List}

@@ -179,11 +179,11 @@ byte-from : (file : List ℕ) (a j : ℕ) → byte file (a + j) ≡ byte (drop a
 byte-from file a j = sym (getD-drop a file j 0)
 
 module _ (most : Setting) (file other : List ℕ) where
-  module _ (seen : List ℕ) (i a b : ℕ) where
+  module _ (used : List ℕ) (i a b : ℕ) where
     abbrev tested : ℕ → General → Result ExpanderUnit
-    tested ownAddress g = unitTested most seen i (unitOf ownAddress g)
+    tested ownAddress g = unitTested most used i (unitOf ownAddress g)
 
-    expander-stays : (r : Refusal) → drop b other ≡ drop a file → expanderUnit most file seen i a ≡ refused r → expanderUnit most other seen i b ≡ refused r
+    expander-stays : (r : Refusal) → drop b other ≡ drop a file → expanderUnit most file used i a ≡ refused r → expanderUnit most other used i b ≡ refused r
     unfolding expanderUnit
     expander-stays r d e =
         let o = number-alike other file b a 8 (λ j l. byte-from other b j ∙ ap (λ (s : List ℕ). byte s j) d ∙ sym (byte-from file a j)) in
@@ -191,7 +191,7 @@ module _ (most : Setting) (file other : List ℕ) where
         rw o (unit-stays ReportGeneral generalRead (tested (numberAt file a 8)) i 0 file other (a + 8) (b + 8) r d8 e)
 
     -- the address of an expander that was read is there
-    address-there : (u : Parsed ExpanderUnit) → expanderUnit most file seen i a ≡ good u → a + 8 ≤ length file
+    address-there : (u : Parsed ExpanderUnit) → expanderUnit most file used i a ≡ good u → a + 8 ≤ length file
     unfolding expanderUnit
     address-there u e = go (sizeAt ReportGeneral file (a + 8)) refl
       where
@@ -200,7 +200,7 @@ module _ (most : Setting) (file other : List ℕ) where
         go (good n) f = let h = size-within ReportGeneral file (a + 8) n f in omega arith
 
     expander-shortened : (u : Parsed ExpanderUnit) (more : List ℕ) → drop b other ≡ take 8 (drop a file) ++ (shortFrame ReportGeneral (drop (a + 8) file) ++ more)
-        → expanderUnit most file seen i a ≡ good u → Shortened ReportGeneral file other (b + 8) u more (expanderUnit most other seen i b)
+        → expanderUnit most file used i a ≡ good u → Shortened ReportGeneral file other (b + 8) u more (expanderUnit most other used i b)
     unfolding expanderUnit
     expander-shortened u more d e =
         let h = address-there u e in
@@ -220,36 +220,36 @@ module _ (most : Setting) (file other : List ℕ) where
       (λ q. let n = eqb-false a (length file) q in rw q (ne-eqb b (length other) (λ e. n (omega arith))))
 
   abbrev RestRead : ℕ → ℕ → ℕ → ℕ → List ℕ → Type 0
-  RestRead count i a b seen =
-      a ≤ length file → b ≤ length other → drop b other ≡ shortExpanders most file count i a seen
-      → expanders most other count i b seen ≡ expanders most file count i a seen
+  RestRead count i a b used =
+      a ≤ length file → b ≤ length other → drop b other ≡ shortExpanders most file count i a used
+      → expanders most other count i b used ≡ expanders most file count i a used
 
-  expander-step : (count i a b : ℕ) (seen : List ℕ) → ((m n : ℕ) (more : List ℕ) → RestRead count (i + 1) m n more)
-      → (x : Result (Parsed ExpanderUnit)) → expanderUnit most file seen i a ≡ x
+  expander-step : (count i a b : ℕ) (used : List ℕ) → ((m n : ℕ) (more : List ℕ) → RestRead count (i + 1) m n more)
+      → (x : Result (Parsed ExpanderUnit)) → expanderUnit most file used i a ≡ x
       → drop b other ≡ orStay (drop a file) x (λ u.
       take 8 (drop a file) ++ (shortFrame ReportGeneral (drop (a + 8) file)
       ++ shortPhys file (u .value .address) i (u .value .phys) 0 (u .next) (λ next.
-      shortExpanders most file count (i + 1) next (seen ++ (u .value .address ∷ [])))))
-      → expanders most other (suc count) i b seen
+      shortExpanders most file count (i + 1) next (used ++ (u .value .address ∷ [])))))
+      → expanders most other (suc count) i b used
       ≡ then x (λ u.
       then (phyUnits file (u .value .address) i (u .value .phys) 0 (u .next)) (λ φs.
-      then (expanders most file count (i + 1) (φs .next) (seen ++ (u .value .address ∷ []))) (λ d.
+      then (expanders most file count (i + 1) (φs .next) (used ++ (u .value .address ∷ []))) (λ d.
       good (expanderOf (u .value) (φs .value) ∷ d))))
   unfolding expanders
-  expander-step count i a b seen more (refused r) e d = rw (expander-stays seen i a b r d e)
-  expander-step count i a b seen more (good u) e d =
+  expander-step count i a b used more (refused r) e d = rw (expander-stays used i a b r d e)
+  expander-step count i a b used more (good u) e d =
       let ownAddress = u .value .address in
-      let rest : ℕ → List ℕ = λ next. shortExpanders most file count (i + 1) next (seen ++ (ownAddress ∷ [])) in
-      let c = expander-shortened seen i a b u (shortPhys file ownAddress i (u .value .phys) 0 (u .next) rest) d e in
+      let rest : ℕ → List ℕ = λ next. shortExpanders most file count (i + 1) next (used ++ (ownAddress ∷ [])) in
+      let c = expander-shortened used i a b u (shortPhys file ownAddress i (u .value .phys) 0 (u .next) rest) d e in
       rw (c .value)
       (after-phys file other ownAddress i rest (phyUnits file ownAddress i (u .value .phys) 0 (u .next)) (phyUnits other ownAddress i (u .value .phys) 0 (b + 8 + 28)) _ _
       (phys-read file other ownAddress i rest (u .value .phys) 0 (u .next) (b + 8 + 28) (c .before) (c .within) (c .rest))
-      (λ us n left within before. ap (λ x. then x (λ d. good (expanderOf (u .value) (us .value) ∷ d))) (more (us .next) n (seen ++ (ownAddress ∷ [])) before within left)))
+      (λ us n left within before. ap (λ x. then x (λ d. good (expanderOf (u .value) (us .value) ∷ d))) (more (us .next) n (used ++ (ownAddress ∷ [])) before within left)))
 
-  rest-read : (count i a b : ℕ) (seen : List ℕ) → RestRead count i a b seen
+  rest-read : (count i a b : ℕ) (used : List ℕ) → RestRead count i a b used
   unfolding expanders shortExpanders
-  rest-read zero i a b seen h k d = rw (ends-alike a b h k d)
-  rest-read (suc count) i a b seen h k d = expander-step count i a b seen (λ m n more. rest-read count (i + 1) m n more) (expanderUnit most file seen i a) refl d
+  rest-read zero i a b used h k d = rw (ends-alike a b h k d)
+  rest-read (suc count) i a b used h k d = expander-step count i a b used (λ m n more. rest-read count (i + 1) m n more) (expanderUnit most file used i a) refl d
 
 -- the header
 module _ (most : Setting) (file more : List ℕ) where
@@ -313,36 +313,36 @@ phys-bytes file ownAddress i rest (suc count) p a us e =
     ap (λ x. length (orStay (drop a file) x (λ w. shortFrame Discover (drop a file) ++ shortPhys file ownAddress i count (p + 1) (w .next) rest))) (one .1)
     ∙ length-append (shortFrame Discover (drop a file)) (shortPhys file ownAddress i count (p + 1) (u .next) rest) ∙ omega arith
 
-rest-bytes : (most : Setting) (file : List ℕ) (count i a : ℕ) (seen : List ℕ) (d : Domain) → expanders most file count i a seen ≡ good d
-    → length (shortExpanders most file count i a seen) ≡ shortBytes d
+rest-bytes : (most : Setting) (file : List ℕ) (count i a : ℕ) (used : List ℕ) (d : Domain) → expanders most file count i a used ≡ good d
+    → length (shortExpanders most file count i a used) ≡ shortBytes d
 unfolding expanders shortExpanders expanderUnit
-rest-bytes most file zero i a seen d e =
+rest-bytes most file zero i a used d e =
     let u = unless-good (eqb a (length file)) (refusal 1 i 0) (good []) d e in
     let l = length-drop a file in
     let h = eqb→eq a (length file) (u .0) in
     rw (← good-one [] d (u .1)) (omega arith)
-rest-bytes most file (suc count) i a seen d e =
+rest-bytes most file (suc count) i a used d e =
     let ownAddress = numberAt file a 8 in
-    let one = then-good (unitAt ReportGeneral generalRead (λ g. unitTested most seen i (unitOf ownAddress g)) i 0 file (a + 8)) _ d e in
+    let one = then-good (unitAt ReportGeneral generalRead (λ g. unitTested most used i (unitOf ownAddress g)) i 0 file (a + 8)) _ d e in
     let u = one .0 in
     let s = u .value .address in
     let phys = then-good (phyUnits file s i (u .value .phys) 0 (u .next)) _ d (one .2) in
     let φs = phys .0 in
-    let rest : ℕ → List ℕ = λ next. shortExpanders most file count (i + 1) next (seen ++ (s ∷ [])) in
-    let more = then-good (expanders most file count (i + 1) (φs .next) (seen ++ (s ∷ []))) _ d (phys .2) in
+    let rest : ℕ → List ℕ = λ next. shortExpanders most file count (i + 1) next (used ++ (s ∷ [])) in
+    let more = then-good (expanders most file count (i + 1) (φs .next) (used ++ (s ∷ []))) _ d (phys .2) in
     let tail = more .0 in
     let q = good-one (expanderOf (u .value) (φs .value) ∷ tail) d (more .2) in
-    let l = frame-short ReportGeneral generalRead (λ g. unitTested most seen i (unitOf ownAddress g)) i 0 file (a + 8) u (one .1) in
+    let l = frame-short ReportGeneral generalRead (λ g. unitTested most used i (unitOf ownAddress g)) i 0 file (a + 8) u (one .1) in
     let h = phys-bytes file s i rest (u .value .phys) 0 (u .next) φs (phys .1) in
-    let k = rest-bytes most file count (i + 1) (φs .next) (seen ++ (s ∷ [])) tail (more .1) in
-    let b = address-there most file [] seen i a 0 u (one .1) in
+    let k = rest-bytes most file count (i + 1) (φs .next) (used ++ (s ∷ [])) tail (more .1) in
+    let b = address-there most file [] used i a 0 u (one .1) in
     let n = length-drop a file in
     let m : length (take 8 (drop a file)) ≡ 8 = length-take-le 8 (drop a file) (omega arith) in
     let v : shortBytes d ≡ 36 + 52 * length (φs .value) + shortBytes tail = sym (ap shortBytes q) in
     let frame = shortFrame ReportGeneral (drop (a + 8) file) in
     let after = shortPhys file s i (u .value .phys) 0 (u .next) rest in
     ap (λ x. length (orStay (drop a file) x (λ w. take 8 (drop a file) ++ (frame
-    ++ shortPhys file (w .value .address) i (w .value .phys) 0 (w .next) (λ next. shortExpanders most file count (i + 1) next (seen ++ (w .value .address ∷ []))))))) (one .1)
+    ++ shortPhys file (w .value .address) i (w .value .phys) 0 (w .next) (λ next. shortExpanders most file count (i + 1) next (used ++ (w .value .address ∷ []))))))) (one .1)
     ∙ length-append (take 8 (drop a file)) (frame ++ after) ∙ ap (λ (k : ℕ). length (take 8 (drop a file)) + k) (length-append frame after) ∙ omega arith
 
 pub short-file-bytes : (most : Setting) (file : List ℕ) (d : Domain) → domainRead most file ≡ good d → length (shortFile most file) ≡ 2 + shortBytes d

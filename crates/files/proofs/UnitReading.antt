@@ -123,24 +123,24 @@ module _ (i : ℕ) (after : ℕ → ℕ → Result Domain) where
     go-unit (good u) h next e = go-phys (u .value) h next (phys u) e
 
 -- the expanders that are left
-module _ (most : Setting) (file : List ℕ) (n i at : ℕ) (seen : List ℕ) where
-  module _ {v : Result ℕ} (inv : then (expanders most file (n - i) i at seen) (countFrom i) ≡ v) where
-    pub expander-stop : {r : Refusal} → expanderChecked most file seen i at ≡ refused r → i < n → refused r ≡ v
+module _ (most : Setting) (file : List ℕ) (n i at : ℕ) (used : List ℕ) where
+  module _ {v : Result ℕ} (inv : then (expanders most file (n - i) i at used) (countFrom i) ≡ v) where
+    pub expander-stop : {r : Refusal} → expanderChecked most file used i at ≡ refused r → i < n → refused r ≡ v
     unfolding expanders expanderChecked
     expander-stop {r} q h =
         let e : n - i ≡ suc (n - (i + 1)) = omega arith in
         let inv′ = rw e at inv in
-        sym (stop-unit i (λ next ownAddress. expanders most file (n - (i + 1)) (i + 1) next (seen ++ (ownAddress ∷ [])))
-        (λ u. phyUnits file (u .value .address) i (u .value .phys) 0 (u .next)) (expanderUnit most file seen i at) r q) ∙ inv′
+        sym (stop-unit i (λ next ownAddress. expanders most file (n - (i + 1)) (i + 1) next (used ++ (ownAddress ∷ [])))
+        (λ u. phyUnits file (u .value .address) i (u .value .phys) 0 (u .next)) (expanderUnit most file used i at) r q) ∙ inv′
 
-    pub expander-go : {h : ExpanderUnit} {next : ℕ} → expanderChecked most file seen i at ≡ good (parsed h next) → i < n
-        → then (expanders most file (n - (i + 1)) (i + 1) next (seen ++ (h .address ∷ []))) (countFrom (i + 1)) ≡ v
+    pub expander-go : {h : ExpanderUnit} {next : ℕ} → expanderChecked most file used i at ≡ good (parsed h next) → i < n
+        → then (expanders most file (n - (i + 1)) (i + 1) next (used ++ (h .address ∷ []))) (countFrom (i + 1)) ≡ v
     unfolding expanders expanderChecked
     expander-go {h} {next} q l =
         let e : n - i ≡ suc (n - (i + 1)) = omega arith in
         let inv′ = rw e at inv in
-        sym (go-unit i (λ next ownAddress. expanders most file (n - (i + 1)) (i + 1) next (seen ++ (ownAddress ∷ [])))
-        (λ u. phyUnits file (u .value .address) i (u .value .phys) 0 (u .next)) (expanderUnit most file seen i at) h next q) ∙ inv′
+        sym (go-unit i (λ next ownAddress. expanders most file (n - (i + 1)) (i + 1) next (used ++ (ownAddress ∷ [])))
+        (λ u. phyUnits file (u .value .address) i (u .value .phys) 0 (u .next)) (expanderUnit most file used i at) h next q) ∙ inv′
 
     pub expanders-end : n ≡ i → at ≡ length file → good n ≡ v
     unfolding expanders
@@ -241,15 +241,15 @@ module _ (file : List ℕ) (ownAddress i p at : ℕ) where
   unfolding phyUnit
   phy-unit-by = unit-by DiscoverResponse discoverRead (phyOf ownAddress i p) i p file at
 
-module _ (most : Setting) (file seen : List ℕ) (i at ownAddress : ℕ) (o : numberAt file at 8 ≡ ownAddress) where
-  pub expander-unit-cut : (r : Refusal) → sizeAt ReportGeneral file (at + 8) ≡ refused r → expanderUnit most file seen i at ≡ refused (refusal (r .number) i 0)
+module _ (most : Setting) (file used : List ℕ) (i at ownAddress : ℕ) (o : numberAt file at 8 ≡ ownAddress) where
+  pub expander-unit-cut : (r : Refusal) → sizeAt ReportGeneral file (at + 8) ≡ refused r → expanderUnit most file used i at ≡ refused (refusal (r .number) i 0)
   unfolding expanderUnit
-  expander-unit-cut r e = rw o (unit-cut ReportGeneral generalRead (λ g. unitTested most seen i (unitOf ownAddress g)) i 0 file (at + 8) r e)
+  expander-unit-cut r e = rw o (unit-cut ReportGeneral generalRead (λ g. unitTested most used i (unitOf ownAddress g)) i 0 file (at + 8) r e)
 
   pub expander-unit-by : (n : ℕ) (x : Result General) → sizeAt ReportGeneral file (at + 8) ≡ good n → generalRead (take n (drop (at + 8) file)) ≡ x
-      → expanderUnit most file seen i at ≡ then (placed i 0 x) (λ g. then (unitTested most seen i (unitOf ownAddress g)) (endsAt (at + 8 + n)))
+      → expanderUnit most file used i at ≡ then (placed i 0 x) (λ g. then (unitTested most used i (unitOf ownAddress g)) (endsAt (at + 8 + n)))
   unfolding expanderUnit
-  expander-unit-by n x e q = rw o (unit-by ReportGeneral generalRead (λ g. unitTested most seen i (unitOf ownAddress g)) i 0 file (at + 8) n x e q)
+  expander-unit-by n x e q = rw o (unit-by ReportGeneral generalRead (λ g. unitTested most used i (unitOf ownAddress g)) i 0 file (at + 8) n x e q)
 
 -- what is read of REPORT GENERAL
 pub general-is : (s : List ℕ) (g : General) → generalRead s ≡ good g → generalFields s ≡ g
@@ -261,10 +261,10 @@ general-is s g e =
     good-one (generalFields s) g (c .1)
 
 -- the tests of an expander's fields yield the fields
-pub tested-same : (most : Setting) (seen : List ℕ) (i : ℕ) (v u : ExpanderUnit) → unitTested most seen i v ≡ good u → v ≡ u
-tested-same most seen i v u t =
+pub tested-same : (most : Setting) (used : List ℕ) (i : ℕ) (v u : ExpanderUnit) → unitTested most used i v ≡ good u → v ≡ u
+tested-same most used i v u t =
     let a = unless-good (within (most .phys) (v .phys)) (refusal 3 i 0) _ u t in
-    let b = unless-good (not (eqb (v .address) 0) && not (isIn (v .address) seen)) (refusal 4 i 0) (good v) u (a .1) in
+    let b = unless-good (not (eqb (v .address) 0) && not (isIn (v .address) used)) (refusal 4 i 0) (good v) u (a .1) in
     good-one v u (b .1)
 
 -- as many phys as were counted

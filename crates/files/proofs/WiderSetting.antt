@@ -30,32 +30,32 @@ within-more a b n h t =
     and-both (leb 1 n) (leb n b) (and-left (leb 1 n) (leb n a) t) (le→leb n b (omega (arith, leb→le n a (and-right (leb 1 n) (leb n a) t))))
 
 module _ (most other : Setting) (m : NoSmaller most other) where
-  unit-more : (seen : List ℕ) (i : ℕ) (u v : ExpanderUnit) → unitTested most seen i u ≡ good v → unitTested other seen i u ≡ good v
-  unit-more seen i u v =
+  unit-more : (used : List ℕ) (i : ℕ) (u v : ExpanderUnit) → unitTested most used i u ≡ good v → unitTested other used i u ≡ good v
+  unit-more used i u v =
       more-unless (within (most .phys) (u .phys)) (within (other .phys) (u .phys)) (refusal 3 i 0) _ _ v
       (within-more (most .phys) (other .phys) (u .phys) (m .phys)) (λ e. e)
 
-  expander-more : (file seen : List ℕ) (i at : ℕ) (u : Parsed ExpanderUnit) → expanderUnit most file seen i at ≡ good u → expanderUnit other file seen i at ≡ good u
+  expander-more : (file used : List ℕ) (i at : ℕ) (u : Parsed ExpanderUnit) → expanderUnit most file used i at ≡ good u → expanderUnit other file used i at ≡ good u
   unfolding expanderUnit
-  expander-more file seen i at u e =
+  expander-more file used i at u e =
       let x = placed i 0 (frameAt ReportGeneral generalRead file (at + 8)) in
       let g = then-good x _ u e in
       let w = unitOf (numberAt file at 8) (g .0 .value) in
-      let v = then-good (unitTested most seen i w) _ u (g .2) in
-      good-then x _ (g .0) u (g .1) (good-then (unitTested other seen i w) _ (v .0) u (unit-more seen i w (v .0) (v .1)) (v .2))
+      let v = then-good (unitTested most used i w) _ u (g .2) in
+      good-then x _ (g .0) u (g .1) (good-then (unitTested other used i w) _ (v .0) u (unit-more used i w (v .0) (v .1)) (v .2))
 
-  expanders-more : (file : List ℕ) (count i at : ℕ) (seen : List ℕ) (d : Domain) → expanders most file count i at seen ≡ good d → expanders other file count i at seen ≡ good d
+  expanders-more : (file : List ℕ) (count i at : ℕ) (used : List ℕ) (d : Domain) → expanders most file count i at used ≡ good d → expanders other file count i at used ≡ good d
   unfolding expanders
-  expanders-more file zero i at seen d e = e
-  expanders-more file (suc count) i at seen d e =
-      let u = then-good (expanderUnit most file seen i at) _ d e in
+  expanders-more file zero i at used d e = e
+  expanders-more file (suc count) i at used d e =
+      let u = then-good (expanderUnit most file used i at) _ d e in
       let ownAddress = u .0 .value .address in
       let φs = then-good (phyUnits file ownAddress i (u .0 .value .phys) 0 (u .0 .next)) _ d (u .2) in
-      let rest = then-good (expanders most file count (i + 1) (φs .0 .next) (seen ++ (ownAddress ∷ []))) _ d (φs .2) in
-      good-then (expanderUnit other file seen i at) _ (u .0) d (expander-more file seen i at (u .0) (u .1))
+      let rest = then-good (expanders most file count (i + 1) (φs .0 .next) (used ++ (ownAddress ∷ []))) _ d (φs .2) in
+      good-then (expanderUnit other file used i at) _ (u .0) d (expander-more file used i at (u .0) (u .1))
       (good-then (phyUnits file ownAddress i (u .0 .value .phys) 0 (u .0 .next)) _ (φs .0) d (φs .1)
-      (good-then (expanders other file count (i + 1) (φs .0 .next) (seen ++ (ownAddress ∷ []))) _ (rest .0) d
-      (expanders-more file count (i + 1) (φs .0 .next) (seen ++ (ownAddress ∷ [])) (rest .0) (rest .1)) (rest .2)))
+      (good-then (expanders other file count (i + 1) (φs .0 .next) (used ++ (ownAddress ∷ []))) _ (rest .0) d
+      (expanders-more file count (i + 1) (φs .0 .next) (used ++ (ownAddress ∷ [])) (rest .0) (rest .1)) (rest .2)))
 
   header-more : (file : List ℕ) (n : ℕ) → headerUnit most file ≡ good n → headerUnit other file ≡ good n
   unfolding headerUnit

@@ -87,19 +87,19 @@ phyUnits file ownAddress i (suc count) p at =
 abbrev pub unitOf : ℕ → General → ExpanderUnit
 unitOf ownAddress g = record { address = ownAddress; routeIndexes = g .routeIndexes; phys = g .phys; configurable = g .configurable }
 
--- 3 and 4, of an expander's fields, where `seen` are the addresses of the expanders before it: phy count outside its range; address
+-- 3 and 4, of an expander's fields, where `used` are the addresses of the expanders before it: phy count outside its range; address
 -- zero or already used
 abbrev pub unitTested : Setting → List ℕ → ℕ → ExpanderUnit → Result ExpanderUnit
-unitTested most seen i u =
+unitTested most used i u =
     unless (within (most .phys) (u .phys)) (refusal 3 i 0)
-    (unless (not (eqb (u .address) 0) && not (isIn (u .address) seen)) (refusal 4 i 0)
+    (unless (not (eqb (u .address) 0) && not (isIn (u .address) used)) (refusal 4 i 0)
     (good u))
 
 -- the unit of expander i at offset `at`: its address, and its frame from the byte after that on
 unfoldable pub expanderUnit : Setting → List ℕ → List ℕ → ℕ → ℕ → Result (Parsed ExpanderUnit)
-expanderUnit most file seen i at =
+expanderUnit most file used i at =
     then (placed i 0 (frameAt ReportGeneral generalRead file (at + 8))) (λ g.
-    then (unitTested most seen i (unitOf (numberAt file at 8) (g .value))) (λ u.
+    then (unitTested most used i (unitOf (numberAt file at 8) (g .value))) (λ u.
     good (parsed u (g .next))))
 
 abbrev pub expanderOf : ExpanderUnit → List Phy → Expander
@@ -107,11 +107,11 @@ expanderOf u φs = record { address = u .address; routeIndexes = u .routeIndexes
 
 -- the last `count` expanders, from expander i on; then bytes after the last unit
 unfoldable pub expanders : Setting → List ℕ → ℕ → ℕ → ℕ → List ℕ → Result Domain
-expanders most file zero i at seen = unless (eqb at (length file)) (refusal 1 i 0) (good [])
-expanders most file (suc count) i at seen =
-    then (expanderUnit most file seen i at) (λ u.
+expanders most file zero i at used = unless (eqb at (length file)) (refusal 1 i 0) (good [])
+expanders most file (suc count) i at used =
+    then (expanderUnit most file used i at) (λ u.
     then (phyUnits file (u .value .address) i (u .value .phys) 0 (u .next)) (λ φs.
-    then (expanders most file count (i + 1) (φs .next) (seen ++ (u .value .address ∷ []))) (λ d.
+    then (expanders most file count (i + 1) (φs .next) (used ++ (u .value .address ∷ []))) (λ d.
     good (expanderOf (u .value) (φs .value) ∷ d))))
 
 -- the header: the count of expanders

@@ -24,12 +24,12 @@ shortPhys file ownAddress i (suc count) p at rest =
 
 -- from offset `at` on: the units of the last `count` expanders, from expander i on, and bytes after the last unit
 unfoldable pub shortExpanders : Setting → List ℕ → ℕ → ℕ → ℕ → List ℕ → List ℕ
-shortExpanders most file zero i at seen = drop at file
-shortExpanders most file (suc count) i at seen =
-    orStay (drop at file) (expanderUnit most file seen i at) (λ u.
+shortExpanders most file zero i at used = drop at file
+shortExpanders most file (suc count) i at used =
+    orStay (drop at file) (expanderUnit most file used i at) (λ u.
     take 8 (drop at file) ++ (shortFrame ReportGeneral (drop (at + 8) file)
     ++ shortPhys file (u .value .address) i (u .value .phys) 0 (u .next) (λ next.
-    shortExpanders most file count (i + 1) next (seen ++ (u .value .address ∷ [])))))
+    shortExpanders most file count (i + 1) next (used ++ (u .value .address ∷ [])))))
 
 unfoldable pub shortFile : Setting → List ℕ → List ℕ
 shortFile most file = orStay file (headerUnit most file) (λ n. take 2 file ++ shortExpanders most file n 0 2 [])

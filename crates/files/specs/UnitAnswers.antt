@@ -37,7 +37,7 @@ module _ {A : Type 0} where
 
 -- an expander's unit, and the place after its phys
 unfoldable pub expanderChecked : Setting → List ℕ → List ℕ → ℕ → ℕ → Result (Parsed ExpanderUnit)
-expanderChecked most file seen i at =
-    then (expanderUnit most file seen i at) (λ u.
+expanderChecked most file used i at =
+    then (expanderUnit most file used i at) (λ u.
     then (physNext (phyUnits file (u .value .address) i (u .value .phys) 0 (u .next))) (λ next.
     good (parsed (u .value) next)))

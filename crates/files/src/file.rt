@@ -47,13 +47,13 @@ pub(crate) fn check_phys(
 fn check_expander(
     most: Setting,
     file: &[u8],
-    seen: &[u64],
+    used: &[u64],
     i: ExpanderNumber,
     at: usize,
 ) -> ExpanderRead
-    ensures { λ r. ⌜ expanderAnswer r ≡ expanderChecked most (now (file .entry)) (now (seen .entry)) (i .0) at ⌝ }
+    ensures { λ r. ⌜ expanderAnswer r ≡ expanderChecked most (now (file .entry)) (now (used .entry)) (i .0) at ⌝ }
 {
-    let unit = units::expander_unit(most, file, seen, i, at);
+    let unit = units::expander_unit(most, file, used, i, at);
     match unit {
         ExpanderRead::Refused(r) => ExpanderRead::Refused(r),
         ExpanderRead::Read(u, next) => {
@@ -71,18 +71,18 @@ fn check_expanders(most: Setting, file: &[u8], n: u8) -> DomainRead
     ensures { λ r. ⌜ readAnswer r ≡ then (expanders most (now (file .entry)) n 0 2 []) countOf ⌝ }
 {
     // the addresses of the expanders before expander i
-    let mut seen = [0u64; 256];
+    let mut used = [0u64; 256];
     let mut i: u8 = 0;
     let mut at: usize = 2;
     while i < n {
         let k = i as usize;
-        let unit = check_expander(most, file, &seen[..k], ExpanderNumber(i), at);
+        let unit = check_expander(most, file, &used[..k], ExpanderNumber(i), at);
         match unit {
             ExpanderRead::Refused(r) => {
                 return DomainRead::Refused(r);
             }
             ExpanderRead::Read(u, next) => {
-                seen[k] = u.address;
+                used[k] = u.address;
                 at = next;
                 i += 1;
             }

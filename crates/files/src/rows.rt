@@ -115,7 +115,7 @@ fn fill_rows(rows: &mut [u64], most: Setting, file: &[u8], n: u8)
     requires { ⌜ (most .phys ≤ 128) × (rowWords * n ≤ length (now rows)) ⌝ }
     ensures { λ _. ⌜ now (rows .exit) ≡ pasted (now (rows .entry)) 0 (domainGot most (now (file .entry)) n 0 2) ⌝ }
 {
-    // no addresses, so that none was seen
+    // no addresses, so that none was used
     let none = [0u64; 1];
     let mut i: u8 = 0;
     let mut at: usize = 2;

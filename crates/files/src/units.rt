@@ -131,13 +131,13 @@ pub(crate) fn phy_unit(
     }
 }
 
-// Whether the address is among those seen.
-pub(crate) fn is_in(seen: &[u64], a: u64) -> bool
-    ensures { λ r. ⌜ r ≡ isIn a (now (seen .entry)) ⌝ }
+// Whether the address is among those used.
+pub(crate) fn is_in(used: &[u64], a: u64) -> bool
+    ensures { λ r. ⌜ r ≡ isIn a (now (used .entry)) ⌝ }
 {
     let mut i: usize = 0;
-    while i < seen.len() {
-        if a == seen[i] {
+    while i < used.len() {
+        if a == used[i] {
             return true;
         }
         i += 1;
@@ -145,11 +145,11 @@ pub(crate) fn is_in(seen: &[u64], a: u64) -> bool
     false
 }
 
-// Whether the address is not zero and not among those seen.
-fn is_free(seen: &[u64], ownAddress: u64) -> bool
-    ensures { λ r. ⌜ r ≡ (not (eqb ownAddress 0) && not (isIn ownAddress (now (seen .entry)))) ⌝ }
+// Whether the address is not zero and not among those used.
+fn is_free(used: &[u64], ownAddress: u64) -> bool
+    ensures { λ r. ⌜ r ≡ (not (eqb ownAddress 0) && not (isIn ownAddress (now (used .entry)))) ⌝ }
 {
-    (ownAddress != 0) & !is_in(seen, ownAddress)
+    (ownAddress != 0) & !is_in(used, ownAddress)
 }
 
 // Whether n is 1 to `most`.
@@ -162,32 +162,32 @@ pub fn is_within(n: u8, most: u8) -> bool
 // Causes 3 and 4 of an expander's fields; `next` is the place after its unit.
 pub fn test_unit(
     most: Setting,
-    seen: &[u64],
+    used: &[u64],
     u: ExpanderUnit,
     i: ExpanderNumber,
     next: usize,
 ) -> ExpanderRead
-    ensures { λ r. ⌜ expanderAnswer r ≡ then (unitTested most (now (seen .entry)) (i .0) u) (endsAt next) ⌝ }
+    ensures { λ r. ⌜ expanderAnswer r ≡ then (unitTested most (now (used .entry)) (i .0) u) (endsAt next) ⌝ }
 {
     if !is_within(u.phys, most.phys) {
         return refusals::expander_refused(3, i);
     }
-    if !is_free(seen, u.address) {
+    if !is_free(used, u.address) {
         return refusals::expander_refused(4, i);
     }
     ExpanderRead::Read(u, next)
 }
 
-// The unit of expander i at offset `at`, where `seen` are the addresses of the expanders before it:
+// The unit of expander i at offset `at`, where `used` are the addresses of the expanders before it:
 // causes 1 to 4. Its frame starts after the eight bytes of the address.
 pub(crate) fn expander_unit(
     most: Setting,
     file: &[u8],
-    seen: &[u64],
+    used: &[u64],
     i: ExpanderNumber,
     at: usize,
 ) -> ExpanderRead
-    ensures { λ r. ⌜ expanderAnswer r ≡ expanderUnit most (now (file .entry)) (now (seen .entry)) (i .0) at ⌝ }
+    ensures { λ r. ⌜ expanderAnswer r ≡ expanderUnit most (now (file .entry)) (now (used .entry)) (i .0) at ⌝ }
 {
     if !has_bytes(file, at, 8) {
         return refusals::expander_refused(1, i);
@@ -209,7 +209,7 @@ pub(crate) fn expander_unit(
                         phys: g.phys,
                         configurable: g.configurable,
                     };
-                    test_unit(most, seen, u, i, next)
+                    test_unit(most, used, u, i, next)
                 }
             }
         }

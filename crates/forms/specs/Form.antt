@@ -7,8 +7,10 @@ use lib.Dec.{eqb, leb}
 use Rattle.files.specs.declared.Phy.{Phy}
 use Rattle.files.specs.declared.Phy.the-variants.{Vacant, Present}
 use Rattle.files.specs.declared.PhyFields.{PhyFields}
-use Rattle.files.specs.Domain.{Expander, Domain, addressOf, numberOf}
+use Rattle.files.specs.Domain.{Expander, Domain, addressOf, numberOf, expanderAt}
 use Rattle.files.specs.Settings.{mostPhys, mostExpanders}
+use mathlib.Core.Path.{_≡_}
+use lib.Seq.{sets}
 
 -- an expander's second word, from the top: R (16 bits), phy count (8), zeros
 abbrev pub headField : ℕ → ℕ → ℕ
@@ -77,3 +79,7 @@ expandersBack (suc room) (w ∷ ws) = expanderBack (w ∷ ws) ∷ expandersBack 
 
 unfoldable pub formIn : List ℕ → Domain
 formIn ws = expandersBack mostExpanders ws
+
+-- the words of expander i's phys stored from `at` on, and the place after them
+abbrev pub FormPhysPut : Domain → ℕ → List ℕ → List ℕ → ℕ → ℕ → Type 0
+FormPhysPut d i before after at r = (after ≡ sets before at (formPhys d (expanderAt d i .phys))) × (r ≡ at + 2 * length (expanderAt d i .phys))

@@ -10,7 +10,7 @@ ghost use lib.Seq.{sets};
 ghost use Rattle.files.specs.Domain.{expanderAt, phyAt};
 ghost use Rattle.files.specs.Rows.{domainIn};
 ghost use Rattle.wiring.specs.index.AddressIndex.{IndexedFirst};
-ghost use Rattle.forms.specs.Form.{headField, phyField, formPhy, formPhys, formOf};
+ghost use Rattle.forms.specs.Form.{headField, phyField, formPhy, formPhys, formOf, FormPhysPut};
 
 // The second word of a phy that is not vacant.
 pub(crate) fn pack(deviceType: u8, attribute: u8, expander: u8, attachedPhy: u8) -> u64
@@ -49,8 +49,7 @@ fn form_phy(rows: &[u64], first: &[u16], i: ExpanderNumber, p: PhyId) -> u64
 // Stores the words of expander i's phys from `at` on, and yields the place after them.
 fn put_phys(rows: &[u64], first: &[u16], i: ExpanderNumber, words: &mut [u64], at: usize) -> usize
     requires { ⌜ IndexedFirst (domainIn (now rows)) (now first) × (at + 2 * length (expanderAt (domainIn (now rows)) (i .0) .phys) ≤ length (now words)) ⌝ }
-    ensures { λ r. ⌜ (now (words .exit) ≡ sets (now (words .entry)) at (formPhys (domainIn (now (rows .entry))) (expanderAt (domainIn (now (rows .entry))) (i .0) .phys)))
-        × (r ≡ at + 2 * length (expanderAt (domainIn (now (rows .entry))) (i .0) .phys)) ⌝ }
+    ensures { λ r. ⌜ FormPhysPut (domainIn (now (rows .entry))) (i .0) (now (words .entry)) (now (words .exit)) at r ⌝ }
 {
     let n = wiring::phy_count(rows, i);
     let mut to = at;

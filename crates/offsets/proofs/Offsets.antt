@@ -138,12 +138,12 @@ pub record HeadFound (most : Setting) (file : List ℕ) (at : ℕ) (u : Parsed E
   pub inside : u .next ≤ length file
 
 module _ (most : Setting) (file : List ℕ) where
-  pub head-found : (seen : List ℕ) (i at : ℕ) (u : Parsed ExpanderUnit) → expanderUnit most file seen i at ≡ good u → HeadFound most file at u
+  pub head-found : (used : List ℕ) (i at : ℕ) (u : Parsed ExpanderUnit) → expanderUnit most file used i at ≡ good u → HeadFound most file at u
   unfolding expanderUnit
-  head-found seen i at u e =
+  head-found used i at u e =
       let ownAddress = numberAt file at 8 in
-      let f = unit-found ReportGeneral generalRead (λ g. unitTested most seen i (unitOf ownAddress g)) i 0 file (at + 8) u e in
-      let q = tested-same most seen i (unitOf ownAddress (f .fields)) (u .value) (f .tested) in
+      let f = unit-found ReportGeneral generalRead (λ g. unitTested most used i (unitOf ownAddress g)) i 0 file (at + 8) u e in
+      let q = tested-same most used i (unitOf ownAddress (f .fields)) (u .value) (f .tested) in
       let s : List ℕ = take (f .size) (drop (at + 8) file) in
       let g = general-is s (f .fields) (f .reads) in
       let l = size-within ReportGeneral file (at + 8) (f .size) (f .found) .0 in
@@ -158,70 +158,70 @@ module _ (most : Setting) (file : List ℕ) where
 
   -- expander k of those that were read stands where it is looked for
   pub record There (i at : ℕ) (e : Expander) : Type 0 where
-    pub seen : List ℕ
+    pub used : List ℕ
     pub unit : Parsed ExpanderUnit
     pub phys : Parsed (List Phy)
-    pub head : expanderUnit most file seen i at ≡ good unit
+    pub head : expanderUnit most file used i at ≡ good unit
     pub after : phyUnits file (unit .value .address) i (unit .value .phys) 0 (unit .next) ≡ good phys
     pub is : expanderOf (unit .value) (phys .value) ≡ e
 
   -- the place after one expander
-  pub unit-after : (seen : List ℕ) (i at : ℕ) (u : Parsed ExpanderUnit) (φs : Parsed (List Phy)) → expanderUnit most file seen i at ≡ good u
+  pub unit-after : (used : List ℕ) (i at : ℕ) (u : Parsed ExpanderUnit) (φs : Parsed (List Phy)) → expanderUnit most file used i at ≡ good u
       → phyUnits file (u .value .address) i (u .value .phys) 0 (u .next) ≡ good φs → φs .next ≡ physAfter file (byte file (at + 17)) (physFrom file at)
-  unit-after seen i at u φs e f =
-      let h = head-found seen i at u e in
+  unit-after used i at u φs e f =
+      let h = head-found used i at u e in
       phys-after file (u .value .address) i (u .value .phys) 0 (u .next) φs f ∙ ap (λ (n : ℕ). physAfter file n (u .next)) (h .phys) ∙ ap (physAfter file (byte file (at + 17))) (h .next)
 
-  pub expander-there : (count i at : ℕ) (seen : List ℕ) (d : Domain) → expanders most file count i at seen ≡ good d → (k : ℕ) → k < count → There (i + k) (expandersAfter file k at) (expanderAt d k)
+  pub expander-there : (count i at : ℕ) (used : List ℕ) (d : Domain) → expanders most file count i at used ≡ good d → (k : ℕ) → k < count → There (i + k) (expandersAfter file k at) (expanderAt d k)
   unfolding expanders expandersAfter
-  expander-there zero i at seen d e k h = absurd (omega arith)
-  expander-there (suc count) i at seen d e zero h =
-      let one = then-good (expanderUnit most file seen i at) _ d e in
+  expander-there zero i at used d e k h = absurd (omega arith)
+  expander-there (suc count) i at used d e zero h =
+      let one = then-good (expanderUnit most file used i at) _ d e in
       let u = one .0 in
       let two = then-good (phyUnits file (u .value .address) i (u .value .phys) 0 (u .next)) _ d (one .2) in
       let φs = two .0 in
-      let more = then-good (expanders most file count (i + 1) (φs .next) (seen ++ (u .value .address ∷ []))) _ d (two .2) in
+      let more = then-good (expanders most file count (i + 1) (φs .next) (used ++ (u .value .address ∷ []))) _ d (two .2) in
       let q = good-one (expanderOf (u .value) (φs .value) ∷ more .0) d (more .2) in
       let z : i + 0 ≡ i = omega arith in
       record {
-        seen = seen;
+        used = used;
         unit = u;
         phys = φs;
-        head = ap (λ (m : ℕ). expanderUnit most file seen m at) z ∙ one .1;
+        head = ap (λ (m : ℕ). expanderUnit most file used m at) z ∙ one .1;
         after = ap (λ (m : ℕ). phyUnits file (u .value .address) m (u .value .phys) 0 (u .next)) z ∙ two .1;
         is = ap (λ (v : Domain). expanderAt v 0) q;
       }
-  expander-there (suc count) i at seen d e (suc k) h =
-      let one = then-good (expanderUnit most file seen i at) _ d e in
+  expander-there (suc count) i at used d e (suc k) h =
+      let one = then-good (expanderUnit most file used i at) _ d e in
       let u = one .0 in
       let two = then-good (phyUnits file (u .value .address) i (u .value .phys) 0 (u .next)) _ d (one .2) in
       let φs = two .0 in
-      let next = seen ++ (u .value .address ∷ []) in
+      let next = used ++ (u .value .address ∷ []) in
       let more = then-good (expanders most file count (i + 1) (φs .next) next) _ d (two .2) in
       let q = good-one (expanderOf (u .value) (φs .value) ∷ more .0) d (more .2) in
       let r = expander-there count (i + 1) (φs .next) next (more .0) (more .1) k (omega arith) in
-      let a = unit-after seen i at u φs (one .1) (two .1) in
+      let a = unit-after used i at u φs (one .1) (two .1) in
       let z : i + suc k ≡ i + 1 + k = omega arith in
       subst (λ (m : ℕ). There m (expandersAfter file k (physAfter file (byte file (at + 17)) (physFrom file at))) (expanderAt d (suc k))) (sym z)
       (subst (λ (m : ℕ). There (i + 1 + k) (expandersAfter file k m) (expanderAt d (suc k))) a
       (subst (λ (v : Domain). There (i + 1 + k) (expandersAfter file k (φs .next)) (expanderAt v (suc k))) q r))
 
   -- the place after the last unit is the end
-  pub expanders-end : (count i at : ℕ) (seen : List ℕ) (d : Domain) → expanders most file count i at seen ≡ good d → (length file ≡ expandersAfter file count at) × (length d ≡ count)
+  pub expanders-end : (count i at : ℕ) (used : List ℕ) (d : Domain) → expanders most file count i at used ≡ good d → (length file ≡ expandersAfter file count at) × (length d ≡ count)
   unfolding expanders expandersAfter
-  expanders-end zero i at seen d e =
+  expanders-end zero i at used d e =
       let u = unless-good (eqb at (length file)) (refusal 1 i 0) (good []) d e in
       (sym (eqb→eq at (length file) (u .0)), sym (ap length (good-one [] d (u .1))))
-  expanders-end (suc count) i at seen d e =
-      let one = then-good (expanderUnit most file seen i at) _ d e in
+  expanders-end (suc count) i at used d e =
+      let one = then-good (expanderUnit most file used i at) _ d e in
       let u = one .0 in
       let two = then-good (phyUnits file (u .value .address) i (u .value .phys) 0 (u .next)) _ d (one .2) in
       let φs = two .0 in
-      let next = seen ++ (u .value .address ∷ []) in
+      let next = used ++ (u .value .address ∷ []) in
       let more = then-good (expanders most file count (i + 1) (φs .next) next) _ d (two .2) in
       let q = good-one (expanderOf (u .value) (φs .value) ∷ more .0) d (more .2) in
       let r = expanders-end count (i + 1) (φs .next) next (more .0) (more .1) in
-      let a = unit-after seen i at u φs (one .1) (two .1) in
+      let a = unit-after used i at u φs (one .1) (two .1) in
       (r .0 ∙ ap (expandersAfter file count) a, sym (ap length q) ∙ ap suc (r .1))
 
   -- a file that reads as a domain: its expanders stand after the header
@@ -259,24 +259,24 @@ place-after file (suc i) at =
     omega arith
 
 module _ (most : Setting) (file : List ℕ) (few : most .phys ≤ 128) where
-  file-bound : (count i at : ℕ) (seen : List ℕ) (d : Domain) → expanders most file count i at seen ≡ good d → length file ≤ at + 8268 * count
+  file-bound : (count i at : ℕ) (used : List ℕ) (d : Domain) → expanders most file count i at used ≡ good d → length file ≤ at + 8268 * count
   unfolding expanders
-  file-bound zero i at seen d e =
+  file-bound zero i at used d e =
       let u = unless-good (eqb at (length file)) (refusal 1 i 0) (good []) d e in
       let q = eqb→eq at (length file) (u .0) in
       omega arith
-  file-bound (suc count) i at seen d e =
-      let one = then-good (expanderUnit most file seen i at) _ d e in
+  file-bound (suc count) i at used d e =
+      let one = then-good (expanderUnit most file used i at) _ d e in
       let u = one .0 in
       let two = then-good (phyUnits file (u .value .address) i (u .value .phys) 0 (u .next)) _ d (one .2) in
       let φs = two .0 in
-      let next = seen ++ (u .value .address ∷ []) in
+      let next = used ++ (u .value .address ∷ []) in
       let more = then-good (expanders most file count (i + 1) (φs .next) next) _ d (two .2) in
       let r = file-bound count (i + 1) (φs .next) next (more .0) (more .1) in
-      let h = head-found most file seen i at u (one .1) .next in
+      let h = head-found most file used i at u (one .1) .next in
       let a = phys-after file (u .value .address) i (u .value .phys) 0 (u .next) φs (two .1) in
       let b = phys-bound file (u .value .phys) (u .next) .1 in
-      let c = few-phys most file seen i at u (one .1) in
+      let c = few-phys most file used i at u (one .1) in
       let s = size-bound file (at + 8) .1 in
       omega arith
 
@@ -290,7 +290,7 @@ phy-placed most file d e i p h =
     let k = expander-range d i p h in
     let t = expander-there most file (length d) 0 2 [] d (units-of most file d e .1) i k in
     let u = t .unit in
-    let o = head-found most file (t .seen) (0 + i) (expanderOffset file i) u (t .head) in
+    let o = head-found most file (t .used) (0 + i) (expanderOffset file i) u (t .head) in
     let c = phys-count file (u .value .address) (0 + i) (u .value .phys) 0 (u .next) (t .phys) (t .after) in
     let l : length (t .phys .value) ≡ length (expanderAt d i .phys) = ap (λ (x : Expander). length (x .phys)) (t .is) in
     let v = phy-there file (u .value .address) (0 + i) (u .value .phys) 0 (u .next) (t .phys) (t .after) p (omega arith) in

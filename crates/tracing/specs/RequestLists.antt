@@ -1,13 +1,13 @@
 -- Many requests over one domain, as words: two for each request, start * 256 + arrival phy and then the address; one for each answer.
-use Prim.Native.Nat.{ℕ, _/_, _%_}
+use Prim.Native.Nat.{ℕ, _/_, _%_, _≤_}
 use mathlib.Core.Path.{_≡_}
 use mathlib.Core.Bool.{_&&_}
 use mathlib.Core.List.{List, [], _∷_, _++_}
 use lib.ListN.{length, drop}
 use lib.Dec.{ltb, leb}
-use Rattle.tables.specs.WiringDefinitions.{bytesFor, Result, refused, good, unless, then, refusal, Domain}
+use Rattle.tables.specs.WiringDefinitions.{bytesFor, Result, refused, good, unless, then, refusal, Domain, IndexedFirst}
 use Rattle.tables.specs.filling.Tables.{needed}
-use Rattle.tables.specs.filling.Entries.{Entries, Room}
+use Rattle.tables.specs.filling.Entries.{Entries, Room, Enough}
 use Rattle.tables.specs.lists.PreparedLists.{judgedIn}
 use Rattle.tracing.specs.Trace.{Traced, request, tracedRequest, report}
 use Rattle.tracing.specs.Packing.{packed, endPacked}
@@ -57,3 +57,7 @@ listAfter (good d) t requests before = answersOf d t requests ++ drop (requestCo
 pub record ListTraced (outcome : Result Domain) (t : Entries) (requests : List ℕ) (answer : ListAnswer) (before after : List ℕ) : Type 0 where
   pub answers : listAnswer answer ≡ then outcome (λ d. good (requestCount requests))
   pub words : after ≡ listAfter outcome t requests before
+
+-- tracing one request of a list: who has which address, and room for the tables and for the expanders passed
+abbrev pub RequestReady : Domain → List ℕ → Room → List ℕ → Type 0
+RequestReady d first room passed = IndexedFirst d first × (Enough (needed d) room × (length d ≤ length passed))

@@ -16,7 +16,7 @@ ghost use Rattle.tables.specs.WiringDefinitions.{domainIn, IndexedFirst};
 ghost use Rattle.tables.specs.filling.Tables.{needed};
 ghost use Rattle.tables.specs.filling.Entries.{entries, roomOf, Enough};
 ghost use Rattle.tracing.specs.Trace.{request, tracedRequest, TraceDone};
-ghost use Rattle.tracing.specs.RequestLists.{oneAnswer, answersOf, requestCount, listFor, listIn, ListTraced};
+ghost use Rattle.tracing.specs.RequestLists.{oneAnswer, answersOf, requestCount, listFor, listIn, ListTraced, RequestReady};
 ghost use Rattle.tracing.specs.declared.ListAnswer.the-variants.{Refused};
 
 // A request where the tables, their bits and the expanders passed have room: 15 and 17 are left to test.
@@ -30,7 +30,7 @@ fn trace_lent(
     s: u64,
     passed: &mut [u8],
 ) -> TraceAnswer
-    requires { ⌜ IndexedFirst (domainIn (now rows)) (now first) × (Enough (needed (domainIn (now rows))) (roomOf (entries (now words) (now bits))) × (length (domainIn (now rows)) ≤ length (now passed))) ⌝ }
+    requires { ⌜ RequestReady (domainIn (now rows)) (now first) (roomOf (entries (now words) (now bits))) (now passed) ⌝ }
     ensures { λ r. ⌜ TraceDone
         (tracedRequest (domainIn (now (rows .entry))) (entries (now (words .entry)) (now (bits .entry))) (length (now (passed .entry))) (request (start .0) (arrival .0) s))
         r (now (passed .entry)) (now (passed .exit)) ⌝ }

@@ -6,7 +6,7 @@ use mathlib.Core.Logic.{_≢_}
 use mathlib.Core.Bool.{Bool, false, cond, not, _&&_}
 use mathlib.Core.List.{List, _∷_}
 use lib.ListN.{length, take, drop}
-use lib.Dec.{eqb, leb}
+use lib.Dec.{T, eqb, leb}
 use Rattle.wiring.specs.FrameDefinitions.{Result, refused, good, unless, then, refusal}
 use Rattle.files.specs.declared.Phy.{Phy}
 use Rattle.files.specs.declared.Phy.the-variants.{Vacant, Present}
@@ -16,7 +16,7 @@ use Rattle.wiring.specs.phys.PhyCauses.{Place, clashing, firstIn, firstOf}
 use Rattle.wiring.specs.index.AddressIndex.{isTaken}
 use Rattle.files.specs.PhyReplaced.{setPhy, withWords}
 use Rattle.files.specs.Rows.{domainIn}
-use Rattle.tables.specs.filling.Entries.{Entries, Room, roomOf}
+use Rattle.tables.specs.filling.Entries.{Entries, Room, roomOf, Enough}
 use Rattle.tables.specs.lists.GrowingLists.{placesAt}
 use Rattle.tables.specs.lists.OwnLists.{ownWords}
 use Rattle.tables.specs.JudgingCall.{tablesFor}
@@ -24,6 +24,7 @@ use Rattle.tables.specs.lists.PreparedLists.{OwnListsHeld, DownstreamLis
 use Rattle.tables.specs.events.TouchedTables.{refilledBy, Moved, movedBy}
 use Rattle.tables.specs.declared.Replugged.{Replugged}
 use Rattle.tables.specs.declared.Replugged.the-variants.{Refused, Counts}
+use Rattle.tables.specs.filling.Tables.{needed}
 
 -- 20 does not hold: the phy exists, is not vacant and is not attached to an expander
 abbrev pub pluggable : Phy → Bool
@@ -52,19 +53,21 @@ retested e s d =
     then (firstIn 9 (clashing d) (placesAt d e) d) (λ _.
     firstOf 14 (ownOverlong d) d))
 
+-- 20, then 16 and 18
+abbrev pub admitting : Room → ℕ → ℕ → Domain → Result Domain
+admitting room e p d = unless (pluggable (phyAt d e p)) (refusal 20 0 0) (tablesFor room d)
+
 -- 14 by own lists of a domain past causes 7 to 12 and 23, then 20, 16 and 18
 abbrev pub fitted : Room → ℕ → ℕ → Domain → Result Domain
 fitted room e p d =
     then (firstOf 14 (ownOverlong d) d) (λ _.
-    unless (pluggable (phyAt d e p)) (refusal 20 0 0)
-    (tablesFor room d))
+    admitting room e p d)
 
 -- causes 7 to 12, 23 and 14 by own lists of the domain as lent, with room for so many slots and phys; then 20, 16 and 18
 abbrev pub admitted : ℕ → ℕ → ℕ → Room → ℕ → ℕ → Domain → Result Domain
 admitted chain first low room e p d =
     then (judgedIn chain first low d) (λ _.
-    unless (pluggable (phyAt d e p)) (refusal 20 0 0)
-    (tablesFor room d))
+    admitting room e p d)
 
 -- and then the causes of the edited domain, which it yields
 unfoldable pub replugCall : ℕ → ℕ → ℕ → Room → ℕ → ℕ → ℕ → Domain → Result Domain
@@ -115,6 +118,10 @@ pub record ReplugReady (d : Domain) (e n : ℕ) (first lists bytes order : List 
   pub room : mostDownstream * length d < length order
   pub few : length order ≤ orderBytes
   pub fills : length (ownWords d e) ≤ n → Fillable d
+
+-- and a drive that can be plugged or pulled at phy p, with room for the tables
+abbrev pub ReplugAdmitted : Domain → ℕ → ℕ → List ℕ → List ℕ → List ℕ → List ℕ → Room → Type 0
+ReplugAdmitted d e p first lists bytes order room = ReplugReady d e (length (ownWords d e)) first lists bytes order × (T (pluggable (phyAt d e p)) × Enough (needed d) room)
 
 -- rows and entries before and after address a is plugged into phy p of expander e, or its drive pulled, of a domain past causes 7 to 12 and 23, and the answer
 pub record ReplugRun (ws ws′ : List ℕ) (e p a : ℕ) (answer : Replugged) (before after : Entries) : Type 0 where

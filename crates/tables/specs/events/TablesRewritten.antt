@@ -1,20 +1,23 @@
 -- What the functions that write touched tables afresh promise: the numbers from a place on renewed, how far they went, and what they counted.
-use Prim.Native.Nat.{ℕ, _+_, _*_, _≤_, _<_}
+use Prim.Native.Nat.{ℕ, _+_, _*_, _≤_, _<_, _^_}
 use mathlib.Core.Path.{_≡_}
 use mathlib.Core.Bool.{Bool, _&&_}
 use mathlib.Core.List.{List, _++_}
 use lib.ListN.{length, take, drop}
 pub use Rattle.frames.specs.Bits.{withBit}
-use Rattle.wiring.specs.FrameDefinitions.{bitsOf, zeroBits}
+use Rattle.wiring.specs.FrameDefinitions.{bitsOf, zeroBits, good}
 use Rattle.files.specs.Lists.{keep}
 use Rattle.files.specs.declared.Phy.{Phy}
-use Rattle.files.specs.Domain.{Domain, isTable, toExpander}
-use Rattle.wiring.specs.phys.PhyCauses.{Place}
-use Rattle.tables.specs.filling.Tables.{size, sizes}
-use Rattle.tables.specs.filling.Entries.{Entries, roomOf}
-use Rattle.tables.specs.events.TouchedTables.{renewed, changed}
-use Rattle.tables.specs.events.ReplugCall.{ownTouched, ownTableAt}
+use Rattle.files.specs.Domain.{Domain, isTable, toExpander, phyAt}
+use Rattle.wiring.specs.phys.PhyCauses.{Place, place}
+use Rattle.tables.specs.filling.Tables.{size, sizes, needed}
+use Rattle.tables.specs.filling.Entries.{Entries, roomOf, Room, Enough}
+use Rattle.tables.specs.events.TouchedTables.{renewed, changed, movedBy}
+use Rattle.tables.specs.events.ReplugCall.{ownTouched, ownTableAt, ownRefilled, replugAnswer}
 use Rattle.tables.specs.declared.events.refilling.Tally.{Tally}
+use Rattle.tables.specs.lists.GrowingLists.{placesAt}
+use Rattle.tables.specs.lists.PreparedLists.{AttachedExpandersKnown, OwnListsHeld, DownstreamListsHeld, mostDownstream, orderOf, Fillable}
+use Rattle.tables.specs.declared.Replugged.{Replugged}
 
 -- numbers renewed from a place on, where the tables at these places stand one after the other
 unfoldable pub renewedAt : Domain → (Place → Bool) → (Place → List ℕ) → List Place → ℕ → List ℕ → List ℕ
@@ -46,3 +49,24 @@ pub record Rewritten (d : Domain) (e : ℕ) (qs : List Place) (s r : Tally) (bef
   pub next : r .at ≡ s .at + sizes d qs
   pub counted : r .tables ≡ s .tables + length (keep (ownTouched d e) qs)
   pub differs : r .words ≡ s .words + changed (before .words) (after .words)
+
+-- going through the table of phy p of expander i: own lists, its order, and words and bits for it
+abbrev pub RefillReady : Domain → List ℕ → List ℕ → ℕ → ℕ → Tally → List ℕ → List ℕ → Type 0
+RefillReady d lists order i p s words bits =
+    OwnListsHeld d lists × ((order ≡ orderOf d (phyAt d i p)) × (Fillable d × (((s .tables < 2 ^ 32) × (s .words ≤ s .at))
+    × ((s .at + size d (place i p) ≤ length words) × (s .at + size d (place i p) ≤ 8 * length bits)))))
+
+-- through the tables of expander i
+abbrev pub RefillsReady : Domain → List ℕ → List ℕ → List ℕ → List ℕ → ℕ → Tally → List ℕ → List ℕ → Type 0
+RefillsReady d first lists downstream order i s words bits =
+    AttachedExpandersKnown d first × (OwnListsHeld d lists × (DownstreamListsHeld d downstream × ((mostDownstream * length d < length order) × (Fillable d × (((s .tables ≤ 16384) × (s .words ≤ s .at))
+    × ((s .at + sizes d (placesAt d i) ≤ length words) × (s .at + sizes d (placesAt d i) ≤ 8 * length bits)))))))
+
+-- through all tables
+abbrev pub RefillAllReady : Domain → List ℕ → List ℕ → List ℕ → List ℕ → Room → Type 0
+RefillAllReady d first lists downstream order room =
+    AttachedExpandersKnown d first × (OwnListsHeld d lists × (DownstreamListsHeld d downstream × ((mostDownstream * length d < length order) × (Fillable d × Enough (needed d) room))))
+
+-- the touched tables are written afresh, and the answer counts them and the words changed
+abbrev pub RefilledAll : Domain → ℕ → Replugged → Entries → Entries → Type 0
+RefilledAll d e r before after = (after ≡ ownRefilled d e before) × (replugAnswer r ≡ good (movedBy d (ownTouched d e) before after))

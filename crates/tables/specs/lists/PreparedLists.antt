@@ -2,7 +2,7 @@
 -- and the expanders of a phy's levels in their order.
 use Prim.Native.Nat.{ℕ, zero, suc, _*_, _≤_, _<_, _+_}
 use mathlib.Core.Path.{_≡_}
-use mathlib.Core.Bool.{Bool, _||_, _&&_}
+use mathlib.Core.Bool.{Bool, false, _||_, _&&_}
 use mathlib.Core.List.{List, [], _∷_, _++_, flatMap}
 use lib.ListN.{length, getD, take, drop, replicate}
 use lib.Dec.{T, eqb, ltb}
@@ -162,3 +162,36 @@ ownAfter (good d) before = putBefore (ownTables d) before
 pub record OwnDone (outcome : Result Domain) (answer : TablesGiven) (before after : Entries) : Type 0 where
   pub answers : tablesAnswer answer ≡ then outcome countsIn
   pub left : after ≡ ownAfter outcome before
+
+-- testing 14: which expanders phys are attached to, the lengths of own lists, what is downstream of each, and room for one order
+abbrev pub OverlongReady : Domain → List ℕ → List ℕ → List ℕ → List ℕ → Type 0
+OverlongReady d first counts downstream order =
+    AttachedExpandersKnown d first × (OwnListCounts d counts × (DownstreamListsHeld d downstream × ((mostDownstream * length d < length order) × (length order ≤ orderBytes))))
+
+-- the same with own lists in place of their lengths
+abbrev pub OverlongByLists : Domain → List ℕ → List ℕ → List ℕ → List ℕ → Type 0
+OverlongByLists d first lists downstream order =
+    AttachedExpandersKnown d first × (OwnListsHeld d lists × (DownstreamListsHeld d downstream × ((mostDownstream * length d < length order) × (length order ≤ orderBytes))))
+
+-- testing 14 at φ, phy p of expander i: q, where it is lower, is on one link with it, and 14 holds at no lower phy
+abbrev pub OverlongPhyReady : Domain → List ℕ → List ℕ → List ℕ → List ℕ → ℕ → ℕ → ℕ → Phy → Type 0
+OverlongPhyReady d first counts downstream order i p q φ =
+    AttachedExpandersKnown d first × (OwnListCounts d counts × (DownstreamListsHeld d downstream × (((mostDownstream * length d < length order) × (length order ≤ orderBytes))
+    × ((φ ≡ phyAt d i p) × (LowerOnLink d i p q × ((k : ℕ) → k < p → ownOverlong d i k ≡ false))))))
+
+-- testing 14, with room for what is downstream of each and for one order
+abbrev pub OverlongRoom : Domain → List ℕ → List ℕ → List ℕ → List ℕ → Type 0
+OverlongRoom d first low downstream order =
+    Indexed d first low × ((downstreamBytes * length d ≤ length downstream) × ((mostDownstream * length d < length order) × (length order ≤ orderBytes)))
+
+-- writing all tables, with room for what is prepared
+abbrev pub AllRoom : Domain → List ℕ → List ℕ → List ℕ → List ℕ → List ℕ → List ℕ → Type 0
+AllRoom d first low lists downstream order words = Indexed d first low × (FillRoom d lists downstream order × (Fillable d × (needed d ≤ length words)))
+
+-- the order of φ, phy p of expander i, after that of ψ, its phy q
+abbrev pub OrderAfter : Domain → List ℕ → List ℕ → List ℕ → ℕ → ℕ → Phy → ℕ → Phy → ℕ → Type 0
+OrderAfter d first downstream order i p φ q ψ n = (PhyIndexed d first i p φ × (ψ ≡ phyAt d i q)) × OrderKept d downstream order n ψ
+
+-- how many words the tables of expander i have
+abbrev pub wordsAt : Domain → ℕ → ℕ
+wordsAt d i = length (withTables d (placesAt d i)) * expanderAt d i .routeIndexes

@@ -27,7 +27,7 @@ ghost use Rattle.tables.specs.lists.GrowingLists.{placesAt, overlay};
 ghost use Rattle.tables.specs.lists.PreparedLists.{AttachedExpandersKnown, OwnListsHeld, DownstreamListsHeld, orderOf, ownWordsOfOrder, filledTo, Fillable, FilledFrom, mostDownstream};
 ghost use Rattle.tables.specs.events.TouchedTables.{changed, movedBy};
 ghost use Rattle.tables.specs.events.ReplugCall.{ownTouched, ownRefilled, replugAnswer};
-ghost use Rattle.tables.specs.events.TablesRewritten.{tableLink, Passed, TallyBounds, Rewritten};
+ghost use Rattle.tables.specs.events.TablesRewritten.{tableLink, Passed, TallyBounds, Rewritten, RefillReady, RefillsReady, RefillAllReady, RefilledAll};
 
 // How far the tables gone through reach, how many of them were touched, and how many words changed.
 struct Tally {
@@ -198,9 +198,7 @@ fn refill_table(
     bits: &mut [u8],
     s: Tally,
 ) -> Tally
-    requires { ⌜ OwnListsHeld (domainIn (now rows)) (now lists) × ((now order ≡ orderOf (domainIn (now rows)) (phyAt (domainIn (now rows)) (i .0) (p .0)))
-        × (Fillable (domainIn (now rows)) × (((s .tables < 2 ^ 32) × (s .words ≤ s .at))
-        × ((s .at + size (domainIn (now rows)) (place (i .0) (p .0)) ≤ length (now words)) × (s .at + size (domainIn (now rows)) (place (i .0) (p .0)) ≤ 8 * length (now bits)))))) ⌝ }
+    requires { ⌜ RefillReady (domainIn (now rows)) (now lists) (now order) (i .0) (p .0) s (now words) (now bits) ⌝ }
     ensures { λ r. ⌜ Rewritten (domainIn (now (rows .entry))) (e .0) (place (i .0) (p .0) ∷ []) s r
         (entries (now (words .entry)) (now (bits .entry))) (entries (now (words .exit)) (now (bits .exit))) × TallyBounds 1 s r ⌝ }
 {
@@ -256,9 +254,7 @@ fn refill_at(
     bits: &mut [u8],
     s: Tally,
 ) -> Tally
-    requires { ⌜ AttachedExpandersKnown (domainIn (now rows)) (now first) × (OwnListsHeld (domainIn (now rows)) (now lists) × (DownstreamListsHeld (domainIn (now rows)) (now downstream) × ((mostDownstream * length (domainIn (now rows)) < length (now order))
-        × (Fillable (domainIn (now rows)) × (((s .tables ≤ 16384) × (s .words ≤ s .at))
-        × ((s .at + sizes (domainIn (now rows)) (placesAt (domainIn (now rows)) (i .0)) ≤ length (now words)) × (s .at + sizes (domainIn (now rows)) (placesAt (domainIn (now rows)) (i .0)) ≤ 8 * length (now bits)))))))) ⌝ }
+    requires { ⌜ RefillsReady (domainIn (now rows)) (now first) (now lists) (now downstream) (now order) (i .0) s (now words) (now bits) ⌝ }
     ensures { λ r. ⌜ Rewritten (domainIn (now (rows .entry))) (e .0) (placesAt (domainIn (now (rows .entry))) (i .0)) s r
         (entries (now (words .entry)) (now (bits .entry))) (entries (now (words .exit)) (now (bits .exit))) × TallyBounds 128 s r ⌝ }
 {
@@ -295,10 +291,8 @@ pub(crate) fn refill_all(
     words: &mut [u64],
     bits: &mut [u8],
 ) -> Replugged
-    requires { ⌜ AttachedExpandersKnown (domainIn (now rows)) (now first) × (OwnListsHeld (domainIn (now rows)) (now lists) × (DownstreamListsHeld (domainIn (now rows)) (now downstream) × ((mostDownstream * length (domainIn (now rows)) < length (now order))
-        × (Fillable (domainIn (now rows)) × Enough (needed (domainIn (now rows))) (roomOf (entries (now words) (now bits))))))) ⌝ }
-    ensures { λ r. ⌜ (entries (now (words .exit)) (now (bits .exit)) ≡ ownRefilled (domainIn (now (rows .entry))) (e .0) (entries (now (words .entry)) (now (bits .entry))))
-        × (replugAnswer r ≡ good (movedBy (domainIn (now (rows .entry))) (ownTouched (domainIn (now (rows .entry))) (e .0)) (entries (now (words .entry)) (now (bits .entry))) (entries (now (words .exit)) (now (bits .exit))))) ⌝ }
+    requires { ⌜ RefillAllReady (domainIn (now rows)) (now first) (now lists) (now downstream) (now order) (roomOf (entries (now words) (now bits))) ⌝ }
+    ensures { λ r. ⌜ RefilledAll (domainIn (now (rows .entry))) (e .0) r (entries (now (words .entry)) (now (bits .entry))) (entries (now (words .exit)) (now (bits .exit))) ⌝ }
 {
     let n = wiring::expander_count(rows);
     let mut s = Tally {

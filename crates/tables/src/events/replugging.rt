@@ -27,7 +27,7 @@ ghost use Rattle.tables.specs.filling.Tables.{needed};
 ghost use Rattle.tables.specs.JudgingCall.{tablesFor};
 ghost use Rattle.tables.specs.lists.OwnLists.{ownWords};
 ghost use Rattle.tables.specs.lists.PreparedLists.{FillRoom, orderBytes};
-ghost use Rattle.tables.specs.events.ReplugCall.{pluggable, replug, replugged, retested, admitted, replugCall, rowsAfter, ReplugDone, ReplugReady, ReplugRun};
+ghost use Rattle.tables.specs.events.ReplugCall.{pluggable, replug, replugged, retested, admitted, replugCall, rowsAfter, ReplugDone, ReplugReady, ReplugRun, admitting, ReplugAdmitted};
 ghost use Rattle.tables.specs.declared.Replugged.the-variants.{Refused as NotReplugged};
 
 // Whether a drive can be plugged into the phy or pulled from it: 20 does not hold.
@@ -67,8 +67,7 @@ fn replug_phy(a: u64, f: Phy) -> Phy
 
 // 20 at phy p of expander e, then 16 and 18, where so many words and bytes are lent.
 fn admit(rows: &[u64], words: usize, bits: usize, e: ExpanderNumber, p: PhyId) -> Check
-    ensures { λ r. ⌜ checkAnswer (domainIn (now (rows .entry))) r
-        ≡ unless (pluggable (phyAt (domainIn (now (rows .entry))) (e .0) (p .0))) (refusal 20 0 0) (tablesFor (record { words = words; bits = bits }) (domainIn (now (rows .entry)))) ⌝ }
+    ensures { λ r. ⌜ checkAnswer (domainIn (now (rows .entry))) r ≡ admitting (record { words = words; bits = bits }) (e .0) (p .0) (domainIn (now (rows .entry))) ⌝ }
 {
     if !is_pluggable(wiring::phy_at(rows, e, p)) {
         return wiring::check_refused(20, ExpanderNumber(0), PhyId(0));
@@ -98,8 +97,7 @@ fn replug_prepared(
     p: PhyId,
     a: u64,
 ) -> Replugged
-    requires { ⌜ ReplugReady (domainIn (now rows)) (e .0) (length (ownWords (domainIn (now rows)) (e .0))) (now first) (now lists) (now downstream) (now order) × (T (pluggable (phyAt (domainIn (now rows)) (e .0) (p .0)))
-        × Enough (needed (domainIn (now rows))) (roomOf (entries (now words) (now bits)))) ⌝ }
+    requires { ⌜ ReplugAdmitted (domainIn (now rows)) (e .0) (p .0) (now first) (now lists) (now downstream) (now order) (roomOf (entries (now words) (now bits))) ⌝ }
     ensures { λ r. ⌜ (now (rows .exit) ≡ withWords (now (rows .entry)) (e .0) (p .0) (replug a (phyAt (domainIn (now (rows .entry))) (e .0) (p .0))))
         × ReplugDone (retested (e .0) a (replugged (domainIn (now (rows .entry))) (e .0) (p .0) a)) (e .0) r
         (entries (now (words .entry)) (now (bits .entry))) (entries (now (words .exit)) (now (bits .exit))) ⌝ }

@@ -13,11 +13,11 @@ ghost use lib.Dec.{ltb};
 ghost use Rattle.files.specs.Lists.{any};
 ghost use Rattle.files.specs.Domain.{expanderAt, bears, numberOf};
 ghost use Rattle.wiring.specs.phys.PhyCauses.{clash, clashing, firstIn, firstOf};
-ghost use Rattle.wiring.specs.phys.Checks.{checkAnswer};
+ghost use Rattle.wiring.specs.phys.Checks.{checkAnswer, FirstOfAll, FirstOfExpander};
 ghost use Rattle.files.specs.Rows.{domainIn};
 ghost use Rattle.tables.specs.lists.GrowingLists.{Grown, placesAt};
 ghost use Rattle.tables.specs.lists.OwnLists.{lower, owns, ownWords};
-ghost use Rattle.tables.specs.lists.PreparedLists.{AttachedExpandersKnown, OwnListsHeld, OwnListCounts, DownstreamListsHeld, ownOverlong, mostDownstream, orderBytes};
+ghost use Rattle.tables.specs.lists.PreparedLists.{AttachedExpandersKnown, OwnListsHeld, OwnListCounts, DownstreamListsHeld, ownOverlong, mostDownstream, orderBytes, OverlongByLists};
 ghost use Rattle.tables.specs.events.ReplugCall.{claimedWith, retested, OwnListsHeldBut, ReplugReady};
 ghost use Rattle.tables.specs.events.EndDeviceTests.{isEnd, endsAt, isFound};
 
@@ -40,8 +40,7 @@ fn is_end(s: u64, f: Phy) -> bool
 
 // The lowest phy of expander i that is attached to an end device with address s, as a refusal with number 8.
 fn first_end(rows: &[u64], i: ExpanderNumber, s: u64) -> Check
-    ensures { λ r. ⌜ checkAnswer (domainIn (now (rows .entry))) r
-        ≡ firstIn 8 (endsAt s (domainIn (now (rows .entry)))) (placesAt (domainIn (now (rows .entry))) (i .0)) (domainIn (now (rows .entry))) ⌝ }
+    ensures { λ r. ⌜ FirstOfExpander (domainIn (now (rows .entry))) r 8 (endsAt s) (i .0) ⌝ }
 {
     let n = wiring::phy_count(rows, i);
     let mut p: u8 = 0;
@@ -68,8 +67,7 @@ fn is_found(answer: Check) -> bool
 // Cause 8 of address s alone: the lowest phy that is attached to an end device with it, where an expander has
 // it (`taken`), or an end device at an earlier expander.
 pub(crate) fn first_claim(rows: &[u64], s: u64) -> Check
-    ensures { λ r. ⌜ checkAnswer (domainIn (now (rows .entry))) r
-        ≡ firstOf 8 (claimedWith s (domainIn (now (rows .entry)))) (domainIn (now (rows .entry))) ⌝ }
+    ensures { λ r. ⌜ FirstOfAll (domainIn (now (rows .entry))) r 8 (claimedWith s) ⌝ }
 {
     let n = wiring::expander_count(rows);
     let mut taken = is_expander(rows, s);
@@ -128,8 +126,7 @@ fn has_clash(rows: &[u64], i: ExpanderNumber, p: PhyId) -> bool
 
 // Cause 9 at expander e alone: its lowest phy that clashes with a lower one.
 pub(crate) fn first_clash(rows: &[u64], e: ExpanderNumber) -> Check
-    ensures { λ r. ⌜ checkAnswer (domainIn (now (rows .entry))) r
-        ≡ firstIn 9 (clashing (domainIn (now (rows .entry)))) (placesAt (domainIn (now (rows .entry))) (e .0)) (domainIn (now (rows .entry))) ⌝ }
+    ensures { λ r. ⌜ FirstOfExpander (domainIn (now (rows .entry))) r 9 clashing (e .0) ⌝ }
 {
     let n = wiring::phy_count(rows, e);
     let mut p: u8 = 0;
@@ -227,9 +224,8 @@ pub(crate) fn first_overlong_by(
     downstream: &[u8],
     order: &mut [u8],
 ) -> Check
-    requires { ⌜ AttachedExpandersKnown (domainIn (now rows)) (now first) × (OwnListsHeld (domainIn (now rows)) (now lists) × (DownstreamListsHeld (domainIn (now rows)) (now downstream) × ((mostDownstream * length (domainIn (now rows)) < length (now order)) × (length (now order) ≤ orderBytes)))) ⌝ }
-    ensures { λ r. ⌜ checkAnswer (domainIn (now (rows .entry))) r
-        ≡ firstOf 14 (ownOverlong (domainIn (now (rows .entry)))) (domainIn (now (rows .entry))) ⌝ }
+    requires { ⌜ OverlongByLists (domainIn (now rows)) (now first) (now lists) (now downstream) (now order) ⌝ }
+    ensures { λ r. ⌜ FirstOfAll (domainIn (now (rows .entry))) r 14 ownOverlong ⌝ }
 {
     let mut counts = [0u8; 64];
     put_lengths(rows, lists, &mut counts[..]);
@@ -248,8 +244,7 @@ fn overlong_past(
     n: usize,
 ) -> Check
     requires { ⌜ ReplugReady (domainIn (now rows)) (e .0) n (now first) (now lists) (now downstream) (now order) ⌝ }
-    ensures { λ r. ⌜ checkAnswer (domainIn (now (rows .entry))) r
-        ≡ firstOf 14 (ownOverlong (domainIn (now (rows .entry)))) (domainIn (now (rows .entry))) ⌝ }
+    ensures { λ r. ⌜ FirstOfAll (domainIn (now (rows .entry))) r 14 ownOverlong ⌝ }
 {
     if own_lists::own_length(rows, lists, e) <= n {
         return Check::Passed;

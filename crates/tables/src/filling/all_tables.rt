@@ -15,7 +15,7 @@ ghost use Rattle.wiring.specs.phys.PhyCauses.{place, placesFrom};
 ghost use Rattle.files.specs.Rows.{domainIn};
 ghost use Rattle.tables.specs.filling.Tables.{tablePlaces, size, sizes, needed};
 ghost use Rattle.tables.specs.lists.GrowingLists.{placesAt, withTables, WordsPut};
-ghost use Rattle.tables.specs.lists.PreparedLists.{ownTablesOf, ownTables, FillRoom, Fillable, TableReady, TablesReady, AllReady};
+ghost use Rattle.tables.specs.lists.PreparedLists.{ownTablesOf, ownTables, FillRoom, Fillable, TableReady, TablesReady, AllReady, wordsAt, AllRoom};
 ghost use Rattle.wiring.specs.index.AddressIndex.{Indexed};
 
 // Whether phy p of expander i is a non-vacant table phy.
@@ -55,7 +55,7 @@ pub fn table_count(rows: &[u64]) -> usize
 
 // How many words the tables of expander i have. Where R is 0 its phys need no look.
 fn words_at(rows: &[u64], i: ExpanderNumber) -> usize
-    ensures { λ r. ⌜ (r ≡ length (withTables (domainIn (now (rows .entry))) (placesAt (domainIn (now (rows .entry))) (i .0))) * expanderAt (domainIn (now (rows .entry))) (i .0) .routeIndexes) × (r ≤ 8388608) ⌝ }
+    ensures { λ r. ⌜ (r ≡ wordsAt (domainIn (now (rows .entry))) (i .0)) × (r ≤ 8388608) ⌝ }
 {
     let size = wiring::route_indexes(rows, i) as usize;
     if size == 0 {
@@ -151,8 +151,7 @@ fn put_all_in(
     order: &mut [u8],
     words: &mut [u64],
 )
-    requires { ⌜ Indexed (domainIn (now rows)) (now first) (now low) × (FillRoom (domainIn (now rows)) (now lists) (now downstream) (now order)
-        × (Fillable (domainIn (now rows)) × (needed (domainIn (now rows)) ≤ length (now words)))) ⌝ }
+    requires { ⌜ AllRoom (domainIn (now rows)) (now first) (now low) (now lists) (now downstream) (now order) (now words) ⌝ }
     ensures { λ _. ⌜ now (words .exit) ≡ ownTables (domainIn (now (rows .entry))) ++ drop (needed (domainIn (now (rows .entry)))) (now (words .entry)) ⌝ }
 {
     own_lists::put_owns(rows, low, lists);

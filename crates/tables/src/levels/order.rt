@@ -12,7 +12,7 @@ ghost use Rattle.files.specs.Domain.{phyAt};
 ghost use Rattle.files.specs.Rows.{domainIn};
 ghost use Rattle.tables.specs.levels.Levels.{downstreamOfPhys};
 ghost use Rattle.tables.specs.lists.GrowingLists.{Grown};
-ghost use Rattle.tables.specs.lists.PreparedLists.{DownstreamListsHeld, downstreamOnce, orderOf, PhyIndexed, OrderReady, OrderKept, mostDownstream};
+ghost use Rattle.tables.specs.lists.PreparedLists.{DownstreamListsHeld, downstreamOnce, orderOf, PhyIndexed, OrderReady, OrderKept, mostDownstream, OrderAfter};
 
 // Copies the numbers after the first m of `order`, and yields how many there are then.
 fn append_numbers(order: &mut [u8], m: usize, more: &[u8]) -> usize
@@ -110,7 +110,7 @@ pub(crate) fn order_for(
     f: Phy,
     order: &mut [u8],
 ) -> usize
-    requires { ⌜ (PhyIndexed (domainIn (now rows)) (now first) (i .0) (p .0) f × (g ≡ phyAt (domainIn (now rows)) (i .0) (q .0))) × OrderKept (domainIn (now rows)) (now downstream) (now order) n g ⌝ }
+    requires { ⌜ OrderAfter (domainIn (now rows)) (now first) (now downstream) (now order) (i .0) (p .0) f (q .0) g n ⌝ }
     ensures { λ r. ⌜ Grown (now (order .entry)) (now (order .exit)) r (orderOf (domainIn (now (rows .entry))) f) ⌝ }
 {
     if wiring::phy_type(f) < 2 {

@@ -13,13 +13,13 @@ ghost use mathlib.Core.List.{flatMap};
 ghost use Prim.Native.Nat.{ℕ, _*_, _≤_, _<_};
 ghost use lib.ListN.{length};
 ghost use Rattle.wiring.specs.phys.PhyCauses.{firstIn, firstOf};
-ghost use Rattle.wiring.specs.phys.Checks.{checkAnswer};
+ghost use Rattle.wiring.specs.phys.Checks.{checkAnswer, FirstOfAll, FirstOfExpander};
 ghost use Rattle.files.specs.Domain.{phyAt};
 ghost use Rattle.files.specs.Rows.{domainIn};
 ghost use Rattle.wiring.specs.index.AddressIndex.{Indexed};
 ghost use Rattle.tables.specs.lists.GrowingLists.{placesAt};
 ghost use Rattle.tables.specs.lists.OwnLists.{ownWords};
-ghost use Rattle.tables.specs.lists.PreparedLists.{AttachedExpandersKnown, OwnListCounts, DownstreamListsHeld, ownOverlong, LowerOnLink, downstreamBytes, mostDownstream, orderBytes};
+ghost use Rattle.tables.specs.lists.PreparedLists.{AttachedExpandersKnown, OwnListCounts, DownstreamListsHeld, ownOverlong, LowerOnLink, downstreamBytes, mostDownstream, orderBytes, OverlongPhyReady, OverlongReady, OverlongRoom};
 
 // How many words the own lists of these expanders have.
 fn count_words(rows: &[u64], counts: &[u8], order: &[u8]) -> usize
@@ -50,8 +50,7 @@ fn is_overlong(
     f: Phy,
     order: &mut [u8],
 ) -> bool
-    requires { ⌜ AttachedExpandersKnown (domainIn (now rows)) (now first) × (OwnListCounts (domainIn (now rows)) (now counts) × (DownstreamListsHeld (domainIn (now rows)) (now downstream) × (((mostDownstream * length (domainIn (now rows)) < length (now order)) × (length (now order) ≤ orderBytes))
-        × ((f ≡ phyAt (domainIn (now rows)) (i .0) (p .0)) × (LowerOnLink (domainIn (now rows)) (i .0) (p .0) (q .0) × ((k : ℕ) → k < p .0 → ownOverlong (domainIn (now rows)) (i .0) k ≡ false)))))) ⌝ }
+    requires { ⌜ OverlongPhyReady (domainIn (now rows)) (now first) (now counts) (now downstream) (now order) (i .0) (p .0) (q .0) f ⌝ }
     ensures { λ r. ⌜ r ≡ ownOverlong (domainIn (now (rows .entry))) (i .0) (p .0) ⌝ }
 {
     if q.0 < p.0 {
@@ -74,9 +73,8 @@ fn overlong_phy(
     i: ExpanderNumber,
     order: &mut [u8],
 ) -> Check
-    requires { ⌜ AttachedExpandersKnown (domainIn (now rows)) (now first) × (OwnListCounts (domainIn (now rows)) (now counts) × (DownstreamListsHeld (domainIn (now rows)) (now downstream) × ((mostDownstream * length (domainIn (now rows)) < length (now order)) × (length (now order) ≤ orderBytes)))) ⌝ }
-    ensures { λ r. ⌜ checkAnswer (domainIn (now (rows .entry))) r
-        ≡ firstIn 14 (ownOverlong (domainIn (now (rows .entry)))) (placesAt (domainIn (now (rows .entry))) (i .0)) (domainIn (now (rows .entry))) ⌝ }
+    requires { ⌜ OverlongReady (domainIn (now rows)) (now first) (now counts) (now downstream) (now order) ⌝ }
+    ensures { λ r. ⌜ FirstOfExpander (domainIn (now (rows .entry))) r 14 ownOverlong (i .0) ⌝ }
 {
     let n = wiring::phy_count(rows, i);
     let mut p: u8 = 0;
@@ -100,9 +98,8 @@ pub(crate) fn overlong_each(
     downstream: &[u8],
     order: &mut [u8],
 ) -> Check
-    requires { ⌜ AttachedExpandersKnown (domainIn (now rows)) (now first) × (OwnListCounts (domainIn (now rows)) (now counts) × (DownstreamListsHeld (domainIn (now rows)) (now downstream) × ((mostDownstream * length (domainIn (now rows)) < length (now order)) × (length (now order) ≤ orderBytes)))) ⌝ }
-    ensures { λ r. ⌜ checkAnswer (domainIn (now (rows .entry))) r
-        ≡ firstOf 14 (ownOverlong (domainIn (now (rows .entry)))) (domainIn (now (rows .entry))) ⌝ }
+    requires { ⌜ OverlongReady (domainIn (now rows)) (now first) (now counts) (now downstream) (now order) ⌝ }
+    ensures { λ r. ⌜ FirstOfAll (domainIn (now (rows .entry))) r 14 ownOverlong ⌝ }
 {
     let n = wiring::expander_count(rows);
     let mut i: u8 = 0;
@@ -135,9 +132,8 @@ fn overlong_in(
     downstream: &mut [u8],
     order: &mut [u8],
 ) -> Check
-    requires { ⌜ Indexed (domainIn (now rows)) (now first) (now low) × ((downstreamBytes * length (domainIn (now rows)) ≤ length (now downstream)) × ((mostDownstream * length (domainIn (now rows)) < length (now order)) × (length (now order) ≤ orderBytes))) ⌝ }
-    ensures { λ r. ⌜ checkAnswer (domainIn (now (rows .entry))) r
-        ≡ firstOf 14 (ownOverlong (domainIn (now (rows .entry)))) (domainIn (now (rows .entry))) ⌝ }
+    requires { ⌜ OverlongRoom (domainIn (now rows)) (now first) (now low) (now downstream) (now order) ⌝ }
+    ensures { λ r. ⌜ FirstOfAll (domainIn (now (rows .entry))) r 14 ownOverlong ⌝ }
 {
     let mut counts = [0u8; 64];
     own_lists::put_counts(rows, low, &mut counts[..]);
@@ -148,8 +144,7 @@ fn overlong_in(
 // The lowest such phy, by expander and then phy. Few expanders need little room.
 pub(crate) fn first_overlong(rows: &[u64], first: &[u16], low: &[u8]) -> Check
     requires { ⌜ Indexed (domainIn (now rows)) (now first) (now low) ⌝ }
-    ensures { λ r. ⌜ checkAnswer (domainIn (now (rows .entry))) r
-        ≡ firstOf 14 (ownOverlong (domainIn (now (rows .entry)))) (domainIn (now (rows .entry))) ⌝ }
+    ensures { λ r. ⌜ FirstOfAll (domainIn (now (rows .entry))) r 14 ownOverlong ⌝ }
 {
     if wiring::expander_count(rows) <= 8 {
         let mut downstream = [0u8; crate::DOWNSTREAM_OF_8];

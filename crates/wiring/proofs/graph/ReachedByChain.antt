@@ -38,35 +38,35 @@ module _ (n : ℕ) (adj : ℕ → ℕ → Bool) where
   append i x y [] c t h = prepend i y y (c .below i (inl refl)) (subst (λ v. T (adj v y)) (sym (c .ends)) t) ([], single y h)
   append i x y (a ∷ l) c t h = prepend i a y (c .below i (inl refl)) (c .steps .0) (append a x y l (rest-of n adj i x a l c) t h)
 
-  -- all that is seen is joined to i
-  sound : (i k : ℕ) (seen : List ℕ) → ((w : ℕ) → In w seen → Joined i w) → (w : ℕ) → In w (reach n adj k seen) → Joined i w
+  -- all that is met is joined to i
+  sound : (i k : ℕ) (met : List ℕ) → ((w : ℕ) → In w met → Joined i w) → (w : ℕ) → In w (reach n adj k met) → Joined i w
   unfolding reach
-  sound i zero seen f = f
-  sound i (suc k) seen f = sound i k (keep (near n adj seen) (upTo n)) step
+  sound i zero met f = f
+  sound i (suc k) met f = sound i k (keep (near n adj met) (upTo n)) step
     where
-      step : (w : ℕ) → In w (keep (near n adj seen) (upTo n)) → Joined i w
+      step : (w : ℕ) → In w (keep (near n adj met) (upTo n)) → Joined i w
       step w h =
-          let r = kept (near n adj seen) (upTo n) w h in
+          let r = kept (near n adj met) (upTo n) w h in
           ⊎-elim
-          (λ u. f w (of-isIn w seen u))
-          (λ u. let s = of-any (λ x. adj x w) seen u in let c = f (s .0) (s .1) in append i (s .0) w (c .0) (c .1) (s .2) (numbers-below n w (r .0)))
-          (or-cases (isIn w seen) (any (λ x. adj x w) seen) (r .1))
+          (λ u. f w (of-isIn w met u))
+          (λ u. let s = of-any (λ x. adj x w) met u in let c = f (s .0) (s .1) in append i (s .0) w (c .0) (c .1) (s .2) (numbers-below n w (r .0)))
+          (or-cases (isIn w met) (any (λ x. adj x w) met) (r .1))
 
-  -- what is seen, and what is adjacent to it, is seen after a round
-  again : (seen : List ℕ) (s : ℕ) → In s seen → s < n → In s (keep (near n adj seen) (upTo n))
-  again seen s i h = keeps (near n adj seen) (upTo n) s (in-upTo n s h) (or-left (isIn s seen) (any (λ x. adj x s) seen) (isIn-of s seen i))
+  -- what is met, and what is adjacent to it, is met after a round
+  again : (met : List ℕ) (s : ℕ) → In s met → s < n → In s (keep (near n adj met) (upTo n))
+  again met s i h = keeps (near n adj met) (upTo n) s (in-upTo n s h) (or-left (isIn s met) (any (λ x. adj x s) met) (isIn-of s met i))
 
-  newly : (seen : List ℕ) (s t : ℕ) → In s seen → T (adj s t) → t < n → In t (keep (near n adj seen) (upTo n))
-  newly seen s t i a h =
-      keeps (near n adj seen) (upTo n) t (in-upTo n t h) (or-right (isIn t seen) (any (λ x. adj x t) seen) (any-of (λ x. adj x t) seen s i a))
+  newly : (met : List ℕ) (s t : ℕ) → In s met → T (adj s t) → t < n → In t (keep (near n adj met) (upTo n))
+  newly met s t i a h =
+      keeps (near n adj met) (upTo n) t (in-upTo n t h) (or-right (isIn t met) (any (λ x. adj x t) met) (any-of (λ x. adj x t) met s i a))
 
-  complete : (k : ℕ) (seen : List ℕ) (s : ℕ) (l : List ℕ) → In s seen → Steps adj s l → Below n (s ∷ l) → length l ≤ k → In (last s l) (reach n adj k seen)
+  complete : (k : ℕ) (met : List ℕ) (s : ℕ) (l : List ℕ) → In s met → Steps adj s l → Below n (s ∷ l) → length l ≤ k → In (last s l) (reach n adj k met)
   unfolding reach
-  complete zero seen s [] i st b h = i
-  complete zero seen s (t ∷ l) i st b h = absurd (omega arith)
-  complete (suc k) seen s [] i st b h = complete k (keep (near n adj seen) (upTo n)) s [] (again seen s i (b s (inl refl))) st b (omega arith)
-  complete (suc k) seen s (t ∷ l) i st b h =
-      complete k (keep (near n adj seen) (upTo n)) t l (newly seen s t i (st .0) (b t (inr (inl refl)))) (st .1) (λ w m. b w (inr m)) (omega arith)
+  complete zero met s [] i st b h = i
+  complete zero met s (t ∷ l) i st b h = absurd (omega arith)
+  complete (suc k) met s [] i st b h = complete k (keep (near n adj met) (upTo n)) s [] (again met s i (b s (inl refl))) st b (omega arith)
+  complete (suc k) met s (t ∷ l) i st b h =
+      complete k (keep (near n adj met) (upTo n)) t l (newly met s t i (st .0) (b t (inr (inl refl)))) (st .1) (λ w m. b w (inr m)) (omega arith)
 
   chain-reached : (i j : ℕ) (p : List ℕ) → Chain n adj i j p → T (reached n adj i j)
   chain-reached i j [] c = absurd c

@@ -29,3 +29,7 @@ pub record Leading (d : Domain) (first words : List ℕ) : Type 0 where
   pub index : IndexedFirst d first
   pub room : length d ≤ length words
   pub sets : CableSets d (length d) words
+
+-- and two expanders of the domain
+abbrev pub LeadingPair : Domain → List ℕ → List ℕ → ℕ → ℕ → Type 0
+LeadingPair d first words i j = Leading d first words × ((i < length d) × (j < length d))

@@ -57,14 +57,14 @@ module _ (n : ℕ) (adj : ℕ → ℕ → Bool) where
   abbrev pub loopfree : Bool
   loopfree = isNil (strip n (upTo n))
 
-  -- among those seen, or adjacent to one
+  -- among those met, or adjacent to one
   abbrev pub near : List ℕ → ℕ → Bool
-  near seen j = isIn j seen || any (λ i. adj i j) seen
+  near met j = isIn j met || any (λ i. adj i j) met
 
   -- so many rounds, each of which adds what is adjacent
   unfoldable pub reach : ℕ → List ℕ → List ℕ
-  reach zero seen = seen
-  reach (suc rounds) seen = reach rounds (keep (near seen) (upTo n))
+  reach zero met = met
+  reach (suc rounds) met = reach rounds (keep (near met) (upTo n))
 
   -- j is reached from i in n rounds
   abbrev pub reached : ℕ → ℕ → Bool

@@ -24,11 +24,15 @@ unfoldable pub joinedIn : List ℕ → Domain → Result Domain
 joinedIn [] d = good d
 joinedIn (i ∷ is) d = cond (joined d i) (joinedIn is d) (refused (refusal 12 i 0))
 
+-- 12 of all expanders
+abbrev pub joinedDomain : Domain → Result Domain
+joinedDomain d = joinedIn (upTo (length d)) d
+
 -- causes 11, 12 and 23 in order, where a chain may have so many expanders; 13 is withdrawn (document 02, paper 3)
 unfoldable pub linkedDomain : ℕ → Domain → Result Domain
 linkedDomain chain d =
     then (unlooped d) (λ _.
-    then (joinedIn (upTo (length d)) d) (λ _.
+    then (joinedDomain d) (λ _.
     unlong chain d))
 
 -- causes 7 to 12 and 23 in order

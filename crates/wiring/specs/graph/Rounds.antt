@@ -53,6 +53,10 @@ unfoldable pub rounds : ℕ → ℕ → (ℕ → ℕ → Bool) → ℕ → List 
 rounds k n adj zero l = l
 rounds k n adj (suc count) l = rounds k n adj count (nextSet k n adj l)
 
+-- the next set of expanders, as a word
+abbrev pub roundSet : Domain → ℕ → ℕ → ℕ
+roundSet d k set = setOf (nextSet k (length d) (neighbours d) (members (length d) set))
+
 -- a set after so many rounds
 pub record RoundsRun (d : Domain) (k count set after : ℕ) : Type 0 where
   pub below : SetBelow (length d) after

@@ -186,3 +186,7 @@ pub record LowsTo (d : Domain) (i p : ℕ) (cells low : List ℕ) : Type 0 where
   pub room : 384 ≤ length cells
   pub tree : TreeFrom d (slotsBefore i) mostPhys cells p
   pub lows : LowestPhys d (mostPhys * i + p) low
+
+-- φ is phy p of expander i, which has it
+abbrev pub PhyThere : Domain → ℕ → ℕ → Phy → Type 0
+PhyThere d i p φ = (φ ≡ phyAt d i p) × (p < length (expanderAt d i .phys))

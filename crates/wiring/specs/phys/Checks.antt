@@ -10,7 +10,7 @@ use Rattle.files.specs.declared.Setting.{Setting}
 use Rattle.wiring.specs.declared.Check.{Check}
 use Rattle.wiring.specs.declared.Check.the-variants.{Refused, Passed}
 use Rattle.files.specs.Domain.{Domain, expanderAt}
-use Rattle.wiring.specs.phys.PhyCauses.{unanswered, claimed, clashing, fixed, phyPlaces, firstIn}
+use Rattle.wiring.specs.phys.PhyCauses.{unanswered, claimed, clashing, fixed, phyPlaces, firstIn, firstOf}
 use Rattle.wiring.specs.graph.LinkCauses.{checkedDomain}
 use Rattle.wiring.specs.index.AddressIndex.{slotsBefore, IndexRoom}
 use Rattle.files.specs.File.{domainRead}
@@ -21,6 +21,14 @@ use Rattle.files.specs.Settings.{mostPhys}
 abbrev pub checkAnswer : Domain → Check → Result Domain
 checkAnswer d (Refused r) = refused r
 checkAnswer d Passed = good d
+
+-- the answer of a search through the whole domain: number k, at the lowest phy at which the test holds
+abbrev pub FirstOfAll : Domain → Check → ℕ → (Domain → ℕ → ℕ → Bool) → Type 0
+FirstOfAll d r k test = checkAnswer d r ≡ firstOf k (test d) d
+
+-- through the phys of expander i
+abbrev pub FirstOfExpander : Domain → Check → ℕ → (Domain → ℕ → ℕ → Bool) → ℕ → Type 0
+FirstOfExpander d r k test i = checkAnswer d r ≡ firstIn k (test d) (phyPlaces i 0 (length (expanderAt d i .phys))) d
 
 -- the causes that stand at one phy, by number
 unfoldable pub causeOf : ℕ → Domain → ℕ → ℕ → Bool

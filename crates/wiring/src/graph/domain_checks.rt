@@ -14,7 +14,7 @@ ghost use Rattle.files.specs.Lists.{upTo};
 ghost use Rattle.files.specs.Rows.{domainIn};
 ghost use Rattle.wiring.specs.graph.Graph.{loopfree};
 ghost use Rattle.wiring.specs.graph.Neighbours.{neighbours};
-ghost use Rattle.wiring.specs.graph.LinkCauses.{joinedIn, linkedDomain, checkedDomain};
+ghost use Rattle.wiring.specs.graph.LinkCauses.{joinedIn, linkedDomain, checkedDomain, joinedDomain};
 ghost use Rattle.wiring.specs.phys.Checks.{checkAnswer, checkedIn};
 ghost use Rattle.wiring.specs.index.AddressIndex.{IndexedFirst, Indexed, IndexLeft};
 ghost use Rattle.wiring.specs.graph.Rounds.{NeighbourWordsHeld};
@@ -33,16 +33,16 @@ fn is_loopfree(rows: &[u64], words: &[u64]) -> bool
 // Cause 12: the lowest expander without a chain to expander 0. `words` has the neighbour words.
 fn check_joined(rows: &[u64], words: &[u64]) -> Check
     requires { ⌜ NeighbourWordsHeld (domainIn (now rows)) (now words) ⌝ }
-    ensures { λ r. ⌜ checkAnswer (domainIn (now (rows .entry))) r ≡ joinedIn (upTo (length (domainIn (now (rows .entry))))) (domainIn (now (rows .entry))) ⌝ }
+    ensures { λ r. ⌜ checkAnswer (domainIn (now (rows .entry))) r ≡ joinedDomain (domainIn (now (rows .entry))) ⌝ }
 {
     let n = files::expander_count(rows);
     if n == 0 {
         return Check::Passed;
     }
-    let seen = rounds::run_rounds(rows, words, 12, n, 1);
+    let met = rounds::run_rounds(rows, words, 12, n, 1);
     let mut i: u8 = 0;
     while i < n {
-        if !rounds::has(seen, ExpanderNumber(i)) {
+        if !rounds::has(met, ExpanderNumber(i)) {
             return refusals::check_refused(12, ExpanderNumber(i), PhyId(0));
         }
         i += 1;

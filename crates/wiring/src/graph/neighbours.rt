@@ -11,7 +11,7 @@ ghost use Rattle.files.specs.Domain.{expanderAt, phyAt};
 ghost use Rattle.files.specs.Rows.{domainIn};
 ghost use Rattle.wiring.specs.graph.Neighbours.{neighbours, neighbourWord, neighbourWords, bitsIn};
 ghost use Rattle.wiring.specs.index.AddressIndex.{IndexedFirst};
-ghost use Rattle.wiring.specs.graph.CableSets.{CableSet, CableSets, Leading};
+ghost use Rattle.wiring.specs.graph.CableSets.{CableSet, CableSets, Leading, LeadingPair};
 
 // The number of the expander that phy p of expander i is attached to as a set; no number where it is attached to
 // none.
@@ -66,7 +66,7 @@ fn are_neighbours(
     i: ExpanderNumber,
     j: ExpanderNumber,
 ) -> bool
-    requires { ⌜ Leading (domainIn (now rows)) (now first) (now words) × ((i .0 < length (domainIn (now rows))) × (j .0 < length (domainIn (now rows)))) ⌝ }
+    requires { ⌜ LeadingPair (domainIn (now rows)) (now first) (now words) (i .0) (j .0) ⌝ }
     ensures { λ r. ⌜ r ≡ neighbours (domainIn (now (rows .entry))) (i .0) (j .0) ⌝ }
 {
     let a = i.0 as usize;

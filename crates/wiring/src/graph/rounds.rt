@@ -7,7 +7,7 @@ ghost use lib.ListN.{length};
 ghost use Rattle.files.specs.Lists.{upTo};
 ghost use Rattle.files.specs.Rows.{domainIn};
 ghost use Rattle.wiring.specs.graph.Neighbours.{neighbours, setOf};
-ghost use Rattle.wiring.specs.graph.Rounds.{hasBit, members, SetBelow, NeighbourWordsHeld, nextTest, nextSet, RoundsRun};
+ghost use Rattle.wiring.specs.graph.Rounds.{hasBit, members, SetBelow, NeighbourWordsHeld, nextTest, nextSet, RoundsRun, roundSet};
 
 // Whether expander j is in a set.
 pub(crate) fn has(set: u64, j: ExpanderNumber) -> bool
@@ -52,7 +52,7 @@ fn is_next(k: u8, word: u64, set: u64, v: ExpanderNumber) -> bool
 // The next set, in a round of cause k. `words` has the neighbour words.
 fn round(rows: &[u64], words: &[u64], k: u8, set: u64) -> u64
     requires { ⌜ NeighbourWordsHeld (domainIn (now rows)) (now words) × SetBelow (length (domainIn (now rows))) set ⌝ }
-    ensures { λ r. ⌜ r ≡ setOf (nextSet k (length (domainIn (now (rows .entry)))) (neighbours (domainIn (now (rows .entry)))) (members (length (domainIn (now (rows .entry)))) set)) ⌝ }
+    ensures { λ r. ⌜ r ≡ roundSet (domainIn (now (rows .entry))) k set ⌝ }
 {
     let n = files::expander_count(rows);
     let mut next: u64 = 0;

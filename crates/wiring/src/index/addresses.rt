@@ -12,7 +12,7 @@ ghost use lib.ListN.{length, getD};
 ghost use Rattle.files.specs.Domain.{expanderAt, phyAt, numberOf};
 ghost use Rattle.files.specs.Rows.{domainIn};
 ghost use Rattle.wiring.specs.index.SearchTree.{keyIn, WalkTo};
-ghost use Rattle.wiring.specs.index.AddressIndex.{slotsBefore, slotOf, slotWord, addressFrom, attachedExpander, lowestPhy, tells, attachedAt, EntriesKeptBut, IndexRoom, IndexPut, mostSlots};
+ghost use Rattle.wiring.specs.index.AddressIndex.{slotsBefore, slotOf, slotWord, addressFrom, attachedExpander, lowestPhy, tells, attachedAt, EntriesKeptBut, IndexRoom, IndexPut, mostSlots, PhyThere};
 ghost use Rattle.wiring.specs.index.AddressIndex.{Searchable, Addable, AddedTo, FirstsTo, LowsBefore, LowsTo};
 
 // How many roots the search tree of few expanders has.
@@ -91,7 +91,7 @@ fn add(rows: &[u64], from: usize, cells: &mut [u16], size: usize, t: usize, s: u
 // Adds f, phy p of expander i, to the tree of the expander's attached phys, and writes the lowest of them with
 // its address. Nothing is done where nothing is attached.
 fn add_low(rows: &[u64], cells: &mut [u16], i: ExpanderNumber, p: PhyId, f: Phy, low: &mut [u8])
-    requires { ⌜ LowsTo (domainIn (now rows)) (i .0) (p .0) (now cells) (now low) × ((f ≡ phyAt (domainIn (now rows)) (i .0) (p .0)) × (p .0 < length (expanderAt (domainIn (now rows)) (i .0) .phys))) ⌝ }
+    requires { ⌜ LowsTo (domainIn (now rows)) (i .0) (p .0) (now cells) (now low) × PhyThere (domainIn (now rows)) (i .0) (p .0) f ⌝ }
     ensures { λ _. ⌜ LowsTo (domainIn (now (rows .entry))) (i .0) (p .0 + 1) (now (cells .exit)) (now (low .exit)) × EntriesKeptBut (attachedAt (domainIn (now (rows .entry)))) (now (low .entry)) (now (low .exit)) ⌝ }
 {
     if files::phy_type(f) == 0 {
@@ -155,7 +155,7 @@ fn add_first(
     f: Phy,
     first: &mut [u16],
 )
-    requires { ⌜ FirstsTo (domainIn (now rows)) (slotOf (i .0) (p .0)) size (now cells) (now first) × ((f ≡ phyAt (domainIn (now rows)) (i .0) (p .0)) × (p .0 < length (expanderAt (domainIn (now rows)) (i .0) .phys))) ⌝ }
+    requires { ⌜ FirstsTo (domainIn (now rows)) (slotOf (i .0) (p .0)) size (now cells) (now first) × PhyThere (domainIn (now rows)) (i .0) (p .0) f ⌝ }
     ensures { λ _. ⌜ FirstsTo (domainIn (now (rows .entry))) (slotOf (i .0) (p .0 + 1)) size (now (cells .exit)) (now (first .exit)) × EntriesKeptBut (tells (domainIn (now (rows .entry)))) (now (first .entry)) (now (first .exit)) ⌝ }
 {
     let device_type = files::phy_type(f);

@@ -13,7 +13,7 @@ ghost use Rattle.files.specs.Domain.{expanderAt};
 ghost use Rattle.wiring.specs.index.AddressIndex.{IndexedFirst, Indexed};
 ghost use Rattle.files.specs.Rows.{domainIn};
 ghost use Rattle.wiring.specs.phys.PhyCauses.{names, unanswered, claimed, fixed, firstOf, wiredDomain};
-ghost use Rattle.wiring.specs.phys.Checks.{checkAnswer, causeOf, firstAt, Testable};
+ghost use Rattle.wiring.specs.phys.Checks.{checkAnswer, causeOf, firstAt, Testable, FirstOfAll};
 
 // Whether f names phy p of the expander with this address.
 fn is_naming(s: u64, p: PhyId, f: Phy) -> bool
@@ -107,7 +107,7 @@ fn first_phy(rows: &[u64], first: &[u16], low: &[u8], k: u8, i: ExpanderNumber) 
 // The lowest phy, by expander and then phy, at which cause k holds: 7 to 10.
 pub(crate) fn first_of(rows: &[u64], first: &[u16], low: &[u8], k: u8) -> Check
     requires { ⌜ Indexed (domainIn (now rows)) (now first) (now low) ⌝ }
-    ensures { λ r. ⌜ checkAnswer (domainIn (now (rows .entry))) r ≡ firstOf k (causeOf k (domainIn (now (rows .entry)))) (domainIn (now (rows .entry))) ⌝ }
+    ensures { λ r. ⌜ FirstOfAll (domainIn (now (rows .entry))) r k (causeOf k) ⌝ }
 {
     let n = files::expander_count(rows);
     let mut i: u8 = 0;

@@ -25,19 +25,19 @@ returns : tie.Need-returns
 returns c =
     let a = c .before .before .before .before .before .before .before .args in
     let t = sym (c .before .before .before .before .before .test-unit .ensures) ∙ ap expanderAnswer (c .before .before .before .enum-told .given .1) in
-    λ k. ap refused (c .refusal-at .ensures) ∙ six-refused (a .i .0) (a .u .phys) (a .ranged) (c .before .if1 .taken) k ∙ unit-passed (unitTested (a .most) (a .seen .now) (a .i .0) (a .u)) 0 _ _ t _
+    λ k. ap refused (c .refusal-at .ensures) ∙ six-refused (a .i .0) (a .u .phys) (a .ranged) (c .before .if1 .taken) k ∙ unit-passed (unitTested (a .most) (a .used .now) (a .i .0) (a .u)) 0 _ _ t _
 
 returns-2 : tie.Need-returns-2
 returns-2 c =
     let a = c .before .before .before .before .before .args in
     let t = sym (c .before .before .before .test-unit .ensures) ∙ ap expanderAnswer (c .before .test .given .1) in
-    λ k. unit-refused (unitTested (a .most) (a .seen .now) (a .i .0) (a .u)) 0 _ t (unless (leb (a .u .phys) (a .ranged)) (refusal 6 (a .i .0) (a .ranged)) k)
+    λ k. unit-refused (unitTested (a .most) (a .used .now) (a .i .0) (a .u)) 0 _ t (unless (leb (a .u .phys) (a .ranged)) (refusal 6 (a .i .0) (a .ranged)) k)
 
 returns-3 : tie.Need-returns-3
 returns-3 c =
     let a = c .before .before .before .before .before .before .args in
     let t = sym (c .before .before .before .before .test-unit .ensures) ∙ ap expanderAnswer (c .before .before .enum-told .given .1) in
-    λ k. six-passed (a .i .0) (a .u .phys) (a .ranged) (c .if1 .left) k ∙ unit-passed (unitTested (a .most) (a .seen .now) (a .i .0) (a .u)) 0 _ _ t _
+    λ k. six-passed (a .i .0) (a .u .phys) (a .ranged) (c .if1 .left) k ∙ unit-passed (unitTested (a .most) (a .used .now) (a .i .0) (a .u)) 0 _ _ t _
 
 pub check-unit-spec : {M : Type 1} → statement M
 check-unit-spec = tie.close (tie.spec test-unit-requires enum-known-test enum-told refusal-at-requires returns returns-2 returns-3)

@@ -14,12 +14,12 @@ use Rattle.cards.proofs.card_rows.walk_card.Statement.{statement}
 use Rattle.cards.proofs.card_rows.walk_card.Tie as tie
 
 abbrev Inv-loop : tie.InvT-loop
-Inv-loop rows₀ most card n seen₀ at₀ fine₀ check₀ i₀ rows seen at fine check i =
-    (((i ≤ n) × (length seen ≡ 64)) × ((length rows ≡ length rows₀) × (at ≤ 16 + 10072 * i)))
-    × Walking most rows₀ (domainOn (bitsOf card)) i at rows seen fine check (expandersOn (n - i) (drop at (bitsOf card)))
+Inv-loop rows₀ most card n used₀ at₀ fine₀ check₀ i₀ rows used at fine check i =
+    (((i ≤ n) × (length used ≡ 64)) × ((length rows ≡ length rows₀) × (at ≤ 16 + 10072 * i)))
+    × Walking most rows₀ (domainOn (bitsOf card)) i at rows used fine check (expandersOn (n - i) (drop at (bitsOf card)))
 
 abbrev μ-loop : tie.MeasureT-loop
-μ-loop rows₀ most card n seen₀ at₀ fine₀ check₀ i₀ rows seen at fine check i = n - i
+μ-loop rows₀ most card n used₀ at₀ fine₀ check₀ i₀ rows used at fine check i = n - i
 
 loop-holds : tie.Need-loop-holds Inv-loop μ-loop
 loop-holds c =
@@ -53,11 +53,11 @@ part-put-row-end c = omega arith
 put-row-requires : tie.Need-put-row-requires Inv-loop μ-loop
 put-row-requires c κs = ((omega arith, simp (length-take, length-drop) (omega arith)), c .before .unit-from .ensures)
 
-array-share-prefix-seen : tie.Need-array-share-prefix-seen Inv-loop μ-loop
-array-share-prefix-seen c = omega arith
+array-share-prefix-used : tie.Need-array-share-prefix-used Inv-loop μ-loop
+array-share-prefix-used c = omega arith
 
 slice-aggregate-check-unit : tie.Need-slice-aggregate-check-unit Inv-loop μ-loop
-slice-aggregate-check-unit c = let l = c .before .before .before .before .before .before .before .loop in sym (length-take-le (l .i) (l .seen) (omega arith))
+slice-aggregate-check-unit c = let l = c .before .before .before .before .before .before .before .loop in sym (length-take-le (l .i) (l .used) (omega arith))
 
 check-unit-requires : tie.Need-check-unit-requires Inv-loop μ-loop
 check-unit-requires c κs = search needs
@@ -65,11 +65,11 @@ check-unit-requires c κs = search needs
 first-requires : tie.Need-first-requires Inv-loop μ-loop
 first-requires c κs = search needs
 
-mul-seen : tie.Need-mul-seen Inv-loop μ-loop
-mul-seen c = omega arith
+mul-used : tie.Need-mul-used Inv-loop μ-loop
+mul-used c = omega arith
 
-array-write-seen : tie.Need-array-write-seen Inv-loop μ-loop
-array-write-seen c = omega arith
+array-write-used : tie.Need-array-write-used Inv-loop μ-loop
+array-write-used c = omega arith
 
 add-i : tie.Need-add-i Inv-loop μ-loop
 add-i c = omega arith
@@ -84,7 +84,7 @@ loop-again c =
     let l = c .before .before .before .before .before .before .before .before .before .before .loop in
     let a = c .before .before .before .before .before .before .before .before .before .before .before .before .before .args in
     let r = c .before .before .before .before .before .before .put-row in
-    let w = walk-goes (a .most) (bitsOf (a .card .now)) (a .rows .now) (domainOn (bitsOf (a .card .now))) (a .n) (l .i) (l .at) (l .rows) (l .seen) (l .fine) (l .check) (l .inv .1)
+    let w = walk-goes (a .most) (bitsOf (a .card .now)) (a .rows .now) (domainOn (bitsOf (a .card .now))) (a .n) (l .i) (l .at) (l .rows) (l .used) (l .fine) (l .check) (l .inv .1)
     (bits-bitsOf (a .card .now)) (at-unit-from .result) (r .result) (r .last .0) (258 * l .i) (258 * l .i + 258 - 258 * l .i) (c .before .before .check-unit .result) (c .before .first .result) (omega arith) (r .ensures) (at-unit-from .ensures .0)
     (c .before .before .check-unit .ensures) (c .before .first .ensures) (omega (arith, at-pre .0 .1, l .inv .0 .0 .1)) refl (omega arith) (omega (arith, at-pre .1, l .inv .0 .1 .0)) in (
       (
@@ -101,8 +101,8 @@ returns : tie.Need-returns Inv-loop μ-loop
 returns c =
     let l = c .before .loop in
     let a = c .before .before .before .before .args in
-    walk-ends (a .most) (bitsOf (a .card .now)) (a .rows .now) (domainOn (bitsOf (a .card .now))) (a .n) (l .i) (l .at) (l .rows) (l .seen) (l .fine) (l .check) (l .inv .1) (c .loop-test .left) (omega arith)
+    walk-ends (a .most) (bitsOf (a .card .now)) (a .rows .now) (domainOn (bitsOf (a .card .now))) (a .n) (l .i) (l .at) (l .rows) (l .used) (l .fine) (l .check) (l .inv .1) (c .loop-test .left) (omega arith)
 
 pub walk-card-spec : {M : Type 1} → statement M
 walk-card-spec =
-    tie.close (tie.spec Inv-loop μ-loop loop-holds cast-k mul-a add-e unit-from-requires mul-put-row sub-put-row part-put-row-start part-put-row-end put-row-requires array-share-prefix-seen slice-aggregate-check-unit check-unit-requires first-requires mul-seen array-write-seen add-i loop-less loop-again same-length returns)
+    tie.close (tie.spec Inv-loop μ-loop loop-holds cast-k mul-a add-e unit-from-requires mul-put-row sub-put-row part-put-row-start part-put-row-end put-row-requires array-share-prefix-used slice-aggregate-check-unit check-unit-requires first-requires mul-used array-write-used add-i loop-less loop-again same-length returns)

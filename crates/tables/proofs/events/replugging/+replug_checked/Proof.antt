@@ -48,7 +48,8 @@ module _ (t : ℕ) where
   returns c =
       let at-args = c .before .before .before .before .before .before .before .before .before .before .before .before .before .before .before .before .before .args in
       let at-if1 = c .before .before .before .before .before .before .before .before .before .before .if1 in
-      run-past (at-args .rows .now) (at-args .e .0) (at-args .p .0) (at-args .a) _ _ _ _ (omega (arith, at-if1 .taken)) ((c .before .before .before .before .before .before .replug-checked) .ensures)
+      let at-replug-checked = c .before .before .before .before .before .before .replug-checked in
+      run-past (at-args .rows .now) (at-args .e .0) (at-args .p .0) (at-args .a) _ _ _ _ (omega (arith, at-if1 .taken)) (at-replug-checked .ensures)
 
   expander-count-requires : replug-checked-lts.Need-expander-count-requires (claims t) (replug-checked-at t) replug-checked.Post
   expander-count-requires c κs = search needs

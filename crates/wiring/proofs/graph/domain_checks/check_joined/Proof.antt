@@ -16,12 +16,12 @@ use Rattle.wiring.proofs.graph.domain_checks.check_joined.Statement.{st
 use Rattle.wiring.proofs.graph.domain_checks.check_joined.Tie as tie
 
 abbrev Inv-loop : tie.InvT-loop
-Inv-loop rows words n seen i₀ i =
-    (i ≤ n) × ((n ≤ 64) × ((n ≡ length (domainIn rows)) × (RoundsRun (domainIn rows) 12 (length (domainIn rows)) 1 seen
+Inv-loop rows words n met i₀ i =
+    (i ≤ n) × ((n ≤ 64) × ((n ≡ length (domainIn rows)) × (RoundsRun (domainIn rows) 12 (length (domainIn rows)) 1 met
     × (joinedIn (numbers i (n - i)) (domainIn rows) ≡ joinedIn (upTo (length (domainIn rows))) (domainIn rows)))))
 
 abbrev μ-loop : tie.MeasureT-loop
-μ-loop rows words n seen i₀ i = n - i
+μ-loop rows words n met i₀ i = n - i
 
 expander-count-requires : tie.Need-expander-count-requires Inv-loop μ-loop
 expander-count-requires c κs = search needs
