@@ -26,6 +26,4 @@ returns-3 : tie.Need-returns-3
 returns-3 c = let a = (c .before .before .args) in rw (not-false (a .free) ((c .before .if1) .left), le-leb (a .n + a .m) (a .most) (omega (arith, (c .if2) .left))) refl
 
 pub count-both-spec : {M : Type 1} → statement M
-count-both-spec =
-    tie.close
-    (tie.spec files-refused-requires returns add-if2 files-refused-requires-2 returns-2 returns-3)
+count-both-spec = tie.close (tie.spec files-refused-requires returns add-if2 files-refused-requires-2 returns-2 returns-3)

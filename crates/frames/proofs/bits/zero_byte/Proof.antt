@@ -49,17 +49,4 @@ returns : tie.Need-returns Inv-loop μ-loop
 returns c = let l = c .before .loop in let e : l .k ≡ 8 = omega arith in rw e at (l .inv .1 .0)
 
 pub zero-byte-spec : {M : Type 1} → statement M
-zero-byte-spec =
-    tie.close
-    (tie.spec
-    Inv-loop
-    μ-loop
-    loop-holds
-    mul-x
-    add-zero-bit
-    zero-bit-requires
-    add-x
-    add-k
-    loop-less
-    loop-again
-    returns)
+zero-byte-spec = tie.close (tie.spec Inv-loop μ-loop loop-holds mul-x add-zero-bit zero-bit-requires add-x add-k loop-less loop-again returns)

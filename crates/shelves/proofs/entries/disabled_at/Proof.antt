@@ -47,6 +47,4 @@ returns-3 c =
     simp (eq-eqb (shelfResult (a .t1) (a .phy .0) (a .index .0)) 0x00 e, ne-eqb (getD (a .t1 .disabled) (place (a .phy .0) (a .index .0)) 0) 0 (λ z. c .if2 .left (p ∙ z)))
 
 pub disabled-at-spec : {M : Type 1} → statement M
-disabled-at-spec =
-    tie.close
-    (tie.spec result-of-requires returns place-of-requires element-copy-out-if2 returns-2 returns-3)
+disabled-at-spec = tie.close (tie.spec result-of-requires returns place-of-requires element-copy-out-if2 returns-2 returns-3)

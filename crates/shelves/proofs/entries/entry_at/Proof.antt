@@ -40,6 +40,4 @@ returns-2 c =
     simp (eq-eqb (shelfResult (a .t1) (a .phy .0) (a .index .0)) 0x00 (sym (c .before .before .before .result-of .ensures) ∙ c .before .before .if1 .left)) (ap (λ (at : ℕ). getD (a .t1 .entries) at 0) (c .before .place-of .ensures))
 
 pub entry-at-spec : {M : Type 1} → statement M
-entry-at-spec =
-    tie.close
-    (tie.spec result-of-requires returns place-of-requires mul-result element-copy-out-result returns-2)
+entry-at-spec = tie.close (tie.spec result-of-requires returns place-of-requires mul-result element-copy-out-result returns-2)

@@ -41,6 +41,4 @@ returns-2 c =
     ∙ (ap (λ (n : ℕ). steppedTo (loaded (a .shelf) (a .q)) (Answered n)) r ∙ sym (after-good (a .shelf) (a .q) (sym r ∙ c .before .before .if1 .left))))
 
 pub load-spec : {M : Type 1} → statement M
-load-spec =
-    tie.close
-    (tie.spec result-of-requires stepped-to-requires returns replace-requires stepped-to-requires-2 returns-2)
+load-spec = tie.close (tie.spec result-of-requires stepped-to-requires returns replace-requires stepped-to-requires-2 returns-2)

@@ -38,6 +38,4 @@ returns c =
     ap₂ with (c .before .place-of .ensures) (c .bit-of .ensures)
 
 pub replace-spec : {M : Type 1} → statement M
-replace-spec =
-    tie.close
-    (tie.spec place-of-requires bit-of-requires mul-next element-write-next element-write-next-2 returns)
+replace-spec = tie.close (tie.spec place-of-requires bit-of-requires mul-next element-write-next element-write-next-2 returns)

@@ -53,6 +53,4 @@ returns-5 c =
     simp (lt-leb (min 16 (a .phys)) (a .phy .0) (omega arith), eq-eqb (kindIn (a .t3) (a .phy .0)) 1 (c .before .if3 .left), ne-eqb (kindIn (a .t3) (a .phy .0)) 0 (c .before .before .if2 .left), lt-ltb (a .index .0) (min 64 (a .routeIndexes)) (omega arith))
 
 pub result-of-spec : {M : Type 1} → statement M
-result-of-spec =
-    tie.close
-    (tie.spec cast-p cast-k at-most-requires at-most-requires-2 returns cast-kind array-read-kind returns-2 returns-3 returns-4 returns-5)
+result-of-spec = tie.close (tie.spec cast-p cast-k at-most-requires at-most-requires-2 returns cast-kind array-read-kind returns-2 returns-3 returns-4 returns-5)

@@ -35,6 +35,4 @@ returns-2 c =
     c .load .ensures ∙ sym (ap (afterRead (at-args .shelf)) e)
 
 pub step-spec : {M : Type 1} → statement M
-step-spec =
-    tie.close
-    (tie.spec read-route-requires enum-known-read stepped-to-requires enum-known-read-2 load-requires returns returns-2)
+step-spec = tie.close (tie.spec read-route-requires enum-known-read stepped-to-requires enum-known-read-2 load-requires returns returns-2)

@@ -39,6 +39,4 @@ returns : tie.Need-returns Inv-loop μ-loop
 returns c = let l = c .before .loop in padded-end (c .before .before .args .kinds .now) _ (l .i) (omega arith) (l .inv .1)
 
 pub all-kinds-spec : {M : Type 1} → statement M
-all-kinds-spec =
-    tie.close
-    (tie.spec Inv-loop μ-loop loop-holds shared-slice-read-all array-write-all add-i loop-less loop-again returns)
+all-kinds-spec = tie.close (tie.spec Inv-loop μ-loop loop-holds shared-slice-read-all array-write-all add-i loop-less loop-again returns)

@@ -36,6 +36,4 @@ returns-2 : tie.Need-returns-2 Inv-loop μ-loop
 returns-2 c = let l = c .before .loop in sym (kinds-end (c .before .before .args .kinds .now) (l .i) (omega arith)) ∙ l .inv .1
 
 pub are-kinds-spec : {M : Type 1} → statement M
-are-kinds-spec =
-    tie.close
-    (tie.spec Inv-loop μ-loop loop-holds shared-slice-read-if1 returns add-i loop-less loop-again returns-2)
+are-kinds-spec = tie.close (tie.spec Inv-loop μ-loop loop-holds shared-slice-read-if1 returns add-i loop-less loop-again returns-2)

@@ -44,6 +44,4 @@ returns-2 c =
     c .stepped-to2 .ensures ∙ (ap (λ (s : Shelf). steppedTo s (Answered 0x00)) (c .before .fresh-shelf .ensures) ∙ sym (made-fresh (a .shelf) (a .phys) (a .routeIndexes) (a .kinds .now) e))
 
 pub make-spec : {M : Type 1} → statement M
-make-spec =
-    tie.close
-    (tie.spec is-told-requires refused-requires stepped-to-requires returns fresh-shelf-requires stepped-to-requires-2 returns-2)
+make-spec = tie.close (tie.spec is-told-requires refused-requires stepped-to-requires returns fresh-shelf-requires stepped-to-requires-2 returns-2)

@@ -25,12 +25,4 @@ returns-2 : tie.Need-returns-2
 returns-2 c = ((c .pack-end)) .ensures ∙ sym (ap (λ a. packed endPacked (traceAnswer a)) (((c .before .before .answer2)) .given .1))
 
 pub pack-trace-spec : {M : Type 1} → statement M
-pack-trace-spec =
-    tie.close
-    (tie.spec
-    enum-known-answer
-    pack-refusal-requires
-    enum-known-answer-2
-    pack-end-requires
-    returns
-    returns-2)
+pack-trace-spec = tie.close (tie.spec enum-known-answer pack-refusal-requires enum-known-answer-2 pack-end-requires returns returns-2)

@@ -71,24 +71,4 @@ returns c =
     let l = ((c .before .loop)) in answers-end _ _ _ (l .k) (l .answers) _ (l .inv .1 .1 .1) (omega arith) ((at-pre) .1)
 
 pub answer-all-spec : {M : Type 1} → statement M
-answer-all-spec =
-    tie.close
-    (tie.spec
-    Inv-loop
-    μ-loop
-    loop-holds
-    mul-answer-one
-    mul-answer-one-2
-    shared-slice-read-answer-one
-    mul-answer-one-3
-    add-answer-one
-    mul-answer-one-4
-    shared-slice-read-answer-one-2
-    answer-one-requires
-    mul-answers
-    slice-write-answers
-    add-k
-    loop-less
-    loop-again
-    same-length
-    returns)
+answer-all-spec = tie.close (tie.spec Inv-loop μ-loop loop-holds mul-answer-one mul-answer-one-2 shared-slice-read-answer-one mul-answer-one-3 add-answer-one mul-answer-one-4 shared-slice-read-answer-one-2 answer-one-requires mul-answers slice-write-answers add-k loop-less loop-again same-length returns)

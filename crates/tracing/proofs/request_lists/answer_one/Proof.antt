@@ -47,15 +47,4 @@ returns-2 c =
     one-low (domainIn ((at-args) .rows .now)) (entries ((at-args) .words .now) ((at-args) .bits .now)) ((at-args) .w) ((at-args) .s) _ _ _ _ _ (omega arith) (length-replicate {A = ℕ} 64 0) (((c .pack-trace)) .ensures) (((c .before .before .trace-lent)) .ensures)
 
 pub answer-one-spec : {M : Type 1} → statement M
-answer-one-spec =
-    tie.close
-    (tie.spec
-    refused-requires
-    pack-refusal-requires
-    returns
-    cast-t14
-    cast-t14-2
-    slice-aggregate-trace-lent
-    trace-lent-requires
-    pack-trace-requires
-    returns-2)
+answer-one-spec = tie.close (tie.spec refused-requires pack-refusal-requires returns cast-t14 cast-t14-2 slice-aggregate-trace-lent trace-lent-requires pack-trace-requires returns-2)
