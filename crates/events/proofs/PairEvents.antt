@@ -25,7 +25,8 @@ use Rattle.tables.specs.levels.Levels.{eachOnce, downstreamOfPhys, downstream, 
 use Rattle.tables.specs.filling.Tables.{addressAt, gives, give, giveAll, levelList, table, tablePlaces, size, sizes}
 use Rattle.tables.specs.filling.Entries.{Entries, entries, Room, roomOf}
 use Rattle.tables.specs.JudgingCall.{overlong, judgedDomain}
-use Rattle.tables.specs.events.TouchedTables.{touched, renewed, refilled, changed, moved}
+use Rattle.tables.specs.events.TouchedTables.{touched, renewed, refilled, moved}
+use Rattle.tables.specs.filling.WordsChanged.{changed}
 use Rattle.events.specs.declared.Event.{Event}
 use Rattle.events.specs.Events.{edited}
 use Rattle.events.specs.EventFile.{frameEdited, fileEdited}

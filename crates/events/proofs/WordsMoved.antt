@@ -26,7 +26,8 @@ use Rattle.tables.proofs.lists.LevelListLaw.{levels-empty}
 use Rattle.tables.proofs.filling.TableLengths.{table-length, tables-length as all-words}
 use Rattle.tables.proofs.filling.TableStretches.{stretch-is}
 use Rattle.tables.proofs.AcceptedDomains.{judged-wires}
-use Rattle.tables.specs.events.TouchedTables.{touched, tableAt, renewed, refilled, changed, Moved, moved}
+use Rattle.tables.specs.events.TouchedTables.{touched, tableAt, renewed, refilled, Moved, moved}
+use Rattle.tables.specs.filling.WordsChanged.{changed}
 use Rattle.tables.specs.events.ReplugCall.{pluggable, replug}
 use Rattle.events.specs.declared.Event.{Event}
 use Rattle.events.specs.declared.EventAnswer.the-variants.{Counts}

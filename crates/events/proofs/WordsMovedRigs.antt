@@ -14,7 +14,8 @@ use Rattle.tables.specs.levels.Levels.{eachOnce, downstreamOfPhys, downstream, 
 use Rattle.tables.specs.filling.Tables.{addressAt, gives, give, giveAll, levelList, table, tablePlaces, tables, size}
 use Rattle.tables.specs.filling.Entries.{Entries, entries}
 use Rattle.tables.specs.JudgingCall.{overlong, judgedDomain}
-use Rattle.tables.specs.events.TouchedTables.{touched, renewed, refilled, changed, moved}
+use Rattle.tables.specs.events.TouchedTables.{touched, renewed, refilled, moved}
+use Rattle.tables.specs.filling.WordsChanged.{changed}
 use Rattle.events.specs.declared.Event.{Event}
 use Rattle.events.specs.Events.{edited}
 use Rattle.events.specs.WordsMoved.{tableLinks}

@@ -2,7 +2,6 @@
 pub mod RetestLoops
 pub mod LevelsAfterEvent
 pub mod ReplugOutcomes
-pub mod WordsChanged
 pub mod BitsReplaced
 pub mod NumbersRenewed
 pub mod TablesRewritten

@@ -2,6 +2,7 @@
 pub mod TableLengths
 pub mod TableStretches
 pub mod CountedWords
+pub mod WordsChanged
 pub mod FilledTable
 pub mod TablesPut
 pub mod WordPlaces

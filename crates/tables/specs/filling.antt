@@ -2,3 +2,4 @@
 pub mod Tables
 pub mod Entries
 pub mod WordEntries
+pub mod WordsChanged

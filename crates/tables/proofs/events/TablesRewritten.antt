@@ -22,9 +22,10 @@ use Rattle.files.proofs.ListMembers.{by-test, is-false, was-true, and-left, and
 use Rattle.tables.specs.levels.Levels.{down}
 use Rattle.tables.specs.filling.Tables.{tablePlaces, size, sizes, needed}
 use Rattle.tables.specs.filling.Entries.{Entries, entries, roomOf, Room}
+use Rattle.tables.specs.filling.WordsChanged.{changed}
 use Rattle.tables.specs.lists.GrowingLists.{overlay, placesAt}
 use Rattle.tables.specs.lists.PreparedLists.{orderOf, ownWordsOfOrder, filledTo}
-use Rattle.tables.specs.events.TouchedTables.{changed, Moved, movedBy}
+use Rattle.tables.specs.events.TouchedTables.{Moved, movedBy}
 use Rattle.tables.specs.events.ReplugCall.{ownTouched, ownTableAt, ownRefilled, replugAnswer}
 use Rattle.tables.specs.events.TablesRewritten.{renewedAt, tableLink, Passed, TallyBounds, Rewritten}
 use Rattle.tables.specs.declared.Replugged.the-variants.{Counts}
@@ -32,7 +33,7 @@ use Rattle.tables.specs.declared.events.refilling.Tally.{Tally}
 use Rattle.tables.proofs.filling.FilledTable.{length-filled}
 use Rattle.tables.proofs.levels.LevelOrders.{order-none}
 use Rattle.tables.proofs.filling.TablesPut.{sizes-append}
-use Rattle.tables.proofs.events.WordsChanged.{changed-self, changed-part, changed-then}
+use Rattle.tables.proofs.filling.WordsChanged.{changed-self, changed-part, changed-then}
 use Rattle.tables.proofs.events.BitsReplaced.{sets-overlay}
 use Rattle.tables.proofs.events.NumbersRenewed.{renewedAt-after, renewedAt-before, renewedAt-then, renewedAt-none, renewedAt-new, renewedAt-old, renewedAt-all, keep-keep}
 
@@ -57,12 +58,12 @@ module _ (ws : List ℕ) (at to : ℕ) (h : at ≤ to) (i : to ≤ length ws) (r
       let n : length s ≡ to - at = length-filled (to - at) l in
       ap₂ (λ (x y : List ℕ). take at ws ++ (x ++ y)) new-is (drop-drop (to - at) at ws ∙ ap (λ (m : ℕ). drop (at + m) ws) (sym n))
 
-  pub renew-changed : changed (take (to - at) (drop at ws)) (filledTo (length (take (to - at) (drop at ws))) l) ≡ changed ws after
+  pub renew-changed : changed (take (to - at) (drop at ws)) r ≡ changed ws after
   renew-changed =
       let p : List ℕ = take (to - at) (drop at ws) in
       let s : List ℕ = drop (to - at) (drop at ws) in
       let w : take at ws ++ (p ++ s) ≡ ws = ap (λ (x : List ℕ). take at ws ++ x) (take-append-drop (to - at) (drop at ws)) ∙ take-append-drop at ws in
-      ap (changed p) (sym q) ∙ sym (changed-part (take at ws) p r s (part-length ∙ sym new-length)) ∙ ap (λ (x : List ℕ). changed x after) w
+      sym (changed-part (take at ws) p r s (part-length ∙ sym new-length)) ∙ ap (λ (x : List ℕ). changed x after) w
 
   pub renew-bits : (bits bits′ : List ℕ) → bitsOf bits′ ≡ sets (bitsOf bits) at (zeroBits (take (to - at) (drop at after))) → to ≤ 8 * length bits
       → bitsOf bits′ ≡ overlay (bitsOf bits) at (zeroBits (filledTo (to - at) l))

@@ -12,7 +12,8 @@ use Rattle.files.specs.Domain.{Domain, isTable, toExpander, phyAt}
 use Rattle.wiring.specs.phys.PhyCauses.{Place, place}
 use Rattle.tables.specs.filling.Tables.{size, sizes, needed}
 use Rattle.tables.specs.filling.Entries.{Entries, roomOf, Room, Enough}
-use Rattle.tables.specs.events.TouchedTables.{renewed, changed, movedBy}
+use Rattle.tables.specs.filling.WordsChanged.{changed}
+use Rattle.tables.specs.events.TouchedTables.{renewed, movedBy}
 use Rattle.tables.specs.events.ReplugCall.{ownTouched, ownTableAt, ownRefilled, replugAnswer}
 use Rattle.tables.specs.declared.events.refilling.Tally.{Tally}
 use Rattle.tables.specs.lists.GrowingLists.{placesAt}

@@ -1,9 +1,8 @@
 -- Some tables written afresh: those with one expander in one of their levels. The others stay as lent.
-use Prim.Native.Nat.{ℕ, _+_}
+use Prim.Native.Nat.{ℕ}
 use mathlib.Core.Bool.{Bool, cond}
 use mathlib.Core.List.{List, [], _∷_, _++_}
 use lib.ListN.{length, take, drop}
-use lib.Dec.{eqb}
 use Rattle.wiring.specs.FrameDefinitions.{bitsOf, packedIn, zeroBits}
 use Rattle.files.specs.Lists.{keep, isIn}
 use Rattle.files.specs.Domain.{Domain}
@@ -11,6 +10,7 @@ use Rattle.wiring.specs.phys.PhyCauses.{Place}
 use Rattle.tables.specs.levels.Levels.{levels}
 use Rattle.tables.specs.filling.Tables.{table, tablePlaces, size}
 use Rattle.tables.specs.filling.Entries.{Entries, entries}
+use Rattle.tables.specs.filling.WordsChanged.{changed}
 
 -- "touched": expander e is in one of the levels of the phy at this place
 unfoldable pub touched : Domain → ℕ → Place → Bool
@@ -35,12 +35,6 @@ refilledBy d test new before =
 -- those with expander e in one of their levels
 abbrev pub refilled : Domain → ℕ → Entries → Entries
 refilled d e before = refilledBy d (touched d e) (tableAt d) before
-
--- words changed: the number of places at which two lists of words differ
-unfoldable pub changed : List ℕ → List ℕ → ℕ
-changed [] ws = 0
-changed (v ∷ vs) [] = 0
-changed (v ∷ vs) (w ∷ ws) = cond (eqb v w) 0 1 + changed vs ws
 
 -- how many tables are touched, and how many words changed
 pub record Moved : Type 0 where

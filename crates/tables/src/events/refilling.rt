@@ -1,31 +1,27 @@
-// The tables with an expander in their order, written afresh among words and bits that hold tables already. The words that
-// change are counted before they are written.
+// The tables with an expander in their order, written afresh among words and bits that hold tables already.
 use crate::Replugged;
 use crate::filling::table_filling;
 use crate::filling::word_places;
 use crate::levels::downstream;
 use crate::levels::order;
-use crate::lists::own_lists;
 use wiring::ExpanderNumber;
 use wiring::Phy;
 use wiring::PhyId;
 ghost use mathlib.Core.Path.{_≡_};
-ghost use mathlib.Core.Bool.{cond};
-ghost use mathlib.Core.List.{[], _∷_, flatMap};
+ghost use mathlib.Core.List.{[], _∷_};
 ghost use Prim.Native.Nat.{_+_, _-_, _*_, _%_, _^_, _≤_, _<_};
-ghost use lib.ListN.{length, set, replicate};
+ghost use lib.ListN.{length, set};
 ghost use lib.Seq.{sets};
-ghost use lib.Dec.{eqb};
 ghost use Rattle.wiring.specs.FrameDefinitions.{bitsOf, zeroBit, zeroBits, good};
 ghost use Rattle.files.specs.Domain.{phyAt};
 ghost use Rattle.wiring.specs.phys.PhyCauses.{place};
 ghost use Rattle.files.specs.Rows.{domainIn};
 ghost use Rattle.tables.specs.filling.Entries.{entries, roomOf, Enough};
 ghost use Rattle.tables.specs.filling.Tables.{size, sizes, needed};
-ghost use Rattle.tables.specs.lists.OwnLists.{ownWords};
 ghost use Rattle.tables.specs.lists.GrowingLists.{placesAt, overlay};
 ghost use Rattle.tables.specs.lists.PreparedLists.{AttachedExpandersKnown, OwnListsHeld, DownstreamListsHeld, orderOf, ownWordsOfOrder, filledTo, Fillable, FilledFrom, mostDownstream};
-ghost use Rattle.tables.specs.events.TouchedTables.{changed, movedBy};
+ghost use Rattle.tables.specs.events.TouchedTables.{movedBy};
+ghost use Rattle.tables.specs.filling.WordsChanged.{changed};
 ghost use Rattle.tables.specs.events.ReplugCall.{ownTouched, ownRefilled, replugAnswer};
 ghost use Rattle.tables.specs.events.TablesRewritten.{tableLink, Passed, TallyBounds, Rewritten, RefillReady, RefillsReady, RefillAllReady, RefilledAll};
 
@@ -34,75 +30,6 @@ struct Tally {
     at: usize,
     tables: usize,
     words: usize,
-}
-
-// 1 where two words differ, else 0.
-fn differ(v: u64, w: u64) -> usize
-    ensures { λ r. ⌜ (r ≡ cond (eqb v w) 0 1) × (r ≤ 1) ⌝ }
-{
-    if v == w {
-        return 0;
-    }
-    1
-}
-
-// At how many places the new words differ from the first words of `part`.
-fn count_changed(part: &[u64], new: &[u64]) -> usize
-    requires { ⌜ length (now new) ≤ length (now part) ⌝ }
-    ensures { λ r. ⌜ (r ≡ changed (now (part .entry)) (now (new .entry))) × (r ≤ length (now (new .entry))) ⌝ }
-{
-    let mut sum: usize = 0;
-    let mut k: usize = 0;
-    while k < new.len() {
-        sum += differ(part[k], new[k]);
-        k += 1;
-    }
-    sum
-}
-
-// How many words are not zero.
-fn count_nonzero(part: &[u64]) -> usize
-    ensures { λ r. ⌜ (r ≡ changed (now (part .entry)) (replicate (length (now (part .entry))) 0)) × (r ≤ length (now (part .entry))) ⌝ }
-{
-    let mut sum: usize = 0;
-    let mut k: usize = 0;
-    while k < part.len() {
-        sum += differ(part[k], 0);
-        k += 1;
-    }
-    sum
-}
-
-// At how many places expander i's own list, which has n words, differs from the first words of `part`.
-fn count_own(rows: &[u64], lists: &[u64], i: ExpanderNumber, n: usize, part: &[u64]) -> usize
-    requires { ⌜ OwnListsHeld (domainIn (now rows)) (now lists) × ((n ≡ length (ownWords (domainIn (now rows)) (i .0))) × (n ≤ length (now part))) ⌝ }
-    ensures { λ r. ⌜ (r ≡ changed (now (part .entry)) (ownWords (domainIn (now (rows .entry))) (i .0))) × (r ≤ n) ⌝ }
-{
-    if n == 0 {
-        return 0;
-    }
-    let from = crate::OWN_LIST_WORDS * (i.0 as usize) + 1;
-    let to = from + n;
-    count_changed(part, &lists[from..to])
-}
-
-// At how many places a table differs from `part`: the own lists of these expanders, one after the other, and zeros after them.
-fn count_table(rows: &[u64], lists: &[u64], order: &[u8], part: &[u64]) -> usize
-    requires { ⌜ OwnListsHeld (domainIn (now rows)) (now lists) × (length (flatMap (ownWords (domainIn (now rows))) (now order)) ≤ length (now part)) ⌝ }
-    ensures { λ r. ⌜ (r ≡ changed (now (part .entry)) (filledTo (length (now (part .entry))) (flatMap (ownWords (domainIn (now (rows .entry)))) (now (order .entry)))))
-        × (r ≤ length (now (part .entry))) ⌝ }
-{
-    let mut sum: usize = 0;
-    let mut m: usize = 0;
-    let mut k: usize = 0;
-    while k < order.len() {
-        let i = ExpanderNumber(order[k]);
-        let n = own_lists::own_length(rows, lists, i);
-        sum += count_own(rows, lists, i, n, &part[m..]);
-        m += n;
-        k += 1;
-    }
-    sum + count_nonzero(&part[m..])
 }
 
 // The disable bit of a word.
@@ -180,8 +107,7 @@ fn renew_table(
         × ((bitsOf (now (bits .exit)) ≡ overlay (bitsOf (now (bits .entry))) at (zeroBits (filledTo (to - at) (ownWordsOfOrder (domainIn (now (rows .entry))) (i .0) (p .0)))))
         × ((r ≡ changed (now (words .entry)) (now (words .exit))) × (r ≤ to - at))) ⌝ }
 {
-    let n = count_table(rows, lists, order, &words[at..to]);
-    table_filling::fill_table(rows, lists, order, i, p, &mut words[at..to]);
+    let n = table_filling::fill_table(rows, lists, order, i, p, &mut words[at..to]);
     mark_from(&words[at..to], bits, at);
     n
 }

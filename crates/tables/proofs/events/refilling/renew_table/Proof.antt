@@ -1,39 +1,16 @@
--- renew_table meets its contract: the words are counted, then filled, and then their bits are set.
-use Prim.Native.Nat.{ℕ, _-_}
-use mathlib.Core.Path.{_∙_, ap}
-use mathlib.Core.List.{List}
+-- renew_table meets its contract: the words are filled, those changed counted, and then their bits are set.
+use Prim.Native.Nat.{_-_}
+use mathlib.Core.Path.{_∙_}
 use native.Mathlib.Omega.{arith}
-use lib.ListN.{length, take, drop, length-drop}
+use lib.ListN.{drop, length-drop}
 use lib.Seq.{length-take-le}
-use Rattle.files.specs.Domain.{Domain}
 use Rattle.files.specs.Rows.{domainIn}
-use Rattle.tables.specs.lists.PreparedLists.{ownWordsOfOrder, filledTo}
-use Rattle.tables.specs.events.TouchedTables.{changed}
-use Rattle.tables.proofs.filling.FilledTable.{from-order, filled-room}
+use Rattle.tables.specs.lists.PreparedLists.{ownWordsOfOrder}
 use Rattle.tables.proofs.events.TablesRewritten.{renew-words, renew-changed, renew-bits}
+use borrow.Author.Needs.{needs}
 use borrow.Author.Needs.{needs}
 use Rattle.tables.proofs.events.refilling.renew_table.Statement.{statement}
 use Rattle.tables.proofs.events.refilling.renew_table.Tie as tie
-
-mul-count-table : tie.Need-mul-count-table
-mul-count-table c = search needs
-
-sub-count-table : tie.Need-sub-count-table
-sub-count-table c = search needs
-
-part-count-table-start : tie.Need-part-count-table-start
-part-count-table-start c = search needs
-
-part-count-table-end : tie.Need-part-count-table-end
-part-count-table-end c = search needs
-
-count-table-requires : tie.Need-count-table-requires
-count-table-requires c κs =
-    let a = c .before .before .before .before .before .before .before .args in
-    let pre = c .before .before .before .before .before .before .before .pre in
-    let f = filled-room (domainIn (a .rows .now)) (a .i .0) (a .p .0) (pre .0) in
-    let n = length-take-le (a .to - a .at) (drop (a .at) (a .words .now)) (omega (arith, length-drop (a .at) (a .words .now))) in
-    (pre .0 .held, omega arith)
 
 mul-fill-table : tie.Need-mul-fill-table
 mul-fill-table c = search needs
@@ -73,13 +50,10 @@ same-length-2 c = search needs
 
 returns : tie.Need-returns
 returns c =
-    let a = c .before .before .before .before .before .before .before .before .before .before .before .before .before .before .before .before .before .before .args in
-    let filled = c .before .before .before .before .before .before .before .before .fill-table in
-    let counted = c .before .before .before .before .before .before .before .before .before .before .count-table in
-    let d : Domain = domainIn (a .rows .now) in
-    let p = c .before .before .before .before .before .before .before .before .before .before .before .before .before .before .before .before .before .before .pre in
-    let n = length-take-le (a .to - a .at) (drop (a .at) (a .words .now)) (omega (arith, length-drop (a .at) (a .words .now))) in
-    (renew-words (a .words .now) (a .at) (a .to) (p .1 .0) (p .1 .1 .0) _ (ownWordsOfOrder d (a .i .0) (a .p .0)) (filled .ensures), (renew-bits (a .words .now) (a .at) (a .to) (p .1 .0) (p .1 .1 .0) _ (ownWordsOfOrder d (a .i .0) (a .p .0)) (filled .ensures) (a .bits .now) _ ((c .before .before .mark-from) .ensures) (p .1 .1 .1), (counted .ensures .0 ∙ ap (λ (l : List ℕ). changed (take (a .to - a .at) (drop (a .at) (a .words .now))) (filledTo (length (take (a .to - a .at) (drop (a .at) (a .words .now)))) l)) (from-order d (a .i .0) (a .p .0) (p .0)) ∙ renew-changed (a .words .now) (a .at) (a .to) (p .1 .0) (p .1 .1 .0) _ (ownWordsOfOrder d (a .i .0) (a .p .0)) (filled .ensures), omega (arith, counted .ensures .1))))
+    let at-args = c .before .before .before .before .before .before .before .before .before .before .before .before .before .before .before .args in
+    let at-pre = c .before .before .before .before .before .before .before .before .before .before .before .before .before .before .before .pre in
+    let at-fill-table = c .before .before .before .before .before .before .before .before .fill-table in
+    (renew-words (at-args .words .now) (at-args .at) (at-args .to) (at-pre .1 .0) (at-pre .1 .1 .0) _ (ownWordsOfOrder (domainIn (at-args .rows .now)) (at-args .i .0) (at-args .p .0)) (at-fill-table .ensures .0), (renew-bits (at-args .words .now) (at-args .at) (at-args .to) (at-pre .1 .0) (at-pre .1 .1 .0) _ (ownWordsOfOrder (domainIn (at-args .rows .now)) (at-args .i .0) (at-args .p .0)) (at-fill-table .ensures .0) (at-args .bits .now) _ ((c .before .before .mark-from) .ensures) (at-pre .1 .1 .1), (at-fill-table .ensures .1 .0 ∙ renew-changed (at-args .words .now) (at-args .at) (at-args .to) (at-pre .1 .0) (at-pre .1 .1 .0) _ (ownWordsOfOrder (domainIn (at-args .rows .now)) (at-args .i .0) (at-args .p .0)) (at-fill-table .ensures .0), omega (arith, at-fill-table .ensures .1 .1, length-take-le (at-args .to - at-args .at) (drop (at-args .at) (at-args .words .now)) (omega (arith, length-drop (at-args .at) (at-args .words .now)))))))
 
 pub renew-table-spec : {M : Type 1} → statement M
-renew-table-spec = tie.close (tie.spec mul-count-table sub-count-table part-count-table-start part-count-table-end count-table-requires mul-fill-table sub-fill-table part-fill-table-start part-fill-table-end fill-table-requires mul-mark-from sub-mark-from part-mark-from-start part-mark-from-end mark-from-requires same-length same-length-2 returns)
+renew-table-spec = tie.close (tie.spec mul-fill-table sub-fill-table part-fill-table-start part-fill-table-end fill-table-requires mul-mark-from sub-mark-from part-mark-from-start part-mark-from-end mark-from-requires same-length same-length-2 returns)

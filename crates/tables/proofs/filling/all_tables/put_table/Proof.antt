@@ -72,7 +72,7 @@ returns-2 c =
     let r : ℕ = (c .before .before .before .before .route-indexes) .result in
     let k : ℕ = a .at + r - a .at in
     let z = length-take-le k (drop (a .at) (a .words .now)) (simp length-drop (omega arith)) in
-    put-one d (a .i .0) (a .p .0) (a .words .now) (a .at) k ((c .before .before .fill-table) .ensures ∙ ap (λ (n : ℕ). filledTo n (ownWordsOfOrder d (a .i .0) (a .p .0))) z) t (omega arith) (a .at + r) (omega arith) (omega arith)
+    put-one d (a .i .0) (a .p .0) (a .words .now) (a .at) k ((c .before .before .fill-table) .ensures .0 ∙ ap (λ (n : ℕ). filledTo n (ownWordsOfOrder d (a .i .0) (a .p .0))) z) t (omega arith) (a .at + r) (omega arith) (omega arith)
 
 pub put-table-spec : {M : Type 1} → statement M
 put-table-spec = tie.close (tie.spec is-table-requires returns route-indexes-requires cast-e add-e mul-fill-table sub-fill-table part-fill-table-start part-fill-table-end fill-table-requires same-length returns-2)

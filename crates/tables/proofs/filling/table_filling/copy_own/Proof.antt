@@ -10,6 +10,7 @@ use Rattle.tables.specs.lists.OwnLists.{ownWords}
 use Rattle.tables.specs.lists.PreparedLists.{OwnListsHeld}
 use Rattle.tables.proofs.lists.GrowingLists.{grown-kept, grown-same}
 use Rattle.tables.proofs.lists.OwnListLoops.{own-count, own-list, own-fits, own-none, own-few}
+use Rattle.tables.proofs.filling.WordsChanged.{replaced-none}
 use borrow.Author.Needs.{needs}
 use Rattle.tables.proofs.filling.table_filling.copy_own.Statement.{statement}
 use Rattle.tables.proofs.filling.table_filling.copy_own.Tie as tie
@@ -26,11 +27,8 @@ expander-count-requires c κs = search needs
 
 returns : tie.Need-returns
 returns c =
-    let a = c .before .before .before .before .before .before .args in
-    let e = c .before .before .expander-count .ensures .0 in
-    let l : List ℕ = take (a .n) (a .part .now) in
-    let o = own-none (domainIn (a .rows .now)) (a .i .0) (omega arith) in
-    grown-kept (a .n) (a .part .now) (ap (λ (m : List ℕ). l ++ m) o ∙ append-nil l) (omega arith)
+    let at-args = c .before .before .before .before .before .before .args in
+    (grown-kept (at-args .s .at) (at-args .part .now) (ap (λ (m : List ℕ). take (at-args .s .at) (at-args .part .now) ++ m) (own-none (domainIn (at-args .rows .now)) (at-args .i .0) (omega (arith, (c .before .before .expander-count) .ensures .0))) ∙ append-nil (take (at-args .s .at) (at-args .part .now))) (omega arith), replaced-none (at-args .s) (at-args .part .now))
 
 cast-a : tie.Need-cast-a
 cast-a c = search needs
@@ -49,10 +47,10 @@ shared-slice-read-to c = search needs
 
 add-to : tie.Need-add-to
 add-to c =
-    let s = c .before .before .before .before .before .before .before .before in
-    let e = c .before .before .before .before .expander-count .ensures .0 in
-    let d : Domain = domainIn (s .args .rows .now) in
-    omega (arith, own-count d (s .args .lists .now) (s .pre .0) (s .args .i .0) (omega arith), own-few (s .args .rows .now) (s .args .i .0))
+    let at-args = c .before .before .before .before .before .before .before .before .args in
+    let at-pre = c .before .before .before .before .before .before .before .before .pre in
+    let at-expander-count = c .before .before .before .before .expander-count in
+    omega (arith, own-count (domainIn (at-args .rows .now)) (at-args .lists .now) (at-pre .0) (at-args .i .0) (omega (arith, at-expander-count .ensures .0)), own-few (at-args .rows .now) (at-args .i .0))
 
 mul-copy-words : tie.Need-mul-copy-words
 mul-copy-words c = search needs
@@ -65,31 +63,28 @@ part-copy-words-start c = search needs
 
 part-copy-words-end : tie.Need-part-copy-words-end
 part-copy-words-end c =
-    let s = c .before .before .before .before .before .before .before .before in
-    let e = c .before .before .before .before .expander-count .ensures .0 in
-    let d : Domain = domainIn (s .args .rows .now) in
-    let n = own-count d (s .args .lists .now) (s .pre .0) (s .args .i .0) (omega arith) in
-    omega (arith, own-fits d (s .args .lists .now) (s .pre .0) (s .args .i .0) (omega arith))
+    let at-args = c .before .before .before .before .before .before .before .before .args in
+    let at-pre = c .before .before .before .before .before .before .before .before .pre in
+    let at-expander-count = c .before .before .before .before .expander-count in
+    omega (arith, own-count (domainIn (at-args .rows .now)) (at-args .lists .now) (at-pre .0) (at-args .i .0) (omega (arith, at-expander-count .ensures .0)), own-fits (domainIn (at-args .rows .now)) (at-args .lists .now) (at-pre .0) (at-args .i .0) (omega (arith, at-expander-count .ensures .0)))
 
 copy-words-requires : tie.Need-copy-words-requires
 copy-words-requires c κs =
+    let at-pre = c .before .before .before .before .before .before .before .before .before .before .pre in
+    let at-args = c .before .before .before .before .before .before .before .before .before .before .args in
     let at-expander-count = c .before .before .before .before .before .before .expander-count in
-    let s = c .before .before .before .before .before .before .before .before .before .before in
-    let a = s .args in
-    let e = at-expander-count .ensures .0 in
-    omega (arith, ap length (part-own (domainIn (a .rows .now)) (a .lists .now) (s .pre .0) (a .i .0) (omega arith)))
+    (at-pre .1 .0, omega (arith, ap length (part-own (domainIn (at-args .rows .now)) (at-args .lists .now) (at-pre .0) (at-args .i .0) (omega (arith, at-expander-count .ensures .0))), at-pre .1 .1))
 
 same-length : tie.Need-same-length
 same-length c = search needs
 
 returns-2 : tie.Need-returns-2
 returns-2 c =
+    let at-copy-words = c .before .before .copy-words in
+    let at-args = c .before .before .before .before .before .before .before .before .before .before .before .before .before .args in
+    let at-pre = c .before .before .before .before .before .before .before .before .before .before .before .before .before .pre in
     let at-expander-count = c .before .before .before .before .before .before .before .before .before .expander-count in
-    let s = c .before .before .before .before .before .before .before .before .before .before .before .before .before in
-    let a = s .args in
-    let e = at-expander-count .ensures .0 in
-    grown-same (c .before .before .copy-words .ensures) (ap (λ (m : List ℕ). take (a .n) (a .part .now) ++ m)
-    (part-own (domainIn (a .rows .now)) (a .lists .now) (s .pre .0) (a .i .0) (omega arith)))
+    (grown-same (at-copy-words .ensures .0) (ap (λ (m : List ℕ). take (at-args .s .at) (at-args .part .now) ++ m) (part-own (domainIn (at-args .rows .now)) (at-args .lists .now) (at-pre .0) (at-args .i .0) (omega (arith, at-expander-count .ensures .0)))), at-copy-words .ensures .1)
 
 pub copy-own-spec : {M : Type 1} → statement M
 copy-own-spec = tie.close (tie.spec expander-count-requires returns cast-a mul-a add-from mul-to shared-slice-read-to add-to mul-copy-words sub-copy-words part-copy-words-start part-copy-words-end copy-words-requires same-length returns-2)

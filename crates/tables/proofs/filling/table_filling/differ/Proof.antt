@@ -4,8 +4,8 @@ use mathlib.Core.Bool.{Bool, cond}
 use mathlib.Core.Path.{sym, ap}
 use native.Mathlib.Omega.{arith}
 use borrow.Author.Tests.{eq-eqb, ne-eqb}
-use Rattle.tables.proofs.events.refilling.differ.Statement.{statement}
-use Rattle.tables.proofs.events.refilling.differ.Tie as tie
+use Rattle.tables.proofs.filling.table_filling.differ.Statement.{statement}
+use Rattle.tables.proofs.filling.table_filling.differ.Tie as tie
 
 returns : tie.Need-returns
 returns c = (sym (ap (λ (b : Bool). cond {A = ℕ} b 0 1) (eq-eqb _ _ (c .if1 .taken))), omega arith)
