@@ -14,8 +14,8 @@ use crate::reference::{self, Attached};
 use crate::stack;
 use crate::vectors::{self, d, e, full_star};
 
-/// How long one call of one version is measured.
-const LONG_ENOUGH: Duration = Duration::from_millis(400);
+/// How long calls that are compared are made in turn.
+const LONG_ENOUGH: Duration = Duration::from_millis(800);
 
 /// A call is not repeated after this time.
 const TOO_LONG: Duration = Duration::from_secs(5);
@@ -81,7 +81,6 @@ pub fn run() {
         let mut other = words.clone();
         let mut bits = vec![0; words.len().div_ceil(8)];
         let mut other_bits = bits.clone();
-        let mut passed = vec![0; 64];
         let file = &case.file[..];
 
         // Both must answer alike before they are timed.
@@ -116,7 +115,7 @@ pub fn run() {
             traced & 0xff
         );
 
-        let row = |call: &str, archive: Cost, fast: Cost| {
+        let row = |call: &str, [archive, fast]: [Cost; 2]| {
             println!(
                 "{:<36} {:<7} {:>14} {:>14} {:>8.2} {:>15} {:>15}",
                 "",
@@ -130,33 +129,38 @@ pub fn run() {
         };
         row(
             "judge",
-            measure(|| Archive.judge(WIDEST, black_box(file))),
-            measure(|| Fast.judge(WIDEST, black_box(file))),
+            measure([&mut || Archive.judge(WIDEST, black_box(file)), &mut || {
+                Fast.judge(WIDEST, black_box(file))
+            }]),
         );
         row(
             "tables",
-            measure(|| Archive.tables(WIDEST, black_box(file), &mut words, &mut bits)),
-            measure(|| Fast.tables(WIDEST, black_box(file), &mut other, &mut other_bits)),
+            measure([
+                &mut || Archive.tables(WIDEST, black_box(file), &mut words, &mut bits),
+                &mut || Fast.tables(WIDEST, black_box(file), &mut other, &mut other_bits),
+            ]),
         );
-        let mut trace = |calls: &dyn Calls| {
-            measure(|| {
-                calls.trace(
-                    WIDEST,
-                    black_box(file),
-                    &words,
-                    &bits,
-                    start,
-                    arrival,
-                    case.address,
-                    &mut passed,
-                )
-            })
+        let trace = |calls: &dyn Calls| {
+            let mut passed = [0; 64];
+            calls.trace(
+                WIDEST,
+                black_box(file),
+                &words,
+                &bits,
+                start,
+                arrival,
+                case.address,
+                &mut passed,
+            )
         };
-        row("trace", trace(&Archive), trace(&Fast));
+        row(
+            "trace",
+            measure([&mut || trace(&Archive), &mut || trace(&Fast)]),
+        );
     }
     println!(
-        "The time is the shortest of all calls within {LONG_ENOUGH:?}; a slow call is made 3 times, \
-         or fewer when these take {TOO_LONG:?}."
+        "The calls of a row are made in turn for {LONG_ENOUGH:?}, and the time is the shortest of \
+         each; slow ones are made 3 times, or fewer when these take {TOO_LONG:?}."
     );
     println!(
         "No buffer was cleared between calls; the table call writes all its words and disable \
@@ -174,12 +178,11 @@ pub fn run() {
     events(&cases);
 }
 
-/// A drive plugged in another's place, beside one judging. Of the words that the event
-/// writes, the time to write as many is taken off: they are as many as the touched tables
-/// have.
+/// A drive plugged in another's place, beside one judging, with and without the time to write
+/// as many words as the touched tables have, and beside the table call.
 fn events(cases: &[Case]) {
     println!(
-        "{:<36} {:>8} {:>8} {:>8} {:>14} {:>14} {:>8} {:>14} {:>8} {:>12}",
+        "{:<36} {:>8} {:>8} {:>8} {:>14} {:>14} {:>8} {:>14} {:>8} {:>14} {:>8} {:>12}",
         "input",
         "touched",
         "written",
@@ -189,6 +192,8 @@ fn events(cases: &[Case]) {
         "ratio",
         "words",
         "less",
+        "tables",
+        "ratio",
         "stack"
     );
     for case in cases {
@@ -198,34 +203,36 @@ fn events(cases: &[Case]) {
         Archive.tables(WIDEST, &file, &mut words, &mut bits);
         let place = last_drive(&file);
         let written = written(&file, place.0);
-        let judge = measure(|| Archive.judge(WIDEST, black_box(&case.file)));
-        let mut drive = 0x7000_0000_0000_0000;
-        let mut answer = 0;
-        let event = measure(|| {
-            // Another drive each time, so that words change.
-            drive += 1;
-            let event = Event {
-                place,
-                address: drive,
-            };
-            answer = Archive.event(WIDEST, &mut file, &mut words, &mut bits, event);
-            answer
-        });
         let mut afresh = (words.clone(), bits.clone());
+        let mut plain = (words.clone(), bits.clone());
+        let (mut drive, mut answer, mut value) = (0x7000_0000_0000_0000, 0, 0);
+        let [judge, tables, event, write] = measure([
+            &mut || Archive.judge(WIDEST, black_box(&case.file)),
+            &mut || Archive.tables(WIDEST, black_box(&case.file), &mut afresh.0, &mut afresh.1),
+            &mut || {
+                // Another drive each time, so that words change.
+                drive += 1;
+                let event = Event {
+                    place,
+                    address: drive,
+                };
+                answer = Archive.event(WIDEST, &mut file, &mut words, &mut bits, event);
+                answer
+            },
+            &mut || {
+                value += 1;
+                black_box(&mut plain.0[..written]).fill(value);
+                black_box(&mut plain.1[..written / 8]).fill(value as u8);
+                value
+            },
+        ]);
         Archive.tables(WIDEST, &file, &mut afresh.0, &mut afresh.1);
-        if answer >> 63 == 1 || afresh != (words.clone(), bits.clone()) {
+        if answer >> 63 == 1 || afresh != (words, bits) {
             fail(case, "event");
         }
-        let mut value = 0;
-        let write = time(|| {
-            value += 1;
-            black_box(&mut words[..written]).fill(value);
-            black_box(&mut bits[..written / 8]).fill(value as u8);
-            value
-        });
         let ratio = |time: Duration| time.as_secs_f64() / judge.time.as_secs_f64();
         println!(
-            "{:<36} {:>8} {:>8} {:>8} {:>14} {:>14} {:>8.2} {:>14} {:>8.2} {:>12}",
+            "{:<36} {:>8} {:>8} {:>8} {:>14} {:>14} {:>8.2} {:>14} {:>8.2} {:>14} {:>8.2} {:>12}",
             case.name,
             answer >> 32,
             written,
@@ -233,15 +240,18 @@ fn events(cases: &[Case]) {
             show(judge.time),
             show(event.time),
             ratio(event.time),
-            show(write),
-            ratio(event.time.saturating_sub(write)),
+            show(write.time),
+            ratio(event.time.saturating_sub(write.time)),
+            show(tables.time),
+            event.time.as_secs_f64() / tables.time.as_secs_f64(),
             event.stack
         );
     }
     println!(
         "An event plugs a drive into the last phy that has one, in its place. \"words\" is the time \
-         to write as many words and disable bits as the touched tables have, and \"less\" the ratio \
-         without it."
+         to fill as many words and disable bits as the touched tables have with one number, and \
+         \"less\" the ratio without it. \"tables\" is the table call, which judges the file and writes all \
+         its tables."
     );
 }
 
@@ -282,7 +292,7 @@ fn many(cases: &[Case]) {
         let list = Requests::of(case);
         let (file, form) = (&case.file[..], &list.form[..]);
         println!("{} ({} words of form)", case.name, form.len());
-        let row = |what: &str, file: Cost, form: Cost| {
+        let row = |what: &str, [file, form]: [Cost; 2]| {
             println!(
                 "{:<36} {:<14} {:>14} {:>14} {:>8.3} {:>15} {:>15}",
                 "",
@@ -295,29 +305,28 @@ fn many(cases: &[Case]) {
             );
         };
         let (start, arrival) = case.start;
-        let mut passed = [0; 64];
-        let one = measure(|| list.over_file(black_box(file), start, arrival, case.address));
-        let compact = measure(|| {
-            Archive.compact_trace(
-                WIDEST,
-                black_box(form),
-                &list.words,
-                &list.bits,
-                start,
-                arrival,
-                case.address,
-                &mut passed,
-            )
-        });
-        row("one request", one, compact);
-        let each = measure_many(|| list.answers_over_file(black_box(file)).len() as u64);
+        row(
+            "one request",
+            measure([
+                &mut || list.over_file(black_box(file), start, arrival, case.address),
+                &mut || list.one_over_form(black_box(form), start, arrival, case.address),
+            ]),
+        );
         let mut answers = vec![0; REQUESTS];
-        let at_once = measure_many(|| list.over_form(black_box(form), &mut answers));
-        row("1,000 requests", each, at_once);
+        row(
+            "1,000 requests",
+            measure_many([
+                &mut || list.answers_over_file(black_box(file)).len() as u64,
+                &mut || list.over_form(black_box(form), &mut answers),
+            ]),
+        );
         let mut room = vec![0; form.len()];
-        let judge = measure(|| Archive.judge(WIDEST, black_box(file)));
-        let made = measure(|| Archive.compact(WIDEST, black_box(file), &mut room));
-        row("judge, compact", judge, made);
+        row(
+            "judge, compact",
+            measure([&mut || Archive.judge(WIDEST, black_box(file)), &mut || {
+                Archive.compact(WIDEST, black_box(file), &mut room)
+            }]),
+        );
     }
     println!(
         "Of 1,000 requests, from any start to any address of the input, the time is the processor \
@@ -366,6 +375,20 @@ impl Requests {
         Archive.trace(
             WIDEST,
             file,
+            &self.words,
+            &self.bits,
+            start,
+            arrival,
+            address,
+            &mut passed,
+        )
+    }
+
+    fn one_over_form(&self, form: &[u64], start: u8, arrival: u8, address: u64) -> u64 {
+        let mut passed = [0; 64];
+        Archive.compact_trace(
+            WIDEST,
+            form,
             &self.words,
             &self.bits,
             start,
@@ -441,39 +464,37 @@ struct Cost {
     stack: usize,
 }
 
-fn measure(mut call: impl FnMut() -> u64) -> Cost {
-    Cost {
-        stack: stack::used(&mut call),
-        time: time(call),
-    }
-}
+type Call<'a> = &'a mut dyn FnMut() -> u64;
 
-/// A call that takes long enough to be measured by processor time.
-fn measure_many(mut call: impl FnMut() -> u64) -> Cost {
-    Cost {
-        stack: stack::used(&mut call),
-        time: time_by(processor_time, call),
-    }
-}
-
-/// The shortest time of one call.
-fn time(call: impl FnMut() -> u64) -> Duration {
+/// Calls that are compared.
+fn measure<const N: usize>(calls: [Call; N]) -> [Cost; N] {
     let began = Instant::now();
-    time_by(|| began.elapsed(), call)
+    measure_by(|| began.elapsed(), calls)
 }
 
-/// The same by a clock.
-fn time_by(clock: impl Fn() -> Duration, mut call: impl FnMut() -> u64) -> Duration {
+/// Calls that take long enough to be measured by processor time.
+fn measure_many<const N: usize>(calls: [Call; N]) -> [Cost; N] {
+    measure_by(processor_time, calls)
+}
+
+/// The stack of each call, and its shortest time by a clock. The calls are made in turn: a
+/// processor may run slower for seconds, and then does so for all of them.
+fn measure_by<const N: usize>(clock: impl Fn() -> Duration, mut calls: [Call; N]) -> [Cost; N] {
+    let mut costs = calls.each_mut().map(|call| Cost {
+        time: Duration::MAX,
+        stack: stack::used(call),
+    });
     let began = Instant::now();
-    let mut shortest = Duration::MAX;
     let mut rounds = 0;
     while began.elapsed() < LONG_ENOUGH || (rounds < 3 && began.elapsed() < TOO_LONG) {
-        let start = clock();
-        black_box(call());
-        shortest = shortest.min(clock() - start);
+        for (call, cost) in calls.iter_mut().zip(&mut costs) {
+            let start = clock();
+            black_box(call());
+            cost.time = cost.time.min(clock() - start);
+        }
         rounds += 1;
     }
-    shortest
+    costs
 }
 
 extern "C" {
