@@ -1,4 +1,4 @@
--- Lists that grow in loops: searches among numbers, numbers with room for so many, words and lists copied one after the other, zeros after them.
+-- Lists that grow in loops: numbers with room for so many, words and lists copied one after the other, zeros after them.
 -- `inv` is the loop's invariant; a turn takes `piece` from what is left, `rest ≡ piece ++ rest'`.
 use Prim.Native.Nat.{ℕ, _+_, _-_, _≤_, _<_}
 use mathlib.Core.Path.{_≡_, refl, sym, _∙_, ap}
@@ -9,13 +9,10 @@ use lib.ListN.{length, getD, take, drop, set, replicate, length-set, length-appe
 use lib.ListN.{drop-of-length-le, take-append-drop, replicate-append-replicate}
 use lib.Seq.{set-at, length-take-le}
 use lib.Dec.{eqb, leb}
-use borrow.Author.Tests.{ne-eqb}
 use Rattle.files.specs.declared.Phy.{Phy}
 use Rattle.files.specs.Lists.{isIn}
 use Rattle.files.specs.Domain.{Domain}
-use Rattle.files.proofs.ListMembers.{isIn-of, in-getD, in-cast, is-true}
 use Rattle.files.proofs.OneMore.{drop-next, set-next}
-use Rattle.wiring.proofs.phys.PlaceSearches.{any-go, any-end}
 use Rattle.tables.specs.filling.Tables.{give, giveAll}
 use Rattle.tables.specs.lists.GrowingLists.{add, addAll, Grown}
 
@@ -34,19 +31,7 @@ module _ {A B : Type 0} (f : A → List B) where
   unfolding flatMap
   flat-last l k h = ap (flatMap f) (drop-of-length-le l h)
 
--- searches among numbers
-pub isIn-stop : (a i : ℕ) (l : List ℕ) → getD l i 0 ≡ a → i < length l → true ≡ isIn a l
-isIn-stop a i l q h = sym (is-true (isIn a l) (isIn-of a l (in-cast l (sym q) (in-getD l 0 i h))))
-
-module _ (a i : ℕ) (l : List ℕ) {v : Bool} (inv : isIn a (drop i l) ≡ v) where
-  pub isIn-go : (getD l i 0 ≡ a → ⊥) → isIn a (drop (i + 1) l) ≡ v
-  unfolding isIn
-  isIn-go f = any-go (eqb a) 0 l i inv (ne-eqb a (getD l i 0) (λ e. f (sym e)))
-
-  pub isIn-end : length l ≤ i → false ≡ v
-  unfolding isIn
-  isIn-end h = any-end (eqb a) 0 l i inv h
-
+-- one number more, where there is room and it is new
 pub add-by : (room : ℕ) (l : List ℕ) (j : ℕ) {r a b : Bool} → r ≡ isIn j l → r ≡ a → leb room (length l) ≡ b
     → addAll room l (j ∷ []) ≡ cond (a || b) l (l ++ (j ∷ []))
 unfolding addAll add

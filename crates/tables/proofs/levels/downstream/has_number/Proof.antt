@@ -1,10 +1,10 @@
 -- has_number meets its contract. The loop's invariant: the number is not among the first i.
 use Prim.Native.Nat.{_-_, _≤_}
-use mathlib.Core.Path.{_≡_, refl}
+use mathlib.Core.Path.{_≡_, refl, sym}
 use native.Mathlib.Omega.{arith}
 use lib.ListN.{length, drop}
 use Rattle.files.specs.Lists.{isIn}
-use Rattle.tables.proofs.lists.GrowingLists.{isIn-stop, isIn-go, isIn-end}
+use Rattle.files.proofs.UnitReading.{in-stop, in-go, in-end}
 use Rattle.tables.proofs.levels.downstream.has_number.Statement.{statement}
 use Rattle.tables.proofs.levels.downstream.has_number.Tie as tie
 
@@ -21,7 +21,9 @@ shared-slice-read-if1 : tie.Need-shared-slice-read-if1 Inv-loop μ-loop
 shared-slice-read-if1 c = omega arith
 
 returns : tie.Need-returns Inv-loop μ-loop
-returns c = isIn-stop _ (c .before .before .before .before .loop .i) (c .before .before .before .before .before .args .l .now) (c .if1 .taken) (omega arith)
+returns c =
+    let l = c .before .before .before .before .loop in
+    in-stop _ (l .i) (c .before .before .before .before .before .args .l .now) (l .inv .1) (sym (c .if1 .taken)) (omega arith)
 
 add-i : tie.Need-add-i Inv-loop μ-loop
 add-i c = omega arith
@@ -32,10 +34,10 @@ loop-less c = omega arith
 loop-again : tie.Need-loop-again Inv-loop μ-loop
 loop-again c =
     let l = c .before .before .before .before .loop in
-    (omega arith, isIn-go _ (l .i) (c .before .before .before .before .before .args .l .now) (l .inv .1) (c .if1 .left))
+    (omega arith, in-go _ (l .i) (c .before .before .before .before .before .args .l .now) (l .inv .1) (λ e. c .if1 .left (sym e)) (omega arith))
 
 returns-2 : tie.Need-returns-2 Inv-loop μ-loop
-returns-2 c = let l = c .before .loop in isIn-end _ (l .i) (c .before .before .args .l .now) (l .inv .1) (omega arith)
+returns-2 c = let l = c .before .loop in in-end _ (l .i) (c .before .before .args .l .now) (l .inv .1) (omega arith)
 
 pub has-number-spec : {M : Type 1} → statement M
 has-number-spec = tie.close (tie.spec Inv-loop μ-loop loop-holds shared-slice-read-if1 returns add-i loop-less loop-again returns-2)
