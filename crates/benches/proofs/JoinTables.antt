@@ -5,15 +5,15 @@ use mathlib.Core.Bool.{Bool, true, false, cond}
 use Prim.Native.Nat.{ℕ, zero, suc, _+_, _<_}
 use native.Mathlib.Nat.{zero-add}
 use native.Mathlib.Omega.{arith}
-use lib.ListN.{length, set, length-set}
+use lib.ListN.{length, length-set}
 use lib.Dec.{T}
 use Rattle.files.specs.declared.Phy.{Phy}
 use Rattle.files.specs.Lists.{keep}
-use Rattle.files.specs.Domain.{Expander, Domain, expanderAt, phyAt, isTable}
+use Rattle.files.specs.Domain.{Domain, expanderAt, phyAt, isTable}
 use Rattle.files.specs.PhyReplaced.{withPhy, setPhy}
 use Rattle.wiring.specs.phys.PhyCauses.{Place, place, phyPlaces, placesFrom, places}
 use Rattle.wiring.specs.WiringCauses.{Linked}
-use Rattle.wiring.proofs.phys.WiredPhys.{Wired}
+use Rattle.wiring.proofs.phys.WiredPhys.{Wired, places-set}
 use Rattle.tables.specs.filling.Tables.{table, tablePlaces, tables}
 use Rattle.tables.proofs.lists.GrowingLists.{flat-append}
 use Rattle.benches.specs.Joined.{cabledTo, joined}
@@ -42,15 +42,9 @@ places-append k (x ∷ a) b =
     ap (λ r. phyPlaces k 0 (length (x .phys)) ++ r) (places-append (k + 1) a b ∙ ap (λ v. placesFrom (k + 1) a ++ placesFrom v b) (let z : k + 1 + length a ≡ k + suc (length a) = omega arith in z))
     ∙ sym (append-assoc (phyPlaces k 0 (length (x .phys))) (placesFrom (k + 1) a) (placesFrom (k + suc (length a)) b))
 
-places-set : (k i : ℕ) (e : Expander) (d : Domain) → length (e .phys) ≡ length (expanderAt d i .phys) → placesFrom k (set d i e) ≡ placesFrom k d
-unfolding placesFrom
-places-set k i e [] h = refl
-places-set k zero e (x ∷ d) h = ap (λ n. phyPlaces k 0 n ++ placesFrom (k + 1) d) h
-places-set k (suc i) e (x ∷ d) h = ap (λ r. phyPlaces k 0 (length (x .phys)) ++ r) (places-set (k + 1) i e d h)
-
 places-with : (k i p : ℕ) (φ : Phy) (d : Domain) → placesFrom k (setPhy d i p φ) ≡ placesFrom k d
 unfolding setPhy withPhy
-places-with k i p φ d = places-set k i (withPhy (expanderAt d i) p φ) d (length-set (expanderAt d i .phys) p φ)
+places-with k i p φ d = places-set d k i (withPhy (expanderAt d i) p φ) (length-set (expanderAt d i .phys) p φ)
 
 module _ (f g : Place → List ℕ) (k : ℕ) where
   phyPlaces-same : (a p n : ℕ) → ((y : ℕ) → f (place (k + a) y) ≡ g (place a y)) → flatMap f (phyPlaces (k + a) p n) ≡ flatMap g (phyPlaces a p n)

@@ -3,11 +3,11 @@ use mathlib.Core.Path.{_≡_, refl, sym, ap, _∙_}
 use mathlib.Core.Logic.{inl, _≢_, by-cases}
 use mathlib.Core.List.{[], _∷_, _++_}
 use mathlib.Core.Bool.{Bool, true, false, cond}
-use Prim.Native.Nat.{ℕ, zero, suc, _+_, _≤_, _<_}
+use Prim.Native.Nat.{ℕ, suc, _+_, _≤_, _<_}
 use native.Mathlib.Decide.{ℕ-discrete, decLt}
 use native.Mathlib.Nat.{zero-add}
 use native.Mathlib.Omega.{arith}
-use lib.ListN.{length, getD, set, length-append, length-set, List·getD-append}
+use lib.ListN.{length, getD, length-append, length-set, List·getD-append}
 use lib.Seq.{getD-append-add, getD-set-same, getD-set-other}
 use lib.Dec.{T, eqb}
 use Rattle.files.specs.declared.Phy.{Phy}
@@ -15,7 +15,7 @@ use Rattle.files.specs.declared.Phy.the-variants.{Vacant}
 use Rattle.files.specs.Domain.{Expander, Domain, noExpander, expanderAt, phyAt, hasAttribute, numberOf}
 use Rattle.files.specs.PhyReplaced.{withPhy, setPhy}
 use Rattle.wiring.specs.graph.Devices.{Borne}
-use Rattle.files.proofs.Domains.{numberOf-is, attribute-range, expander-range}
+use Rattle.files.proofs.Domains.{numberOf-is, number-set, attribute-range, expander-range}
 use Rattle.benches.specs.JoinConditions.{Free, Joinable}
 use Rattle.benches.specs.Joined.{cabledTo, joined}
 
@@ -37,12 +37,6 @@ pub record Part (d e : Domain) (k i p s q : ℕ) : Type 0 where
   pub free : Free d i p
   pub foreign : ¬ (Borne d s)
   pub numbers : (t : ℕ) → numberOf d t < length d → numberOf e t ≡ k + numberOf d t
-
-number-set : (d : Domain) (i : ℕ) (e : Expander) (t : ℕ) → e .address ≡ expanderAt d i .address → numberOf (set d i e) t ≡ numberOf d t
-unfolding numberOf
-number-set [] i e t h = refl
-number-set (x ∷ d) zero e t h = ap (λ (n : ℕ). cond (eqb n t) 0 (suc (numberOf d t))) h
-number-set (x ∷ d) (suc i) e t h = ap (λ n. cond (eqb (x .address) t) 0 (suc n)) (number-set d i e t h)
 
 number-with : (d : Domain) (i p : ℕ) (φ : Phy) (t : ℕ) → numberOf (setPhy d i p φ) t ≡ numberOf d t
 unfolding setPhy withPhy

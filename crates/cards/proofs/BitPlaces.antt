@@ -1,11 +1,12 @@
 -- Numbers of several bits at a place: read by bytes, put bit by bit; what was put comes back, and what stands elsewhere stays.
 use Prim.Native.Nat.{ℕ, zero, suc, _+_, _*_, _/_, _%_, _-_, _^_, _≤_, _<_}
 use mathlib.Core.Path.{_≡_, refl, sym, _∙_, ap, subst}
-use mathlib.Core.List.{List, [], _∷_, _++_, append-assoc}
+use mathlib.Core.Logic.{inl, inr}
+use mathlib.Core.List.{List, [], _∷_, _++_}
 use native.Mathlib.Omega.{arith}
 use native.Mathlib.Nat.{add-zero, mod-eq-of-lt}
 use lib.ListN.{length, getD, take, drop, set}
-use lib.Seq.{sets, sets-eq, getD-set-other, getD-drop, drop-drop, drop-at, length-take-le, set-out}
+use lib.Seq.{sets, getD-drop, drop-drop, drop-at, length-take-le, set-out}
 use lib.Pow.{pow-pos, shl-shr, low, mod-pow-add}
 use Rattle.frames.specs.Bytes.{byte, numberAt}
 use Rattle.frames.specs.Bits.{numberBits, field, bitsOf}
@@ -13,6 +14,7 @@ use Rattle.frames.proofs.PackedBits.{Bits, length-numberBits, length-bitsOf, fi
 use Rattle.frames.proofs.DisableBits.{field-none}
 use Rattle.frames.proofs.NumberBits.{field-back, field-lt, field-split, field-high, field-low}
 use Rattle.frames.proofs.PackedRows.{Bytes, bits-bitsOf, bitsOf-drop}
+use Rattle.frames.proofs.ValuesPut.{sets-parts, sets-stay}
 
 -- the bits of bytes from a place on
 abbrev from : List ℕ → ℕ → List ℕ
@@ -138,18 +140,9 @@ put-start s at width x = let a : at + 0 ≡ at = omega arith in let b : width - 
 pub put-back : (l : List ℕ) (at w x : ℕ) → at + w ≤ length l → field w (drop at (sets l at (numberBits w x))) ≡ x % 2 ^ w
 put-back l at w x h =
     let n = length-numberBits w x in
-    let e = sets-eq (numberBits w x) l at (omega arith) ∙ append-assoc (take at l) (numberBits w x) (drop (at + length (numberBits w x)) l) in
+    let e = sets-parts l at (numberBits w x) (omega arith) in
     let d : drop at (sets l at (numberBits w x)) ≡ numberBits w x ++ drop (at + length (numberBits w x)) l = ap (drop at) e ∙ drop-at (take at l) _ at (length-take-le at l (omega arith)) in
     ap (field w) d ∙ field-back w x (drop (at + length (numberBits w x)) l)
-
--- bits elsewhere stay
-bit-before : (l : List ℕ) (i : ℕ) (vs : List ℕ) (k : ℕ) → k < i → getD (sets l i vs) k 0 ≡ getD l k 0
-bit-before l i [] k h = refl
-bit-before l i (v ∷ vs) k h = bit-before _ (suc i) vs k (omega arith) ∙ getD-set-other l i k v 0 (λ e. omega arith)
-
-bit-after : (l : List ℕ) (i : ℕ) (vs : List ℕ) (k : ℕ) → i + length vs ≤ k → getD (sets l i vs) k 0 ≡ getD l k 0
-bit-after l i [] k h = refl
-bit-after l i (v ∷ vs) k h = bit-after _ (suc i) vs k (omega arith) ∙ getD-set-other l i k v 0 (λ e. omega arith)
 
 -- a number goes by its bits
 field-same : (w : ℕ) (l m : List ℕ) → ((k : ℕ) → k < w → getD l k 0 ≡ getD m k 0) → field w l ≡ field w m
@@ -161,7 +154,7 @@ field-same (suc w) l m h =
 
 -- numbers elsewhere stay
 pub number-before : (l : List ℕ) (i : ℕ) (vs : List ℕ) (at w : ℕ) → at + w ≤ i → field w (drop at (sets l i vs)) ≡ field w (drop at l)
-number-before l i vs at w h = field-same w _ _ (λ k j. getD-drop at (sets l i vs) k 0 ∙ bit-before l i vs (at + k) (omega arith) ∙ sym (getD-drop at l k 0))
+number-before l i vs at w h = field-same w _ _ (λ k j. getD-drop at (sets l i vs) k 0 ∙ sets-stay vs l i (at + k) 0 (inl (omega arith)) ∙ sym (getD-drop at l k 0))
 
 pub number-after : (l : List ℕ) (i : ℕ) (vs : List ℕ) (at w : ℕ) → i + length vs ≤ at → field w (drop at (sets l i vs)) ≡ field w (drop at l)
-number-after l i vs at w h = field-same w _ _ (λ k j. getD-drop at (sets l i vs) k 0 ∙ bit-after l i vs (at + k) (omega arith) ∙ sym (getD-drop at l k 0))
+number-after l i vs at w h = field-same w _ _ (λ k j. getD-drop at (sets l i vs) k 0 ∙ sets-stay vs l i (at + k) 0 (inr (omega arith)) ∙ sym (getD-drop at l k 0))

@@ -20,6 +20,7 @@ use Rattle.files.specs.Domain.{Domain}
 use Rattle.files.specs.ReadDomain.{Read}
 use Rattle.files.specs.File.{domainRead}
 use Rattle.files.specs.Rows.{rowsOf, domainIn}
+use Rattle.frames.proofs.ValuesPut.{sets-front}
 use Rattle.wiring.proofs.FileRows.{Roomy}
 use Rattle.files.proofs.ReadDomain.{read-good}
 use Rattle.files.proofs.RowsRoundTrip.{length-rowsOf, domain-back}
@@ -33,7 +34,6 @@ use Rattle.cards.proofs.CardRoundTrip.{size-card}
 use Rattle.cards.proofs.CardDomain.{card-is, count-expanders}
 use Rattle.cards.proofs.RowPuts.{domain-on}
 use Rattle.cards.proofs.ReadDomainsFit.{legal-read, legal-fits}
-use Rattle.tables.proofs.events.BitsReplaced.{sets-front}
 
 -- what was made did not fit, or it fitted
 pub not-fitted : (new before : List ℕ) (answer : Made) → length before < length new → madeAnswer answer ≡ refused (refusal 16 0 0) → MadeDone (fitting (length before) new) answer before before

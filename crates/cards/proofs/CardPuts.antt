@@ -10,7 +10,8 @@ use lib.Dec.{eqb}
 use borrow.Author.Tests.{eq-eqb, ne-eqb}
 use Rattle.frames.specs.Bits.{numberBits, bitsOf, bytesFor}
 use Rattle.frames.proofs.PackedBits.{length-numberBits, length-bitsOf, length-packedIn}
-use Rattle.frames.proofs.PackedRows.{Bytes, sets-append, unpacked, bitsOf-append, bitsOf-drop, same-bits, bytes-packedIn}
+use Rattle.frames.proofs.PackedRows.{Bytes, unpacked, bitsOf-append, bitsOf-drop, same-bits, bytes-packedIn}
+use Rattle.frames.proofs.ValuesPut.{sets-front, sets-then}
 use Rattle.files.specs.declared.Phy.{Phy}
 use Rattle.files.specs.declared.Phy.the-variants.{Vacant, Present}
 use Rattle.files.specs.declared.PhyFields.{PhyFields}
@@ -19,11 +20,6 @@ use Rattle.files.proofs.OneMore.{drop-next}
 use Rattle.cards.specs.Card.{phyBits, physBits, headBits, expandersBits, cardBits, cardOf, presentSize, phySize, physSize, expandersSize, cardSize}
 use Rattle.cards.proofs.CardRoundTrip.{size-phy, size-phys, length-head, size-expanders, size-card, bits-card}
 use Rattle.cards.proofs.CardDomain.{zero-bits}
-use Rattle.tables.proofs.events.BitsReplaced.{sets-front}
-
--- one put after another
-pub puts : (l m n : List ℕ) (i j : ℕ) (vs us : List ℕ) → m ≡ sets l i vs → n ≡ sets m j us → j ≡ i + length vs → n ≡ sets l i (vs ++ us)
-puts l m n i j vs us e f k = f ∙ rw (e, k) (sym (sets-append l i vs us))
 
 pub size-more : (f : PhyFields) → (f .deviceType ≡ 0 → ⊥) → phySize (Present f) ≡ 78
 size-more f e = rw (ne-eqb (f .deviceType) 0 e)
@@ -36,8 +32,8 @@ module _ (f : PhyFields) (at : ℕ) (l l1 l2 l3 : List ℕ) (a : l1 ≡ sets l a
   front : l3 ≡ sets l at (numberBits 1 1 ++ (numberBits 3 (f .deviceType) ++ numberBits 2 (f .attribute)))
   front =
       let n = length-numberBits 3 (f .deviceType) in
-      let p = puts l l1 l2 at (at + 1) (numberBits 1 1) (numberBits 3 (f .deviceType)) a b (omega (arith, length-numberBits 1 1)) in
-      puts l l2 l3 at (at + 4) (numberBits 1 1 ++ numberBits 3 (f .deviceType)) (numberBits 2 (f .attribute)) p c (omega (arith, length-append (numberBits 1 1) (numberBits 3 (f .deviceType)), length-numberBits 1 1))
+      let p = sets-then l l1 l2 at (at + 1) (numberBits 1 1) (numberBits 3 (f .deviceType)) a b (omega (arith, length-numberBits 1 1)) in
+      sets-then l l2 l3 at (at + 4) (numberBits 1 1 ++ numberBits 3 (f .deviceType)) (numberBits 2 (f .attribute)) p c (omega (arith, length-append (numberBits 1 1) (numberBits 3 (f .deviceType)), length-numberBits 1 1))
       ∙ ap (sets l at) (append-assoc (numberBits 1 1) (numberBits 3 (f .deviceType)) (numberBits 2 (f .attribute)))
 
   pub present-none : f .deviceType ≡ 0 → l3 ≡ sets l at (phyBits (Present f))
@@ -55,15 +51,15 @@ module _ (f : PhyFields) (at : ℕ) (l l1 l2 l3 : List ℕ) (a : l1 ≡ sets l a
       let n′ = length-numberBits 2 (f .attribute) in
       let s = length-numberBits 64 (f .address) in
       let k : length w ≡ 6 = omega (arith, length-append (numberBits 1 1) (numberBits 3 (f .deviceType) ++ numberBits 2 (f .attribute)), length-append (numberBits 3 (f .deviceType)) (numberBits 2 (f .attribute)), length-numberBits 1 1) in
-      let p = puts l l3 l4 at (at + 6) w (numberBits 64 (f .address)) front d (omega arith) in
-      puts l l4 l5 at (at + 70) (w ++ numberBits 64 (f .address)) (numberBits 8 (f .attachedPhy .0)) p e (omega (arith, length-append w (numberBits 64 (f .address)))) ∙ ap (sets l at) all
+      let p = sets-then l l3 l4 at (at + 6) w (numberBits 64 (f .address)) front d (omega arith) in
+      sets-then l l4 l5 at (at + 70) (w ++ numberBits 64 (f .address)) (numberBits 8 (f .attachedPhy .0)) p e (omega (arith, length-append w (numberBits 64 (f .address)))) ∙ ap (sets l at) all
     where
       all : ((numberBits 1 1 ++ (numberBits 3 (f .deviceType) ++ numberBits 2 (f .attribute))) ++ numberBits 64 (f .address)) ++ numberBits 8 (f .attachedPhy .0) ≡ phyBits (Present f)
       all = rw (ne-eqb (f .deviceType) 0 z) (spelled (f .deviceType) (f .attribute) (f .address) (f .attachedPhy .0))
 
 pub vacant-put : (r at : ℕ) (l l1 l2 : List ℕ) → l1 ≡ sets l at (numberBits 1 0) → l2 ≡ sets l1 (at + 1) (numberBits 8 r) → l2 ≡ sets l at (phyBits (Vacant r))
 unfolding numberBits
-vacant-put r at l l1 l2 a b = puts l l1 l2 at (at + 1) (numberBits 1 0) (numberBits 8 r) a b (omega (arith, length-numberBits 1 0))
+vacant-put r at l l1 l2 a b = sets-then l l1 l2 at (at + 1) (numberBits 1 0) (numberBits 8 r) a b (omega (arith, length-numberBits 1 0))
 
 -- the first 88 bits of an expander
 pub head-put : (e : Expander) (at : ℕ) (l l1 l2 l3 l4 : List ℕ) → l1 ≡ sets l at (numberBits 64 (e .address)) → l2 ≡ sets l1 (at + 64) (numberBits 16 (e .routeIndexes))
@@ -75,9 +71,9 @@ head-put e at l l1 l2 l3 l4 a b c d =
     let n = length-numberBits 64 (e .address) in
     let m = length-numberBits 16 (e .routeIndexes) in
     let k = length-numberBits 1 (e .configurable) in
-    let p = puts l l1 l2 at (at + 64) x y a b (omega arith) in
-    let q = puts l l2 l3 at (at + 80) (x ++ y) z p c (omega (arith, length-append x y)) in
-    puts l l3 l4 at (at + 81) ((x ++ y) ++ z) (numberBits 7 (length (e .phys) - 1)) q d (omega (arith, length-append (x ++ y) z, length-append x y))
+    let p = sets-then l l1 l2 at (at + 64) x y a b (omega arith) in
+    let q = sets-then l l2 l3 at (at + 80) (x ++ y) z p c (omega (arith, length-append x y)) in
+    sets-then l l3 l4 at (at + 81) ((x ++ y) ++ z) (numberBits 7 (length (e .phys) - 1)) q d (omega (arith, length-append (x ++ y) z, length-append x y))
     ∙ ap (sets l at) (append-assoc (x ++ y) z (numberBits 7 (length (e .phys) - 1)) ∙ append-assoc x y (z ++ numberBits 7 (length (e .phys) - 1)))
 
 pub sizes-next : (φs : List Phy) (p : ℕ) → p < length φs → physSize (drop p φs) ≡ phySize (getD φs p (Vacant 0)) + physSize (drop (p + 1) φs)
@@ -103,10 +99,8 @@ unfolding physBits
 phys-turn φs p at l l′ v h inv e =
     let φ : Phy = getD φs p (Vacant 0) in
     let s : List ℕ = physBits (drop (p + 1) φs) in
-    let w : sets l at (physBits (drop p φs)) ≡ sets l at (phyBits φ ++ s) = ap (λ (m : List Phy). sets l at (physBits m)) (drop-next (Vacant 0) φs p h) in
-    let x = sets-append l at (phyBits φ) s in
-    let y : at + length (phyBits φ) ≡ at + phySize φ = ap (λ (n : ℕ). at + n) (size-phy φ) in
-    rw e (ap (λ (n : ℕ). sets (sets l at (phyBits φ)) n s) (sym y) ∙ sym x ∙ sym w ∙ inv)
+    sets-then l l′ (sets l′ (at + phySize φ) s) at (at + phySize φ) (phyBits φ) s e refl (omega (arith, size-phy φ))
+    ∙ sym (ap (λ (m : List Phy). sets l at (physBits m)) (drop-next (Vacant 0) φs p h)) ∙ inv
 
 pub phys-end : (φs : List Phy) (p at : ℕ) (l v : List ℕ) → length φs ≤ p → sets l at (physBits (drop p φs)) ≡ v → l ≡ v
 unfolding physBits
@@ -137,9 +131,9 @@ expanders-turn d i at at′ l m l′ v h inv e f k =
     let x : Expander = expanderAt d i in
     let s : List ℕ = expandersBits (drop (i + 1) d) in
     let w : sets l at (expandersBits (drop i d)) ≡ sets l at (headBits x ++ (physBits (x .phys) ++ s)) = ap (λ (n : Domain). sets l at (expandersBits n)) (drop-next noExpander d i h) in
-    let p = puts l m l′ at (at + 88) (headBits x) (physBits (x .phys)) e f (omega (arith, length-head x)) in
+    let p = sets-then l m l′ at (at + 88) (headBits x) (physBits (x .phys)) e f (omega (arith, length-head x)) in
     let n : at′ ≡ at + length (headBits x ++ physBits (x .phys)) = omega (arith, length-append (headBits x) (physBits (x .phys)), length-head x, size-phys (x .phys)) in
-    puts l l′ (sets l′ at′ s) at at′ (headBits x ++ physBits (x .phys)) s p refl n
+    sets-then l l′ (sets l′ at′ s) at at′ (headBits x ++ physBits (x .phys)) s p refl n
     ∙ ap (sets l at) (append-assoc (headBits x) (physBits (x .phys)) s) ∙ sym w ∙ inv
 
 pub expanders-end : (d : Domain) (i at : ℕ) (l v : List ℕ) → length d ≤ i → sets l at (expandersBits (drop i d)) ≡ v → l ≡ v
@@ -174,13 +168,13 @@ card-put d s s1 s2 s3 s4 s5 k at fill b b′ h e f g p1 p2 p3 p4 p5 =
     let nz = length-numberBits 6 0 in
     let nx = size-expanders d in
     let c : ℕ = bytesFor (cardSize d) in
-    let q2 : bitsOf s2 ≡ sets (bitsOf s) 0 (v ++ n) = puts (bitsOf s) (bitsOf s1) (bitsOf s2) 0 4 v n p1 (p2 ∙ ap (λ (m : ℕ). sets (bitsOf s1) 4 (numberBits 6 m)) e) (omega arith) in
-    let q3 : bitsOf s3 ≡ sets (bitsOf s) 0 ((v ++ n) ++ z) = puts (bitsOf s) (bitsOf s2) (bitsOf s3) 0 10 (v ++ n) z q2 p3 (omega (arith, length-append v n)) in
-    let q4 : bitsOf s4 ≡ sets (bitsOf s) 0 (((v ++ n) ++ z) ++ x) = puts (bitsOf s) (bitsOf s3) (bitsOf s4) 0 16 ((v ++ n) ++ z) x q3 p4 (omega (arith, length-append (v ++ n) z, length-append v n)) in
+    let q2 : bitsOf s2 ≡ sets (bitsOf s) 0 (v ++ n) = sets-then (bitsOf s) (bitsOf s1) (bitsOf s2) 0 4 v n p1 (p2 ∙ ap (λ (m : ℕ). sets (bitsOf s1) 4 (numberBits 6 m)) e) (omega arith) in
+    let q3 : bitsOf s3 ≡ sets (bitsOf s) 0 ((v ++ n) ++ z) = sets-then (bitsOf s) (bitsOf s2) (bitsOf s3) 0 10 (v ++ n) z q2 p3 (omega (arith, length-append v n)) in
+    let q4 : bitsOf s4 ≡ sets (bitsOf s) 0 (((v ++ n) ++ z) ++ x) = sets-then (bitsOf s) (bitsOf s3) (bitsOf s4) 0 16 ((v ++ n) ++ z) x q3 p4 (omega (arith, length-append (v ++ n) z, length-append v n)) in
     let w : ((v ++ n) ++ z) ++ x ≡ cardBits d = card-bits d in
     let l = size-card d in
     let q4′ : bitsOf s4 ≡ sets (bitsOf s) 0 (cardBits d) = q4 ∙ ap (sets (bitsOf s) 0) w in
-    let q5 : bitsOf s5 ≡ sets (bitsOf s) 0 (cardBits d ++ numberBits fill 0) = puts (bitsOf s) (bitsOf s4) (bitsOf s5) 0 at (cardBits d) (numberBits fill 0) q4′ p5 (omega arith) in
+    let q5 : bitsOf s5 ≡ sets (bitsOf s) 0 (cardBits d ++ numberBits fill 0) = sets-then (bitsOf s) (bitsOf s4) (bitsOf s5) 0 at (cardBits d) (numberBits fill 0) q4′ p5 (omega arith) in
     let o : numberBits fill 0 ≡ replicate (8 * bytesFor (length (cardBits d)) - length (cardBits d)) 0 = zero-bits fill ∙ ap (λ (m : ℕ). replicate m 0) (g ∙ ap (λ (m : ℕ). 8 * bytesFor m - m) (sym l)) in
     let u : bitsOf (cardOf d) ≡ cardBits d ++ replicate (8 * bytesFor (length (cardBits d)) - length (cardBits d)) 0 = unpacked (bytesFor (length (cardBits d))) (cardBits d) (bits-card d) (omega arith) in
     let q6 : bitsOf s5 ≡ sets (bitsOf s) 0 (bitsOf (cardOf d)) = q5 ∙ ap (λ (m : List ℕ). sets (bitsOf s) 0 (cardBits d ++ m)) o ∙ ap (sets (bitsOf s) 0) (sym u) in

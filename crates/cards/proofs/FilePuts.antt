@@ -9,6 +9,7 @@ use Rattle.frames.specs.Bytes.{bytesOf, atFront}
 use Rattle.cards.specs.ShortFrames.{shortGeneral}
 use Rattle.frames.specs.declared.General.{General}
 use Rattle.frames.proofs.ByteNumbers.{length-bytesOf, front-room}
+use Rattle.frames.proofs.ValuesPut.{sets-front, sets-then, sets-mid, sets-mid-then}
 use Rattle.cards.proofs.ShortFrames.{length-general}
 use Rattle.files.specs.declared.Phy.{Phy}
 use Rattle.files.specs.declared.Phy.the-variants.{Vacant}
@@ -16,9 +17,6 @@ use Rattle.files.specs.Domain.{Expander, Domain, noExpander, expanderAt}
 use Rattle.files.proofs.OneMore.{drop-next}
 use Rattle.cards.specs.FileOf.{generalOf, phyFrame, physFrames, unitHead, unitsOf, fileOf}
 use Rattle.cards.proofs.FileRoundTrip.{length-phy, length-frames, length-head}
-use Rattle.cards.proofs.CardPuts.{puts}
-use Rattle.cards.proofs.RowPuts.{mid-sets}
-use Rattle.tables.proofs.events.BitsReplaced.{sets-front}
 
 -- a frame written at the front of a part that it fills
 pub front-whole : (new before : List ℕ) → length before ≡ length new → atFront new before ≡ new
@@ -32,11 +30,11 @@ unfolding unitHead
 head-put e s s1 s2 r1 r2 to k1 k2 ownAddress g h n qo qg q1 e1 f1 q2 e2 f2 =
     let l1 : length r1 ≡ k1 = ap length e1 ∙ length-bytesOf 8 ownAddress ∙ sym q1 in
     let l2 : length r2 ≡ k2 = ap length e2 ∙ length-general g ∙ sym q2 in
-    let p1 : s1 ≡ sets s to r1 = f1 ∙ mid-sets s r1 to k1 l1 (omega arith) in
-    let p2 : s2 ≡ sets s1 (to + 8) r2 = f2 ∙ mid-sets s1 r2 (to + 8) k2 l2 (omega arith) in
+    let p1 : s1 ≡ sets s to r1 = f1 ∙ sets-mid s r1 to k1 l1 (omega arith) in
+    let p2 : s2 ≡ sets s1 (to + 8) r2 = f2 ∙ sets-mid s1 r2 (to + 8) k2 l2 (omega arith) in
     let a : r1 ≡ bytesOf 8 (e .address) = e1 ∙ ap (bytesOf 8) qo in
     let b : r2 ≡ shortGeneral (generalOf e) = e2 ∙ ap shortGeneral qg in
-    puts s s1 s2 to (to + 8) r1 r2 p1 p2 (omega arith) ∙ ap (λ (m : List ℕ). sets s to (m ++ r2)) a ∙ ap (λ (m : List ℕ). sets s to (bytesOf 8 (e .address) ++ m)) b
+    sets-then s s1 s2 to (to + 8) r1 r2 p1 p2 (omega arith) ∙ ap (λ (m : List ℕ). sets s to (m ++ r2)) a ∙ ap (λ (m : List ℕ). sets s to (bytesOf 8 (e .address) ++ m)) b
 
 pub frames-go : (φs : List Phy) (s v r : List ℕ) (ownAddress o p to a k : ℕ) (φ : Phy) → p < length φs → to + 52 * length φs ≤ length s → o ≡ ownAddress → φ ≡ getD φs p (Vacant 0)
     → sets s (to + 52 * p) (physFrames ownAddress p (drop p φs)) ≡ v → a ≡ to + 52 * p → k ≡ 52 → r ≡ phyFrame o p φ
@@ -47,9 +45,8 @@ frames-go φs s v r ownAddress o p to a k φ h m qo qφ inv qa qk qr =
     let n : length f ≡ 52 = length-phy ownAddress p (getD φs p (Vacant 0)) in
     let e : r ≡ f = qr ∙ ap (λ (x : ℕ). phyFrame x p φ) qo ∙ ap (phyFrame ownAddress p) qφ in
     let lr : length r ≡ k = ap length e ∙ n ∙ sym qk in
-    let t : take a s ++ (r ++ drop k (drop a s)) ≡ sets s (to + 52 * p) f = mid-sets s r a k lr (omega arith) ∙ ap (λ (x : ℕ). sets s x r) qa ∙ ap (sets s (to + 52 * p)) e in
     let rest : List ℕ = physFrames ownAddress (p + 1) (drop (p + 1) φs) in
-    puts s _ (sets (take a s ++ (r ++ drop k (drop a s))) (to + 52 * (p + 1)) rest) (to + 52 * p) (to + 52 * (p + 1)) f rest t refl (omega arith)
+    sets-mid-then s r rest (to + 52 * p) (to + 52 * (p + 1)) a k qa lr (omega arith) (omega arith) ∙ ap (λ (x : List ℕ). sets s (to + 52 * p) (x ++ rest)) e
     ∙ sym (ap (λ (x : List Phy). sets s (to + 52 * p) (physFrames ownAddress p x)) (drop-next (Vacant 0) φs p h)) ∙ inv
 
 pub frames-end : (φs : List Phy) (s v : List ℕ) (ownAddress p to : ℕ) → length φs ≤ p → sets s to (physFrames ownAddress p (drop p φs)) ≡ v → s ≡ v
@@ -80,8 +77,8 @@ units-go d i to s s1 s2 v n h qn inv e1 e2 =
     let r : List ℕ = unitsOf (drop (i + 1) d) in
     let lf = length-head e in
     let lg = length-frames (e .address) 0 (e .phys) in
-    let p = puts s s1 s2 to (to + 36) f g e1 e2 (omega arith) in
-    puts s s2 (sets s2 (to + (36 + 52 * n)) r) to (to + (36 + 52 * n)) (f ++ g) r p refl (omega (arith, length-append f g))
+    let p = sets-then s s1 s2 to (to + 36) f g e1 e2 (omega arith) in
+    sets-then s s2 (sets s2 (to + (36 + 52 * n)) r) to (to + (36 + 52 * n)) (f ++ g) r p refl (omega (arith, length-append f g))
     ∙ ap (sets s to) (append-assoc f g r) ∙ sym (ap (λ (x : Domain). sets s to (unitsOf x)) (drop-next noExpander d i h)) ∙ inv
 
 pub units-end : (d : Domain) (i to : ℕ) (s v : List ℕ) → length d ≤ i → sets s to (unitsOf (drop i d)) ≡ v → s ≡ v

@@ -1,15 +1,16 @@
 -- Walking through a card: one phy more, one expander more, and the ends.
-use Prim.Native.Nat.{ℕ, zero, suc, _+_, _-_, _*_, _≤_, _<_}
-use mathlib.Core.Path.{_≡_, refl, sym, _∙_, ap}
-use mathlib.Core.Bool.{Bool, true, false, cond, _&&_, and-true}
-use mathlib.Core.List.{List, [], _∷_, _++_, append-assoc}
+use Prim.Native.Nat.{ℕ, suc, _+_, _-_, _*_, _≤_, _<_}
+use mathlib.Core.Path.{_≡_, sym, _∙_, ap}
+use mathlib.Core.Bool.{Bool, true, cond, _&&_, and-true, and-assoc}
+use mathlib.Core.List.{List, [], _∷_, _++_}
 use native.Mathlib.Omega.{arith}
-use lib.ListN.{length, take, drop, set, replicate, length-replicate}
-use lib.Seq.{sets, sets-eq, drop-drop}
+use lib.ListN.{length, take, drop, set, replicate}
+use lib.Seq.{sets, drop-drop}
 use lib.Dec.{eqb, leb}
 use Rattle.frames.specs.Bits.{field}
 use Rattle.frames.specs.Refusals.{Result, unless, then, refusal}
 use Rattle.frames.proofs.PackedBits.{Bits, bits-drop}
+use Rattle.frames.proofs.ValuesPut.{sets-mid-then}
 use Rattle.files.specs.declared.Setting.{Setting}
 use Rattle.files.specs.declared.ExpanderUnit.{ExpanderUnit}
 use Rattle.files.specs.declared.Phy.{Phy}
@@ -18,26 +19,15 @@ use Rattle.wiring.specs.declared.Check.the-variants.{Passed as AllPassed}
 use Rattle.files.specs.Domain.{Expander, Domain, addressOf}
 use Rattle.files.specs.File.{unitTested}
 use Rattle.files.specs.Rows.{phyWord, phyWords, headWord, rowOf, rowsOf}
-use Rattle.files.proofs.RowFilling.{length-phyWords, length-rowOf}
+use Rattle.files.proofs.RowFilling.{length-phyWords, length-rowOf, stored-in-zeros}
 use Rattle.cards.specs.declared.PhysWalk.{PhysWalk}
 use Rattle.cards.specs.Card.{phySize, physSize, expandersSize, cardSize, phyOn, physOn, unitOn, expanderOn, expandersOn, domainOn}
 use Rattle.cards.specs.CardRead.{resultFine, resultsFine, allFine, phyRanged, unitsTested}
 use Rattle.cards.specs.CardWalks.{rangedCount, afterCheck, PhysStored, RowStored, CardStored}
 use Rattle.frames.proofs.NumberBits.{field-lt}
 use Rattle.cards.proofs.CardDomain.{count-phys, phys-in}
-use Rattle.cards.proofs.CardPuts.{puts}
 use Rattle.cards.proofs.CardPlaces.{next-phys, no-phys, next-expanders, no-expanders, sizes-few}
 use Rattle.cards.proofs.CardChecks.{ranged-go, ranged-end, tests-go}
-
--- a part of a list written, as stores
-pub mid-sets : (s r : List ℕ) (a k : ℕ) → length r ≡ k → a + k ≤ length s → take a s ++ (r ++ drop k (drop a s)) ≡ sets s a r
-mid-sets s r a k e h =
-    let d : drop k (drop a s) ≡ drop (a + length r) s = drop-drop k a s ∙ ap (λ (n : ℕ). drop (a + n) s) (sym e) in
-    ap (λ (m : List ℕ). take a s ++ (r ++ m)) d ∙ sym (sets-eq r s a (omega arith) ∙ append-assoc (take a s) r (drop (a + length r) s))
-
-and-assoc : (a b c : Bool) → ((a && b) && c) ≡ (a && (b && c))
-and-assoc true b c = refl
-and-assoc false b c = refl
 
 -- one phy more, and the end
 module _ (l : List ℕ) (n p at : ℕ) where
@@ -81,18 +71,6 @@ module _ (l : List ℕ) (n p at : ℕ) where
   count-end r v inv h = ranged-end r p v (sym (ap (λ (φs : List Phy). cond (eqb r p) (p + rangedCount φs) r) (no-phys l at n p h)) ∙ inv)
 
 -- an expander's row
-drop-zeros : (k n : ℕ) → drop {A = ℕ} k (replicate n 0) ≡ replicate (n - k) 0
-drop-zeros zero n = let e : n - 0 ≡ n = omega arith in rw e
-drop-zeros (suc k) zero = let e : 0 - suc k ≡ 0 = omega arith in rw e
-drop-zeros (suc k) (suc n) = let e : suc n - suc k ≡ n - k = omega arith in rw e (drop-zeros k n)
-
-pub row-words : (l : List ℕ) (a w : ℕ) (ws : List ℕ) → l ≡ replicate 258 0 → length ws ≤ 256 → sets (set (set l 0 a) 1 w) 2 ws ≡ a ∷ w ∷ (ws ++ replicate (256 - length ws) 0)
-row-words l a w ws q h =
-    let z = drop-zeros (length ws) 256 in
-    let n = length-replicate {A = ℕ} 256 0 in
-    let e : 2 + length ws ≡ suc (suc (length ws)) = omega arith in
-    ap (λ (m : List ℕ). sets (set (set m 0 a) 1 w) 2 ws) q ∙ sets-eq ws (a ∷ w ∷ replicate 256 0) 2 (omega arith) ∙ rw (e, z)
-
 pub row-made : (l : List ℕ) (at : ℕ) (row before after : List ℕ) (u : ExpanderUnit) (w : ℕ) (walk : PhysWalk) → u ≡ unitOn (drop at l) → u .phys ≤ 128 → w ≡ headWord (u .routeIndexes) (u .phys) (u .configurable)
     → row ≡ replicate 258 0 → before ≡ set (set row 0 (u .address)) 1 w → PhysStored (physOn (u .phys) (drop (at + 88) l)) (at + 88) walk before after → RowStored (expanderOn (drop at l)) at walk after
 unfolding rowOf expanderOn
@@ -107,7 +85,7 @@ row-made l at row before after u w walk qu h qw qr qb s =
     let a : u .address ≡ field 64 m = ap (λ (x : ExpanderUnit). x .address) qu in
     let d = ap (λ (x : List Phy). physSize x) p in
     record {
-      words = s .words ∙ ap (λ (x : List ℕ). sets x 2 (phyWords (physOn (u .phys) (drop (at + 88) l)))) qb ∙ ap (λ (x : List Phy). sets (set (set row 0 (u .address)) 1 w) 2 (phyWords x)) p ∙ row-words row (u .address) w (phyWords φs) qr (omega arith)
+      words = s .words ∙ ap (λ (x : List ℕ). sets x 2 (phyWords (physOn (u .phys) (drop (at + 88) l)))) qb ∙ ap (λ (x : List Phy). sets (set (set row 0 (u .address)) 1 w) 2 (phyWords x)) p ∙ stored-in-zeros row (u .address) w (phyWords φs) qr (omega arith)
           ∙ ap (λ (x : ℕ). x ∷ w ∷ (phyWords φs ++ replicate (256 - length (phyWords φs)) 0)) a ∙ ap (λ (x : ℕ). field 64 m ∷ x ∷ (phyWords φs ++ replicate (256 - length (phyWords φs)) 0)) v;
       place = omega (arith, s .place);
       results = s .results ∙ ap resultsFine p;
@@ -158,13 +136,11 @@ module _ (most : Setting) (l before : List ℕ) (d : Domain) (n i at : ℕ) (row
       next-expanders l at n i g ∙ ap (λ (x : ℕ). expanderOn (drop at l) ∷ expandersOn (n - (i + 1)) (drop x l)) (sym (s .place)) in
       let c : length (expanderOn (drop at l) .phys) ≤ 128 = phys-few l at b in
       let lr : length r ≡ 258 = ap length (s .words) ∙ length-rowOf (expanderOn (drop at l)) c in
-      let t : take a rows ++ (r ++ drop k (drop a rows)) ≡ sets rows (258 * i) (rowOf (expanderOn (drop at l))) =
-      mid-sets rows r a k (omega arith) (omega arith) ∙ ap (λ (x : ℕ). sets rows x r) qa ∙ ap (sets rows (258 * i)) (s .words) in
       let ps = ap expandersSize w in
       let z = sizes-few (expanderOn (drop at l) .phys) in (
         record {
-          words = puts rows _ (sets (take a rows ++ (r ++ drop k (drop a rows))) (258 * (i + 1)) (rowsOf (expandersOn (n - (i + 1)) (drop (walk .next) l)))) (258 * i) (258 * (i + 1)) (rowOf (expanderOn (drop at l))) (rowsOf (expandersOn (n - (i + 1)) (drop (walk .next) l)))
-              t refl (omega (arith, length-rowOf (expanderOn (drop at l)) c)) ∙ sym (ap (λ (x : Domain). sets rows (258 * i) (rowsOf x)) w) ∙ inv .words;
+          words = sets-mid-then rows r (rowsOf (expandersOn (n - (i + 1)) (drop (walk .next) l))) (258 * i) (258 * (i + 1)) a k qa (omega arith) (omega arith) (omega arith)
+              ∙ ap (λ (x : List ℕ). sets rows (258 * i) (x ++ rowsOf (expandersOn (n - (i + 1)) (drop (walk .next) l)))) (s .words) ∙ sym (ap (λ (x : Domain). sets rows (258 * i) (rowsOf x)) w) ∙ inv .words;
           place = omega (arith, inv .place, s .place);
           results = ap (λ (x : Bool). (fine && x) && allFine (expandersOn (n - (i + 1)) (drop (walk .next) l))) (s .results)
               ∙ and-assoc fine (resultsFine (expanderOn (drop at l) .phys)) (allFine (expandersOn (n - (i + 1)) (drop (walk .next) l))) ∙ sym (ap (λ (x : Domain). fine && allFine x) w) ∙ inv .results;

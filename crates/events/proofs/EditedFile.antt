@@ -1,14 +1,14 @@
 -- The edited file reads as the edited domain: every unit but the one named has the bytes that it had, and ends where it ended.
 use mathlib.Core.Path.{_≡_, refl, sym, ap, ap₂, subst, _∙_}
 use mathlib.Core.Logic.{_⊎_, inl, inr, ⊎-elim, _≢_, by-cases}
-use mathlib.Core.List.{List, [], _∷_, _++_, append-assoc}
+use mathlib.Core.List.{List, [], _∷_, _++_}
 use mathlib.Core.Bool.{Bool, true, false, cond, not, _||_, _&&_}
 use Prim.Native.Nat.{ℕ, zero, suc, _+_, _*_, _-_, _/_, _%_, _^_, _≤_, _<_}
 use native.Mathlib.Nat.{pow-suc}
 use native.Mathlib.Omega.{arith}
 use native.Mathlib.Decide.{ℕ-discrete, decLt}
-use lib.ListN.{length, getD, take, drop, set, length-append, length-set, length-drop, List·getD-append}
-use lib.Seq.{sets, sets-eq, ext-getD, getD-drop, getD-take, getD-at, getD-set-same, getD-set-other, getD-append-add, length-sets, length-take-le}
+use lib.ListN.{length, getD, take, drop, set, length-set, length-drop, List·getD-append}
+use lib.Seq.{sets, ext-getD, getD-drop, getD-take, getD-at, getD-set-same, getD-set-other, length-sets, length-take-le}
 use lib.Dec.{T, eqb, leb, eqb→eq}
 use borrow.Author.Tests.{eq-eqb, ne-eqb, eqb-true}
 use Rattle.frames.specs.Bytes.{byte, bits, numberAt, bytesOf}
@@ -21,7 +21,9 @@ use Rattle.frames.specs.declared.Discover.{Discover}
 use Rattle.frames.specs.declared.Refusal.{Refusal}
 use Rattle.frames.specs.declared.Response.{Response}
 use Rattle.frames.specs.declared.Response.the-variants.{ReportGeneral, Discover as DiscoverResponse}
+use Rattle.frames.proofs.ByteNumbers.{length-bytesOf}
 use Rattle.frames.proofs.LongFrames.{number-alike, sized, size-least}
+use Rattle.frames.proofs.ValuesPut.{sets-stay, sets-stand}
 use Rattle.files.specs.declared.Setting.{Setting}
 use Rattle.files.specs.declared.ExpanderUnit.{ExpanderUnit}
 use Rattle.files.specs.declared.PhyFields.{PhyFields}
@@ -306,27 +308,6 @@ module _ (file file′ : List ℕ) (lo a : ℕ) (long : length file′ ≡ lengt
       (good-then (phyUnits file′ (u .0 .value .address) i (u .0 .value .phys) 0 (u .0 .next)) _ (v .0) (expanderOf (u .0 .value) (v .0 .value) ∷ x) (phys-alike (u .0 .value .address) i (u .0 .value .phys) 0 (u .0 .next) (v .0) (v .1) (inl (omega arith)))
       (good-then (expanders most file′ n (i + 1) (v .0 .next) (used ++ (u .0 .value .address ∷ []))) _ x (expanderOf (u .0 .value) (v .0 .value) ∷ x) (expanders-edited most n (i + 1) (v .0 .next) (used ++ (u .0 .value .address ∷ [])) (w .0) e q (w .1) l′ f′) refl)))
 
--- bytes stored one after the other: those elsewhere stay, and each stands at its place
-stay-sets : (vs l : List ℕ) (i k : ℕ) → (k < i) ⊎ (i + length vs ≤ k) → byte (sets l i vs) k ≡ byte l k
-stay-sets [] l i k h = refl
-stay-sets (v ∷ vs) l i k h =
-    stay-sets vs (set l i v) (suc i) k (⊎-elim (λ o. inl (omega arith)) (λ o. inr (omega arith)) h)
-    ∙ getD-set-other l i k v 0 (λ z. ⊎-elim {C = ⊥} (λ o. omega arith) (λ o. omega arith) h)
-
-stand-sets : (vs l : List ℕ) (i j : ℕ) → i + length vs ≤ length l → j < length vs → byte (sets l i vs) (i + j) ≡ byte vs j
-stand-sets [] l i j h m = absurd (omega arith)
-stand-sets (v ∷ vs) l i zero h m =
-    let e : i + 0 ≡ i = omega arith in
-    ap (byte (sets (set l i v) (suc i) vs)) e ∙ stay-sets vs (set l i v) (suc i) i (inl (omega arith)) ∙ getD-set-same l i v 0 (omega arith)
-stand-sets (v ∷ vs) l i (suc j) h m =
-    let e : i + suc j ≡ suc i + j = omega arith in
-    ap (byte (sets (set l i v) (suc i) vs)) e ∙ stand-sets vs (set l i v) (suc i) j (omega (arith, length-set l i v)) (omega arith)
-
-length-bytesOf : (w x : ℕ) → length (bytesOf w x) ≡ w
-unfolding bytesOf
-length-bytesOf zero x = refl
-length-bytesOf (suc w) x = length-append (bytesOf w (x / 256)) (x % 256 ∷ []) ∙ omega (arith, length-bytesOf w (x / 256))
-
 -- a number's bytes give it back
 number-back : (s : List ℕ) (i w x : ℕ) → x < 256 ^ w → ((j : ℕ) → j < w → byte s (i + j) ≡ byte (bytesOf w x) j) → numberAt s i w ≡ x
 unfolding numberAt bytesOf
@@ -367,7 +348,7 @@ module _ (a at : ℕ) (file : List ℕ) (room : at + 52 ≤ length file) where
       go : (b : Bool) → byte (cond b (typedAs 0) (sets (set (typedAs 1) (at + 32) 0) (at + 24) (bytesOf 8 a))) k ≡ byte file k
       go true = getD-set-other file (at + 12) k (typed 0 (byte file (at + 12))) 0 n
       go false =
-          stay-sets (bytesOf 8 a) (set (typedAs 1) (at + 32) 0) (at + 24) k (⊎-elim inl (λ o. inr (omega (arith, length-bytesOf 8 a))) h)
+          sets-stay (bytesOf 8 a) (set (typedAs 1) (at + 32) 0) (at + 24) k 0 (⊎-elim inl (λ o. inr (omega (arith, length-bytesOf 8 a))) h)
           ∙ getD-set-other (typedAs 1) (at + 32) k 0 0 (λ z. ⊎-elim {C = ⊥} (λ o. omega arith) (λ o. omega arith) h)
           ∙ getD-set-other file (at + 12) k (typed 1 (byte file (at + 12))) 0 n
 
@@ -381,7 +362,7 @@ module _ (a at : ℕ) (file : List ℕ) (room : at + 52 ≤ length file) where
       go : (b : Bool) → bits 4 3 (byte (cond b (typedAs 0) (sets (set (typedAs 1) (at + 32) 0) (at + 24) (bytesOf 8 a))) (at + 12)) ≡ cond b 0 1
       go true = ap (bits 4 3) (here 0) ∙ typed-type 0 (byte file (at + 12)) (omega arith)
       go false =
-          ap (bits 4 3) (stay-sets (bytesOf 8 a) (set (typedAs 1) (at + 32) 0) (at + 24) (at + 12) (inl (omega arith)) ∙ getD-set-other (typedAs 1) (at + 32) (at + 12) 0 0 (λ z. omega arith) ∙ here 1)
+          ap (bits 4 3) (sets-stay (bytesOf 8 a) (set (typedAs 1) (at + 32) 0) (at + 24) (at + 12) 0 (inl (omega arith)) ∙ getD-set-other (typedAs 1) (at + 32) (at + 12) 0 0 (λ z. omega arith) ∙ here 1)
           ∙ typed-type 1 (byte file (at + 12)) (omega arith)
 
   -- of a plug
@@ -393,14 +374,14 @@ module _ (a at : ℕ) (file : List ℕ) (room : at + 52 ≤ length file) where
     edit-far : byte after (at + 32) ≡ 0
     edit-far =
         let m = length-set file (at + 12) (typed 1 (byte file (at + 12))) in
-        ap (λ s. byte s (at + 32)) put ∙ stay-sets (bytesOf 8 a) (set (typedAs 1) (at + 32) 0) (at + 24) (at + 32) (inr (omega (arith, length-bytesOf 8 a)))
+        ap (λ s. byte s (at + 32)) put ∙ sets-stay (bytesOf 8 a) (set (typedAs 1) (at + 32) 0) (at + 24) (at + 32) 0 (inr (omega (arith, length-bytesOf 8 a)))
         ∙ getD-set-same (typedAs 1) (at + 32) 0 0 (omega arith)
 
     edit-address : (j : ℕ) → j < 8 → byte after (at + 24 + j) ≡ byte (bytesOf 8 a) j
     edit-address j h =
         let l = length-bytesOf 8 a in
         let m = length-set (typedAs 1) (at + 32) 0 ∙ length-set file (at + 12) (typed 1 (byte file (at + 12))) in
-        ap (λ s. byte s (at + 24 + j)) put ∙ stand-sets (bytesOf 8 a) (set (typedAs 1) (at + 32) 0) (at + 24) j (omega arith) (omega arith)
+        ap (λ s. byte s (at + 24 + j)) put ∙ sets-stand (bytesOf 8 a) (set (typedAs 1) (at + 32) 0) (at + 24) j 0 (omega arith) (omega arith)
 
 -- what an event makes of the fields of a frame; whatever stood as attached address and phy stays where the drive is pulled
 abbrev refield : Bool → ℕ → Discover → Discover

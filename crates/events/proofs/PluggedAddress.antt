@@ -3,15 +3,16 @@ use Prim.Native.Nat.{ℕ, _+_, _-_, _≤_}
 use mathlib.Core.Logic.{_≢_}
 use mathlib.Core.Bool.{cond}
 use mathlib.Core.Path.{_≡_, refl, sym, _∙_, ap, ap₂}
-use mathlib.Core.List.{List, [], _++_, append-assoc, append-nil}
+use mathlib.Core.List.{List, [], _++_, append-nil}
 use native.Mathlib.Omega.{arith}
 use lib.ListN.{length, take, drop, set, length-set, length-drop, drop-of-length-le}
-use lib.Seq.{sets, sets-eq, take-all, drop-drop}
+use lib.Seq.{sets, take-all, drop-drop}
 use lib.Dec.{eqb}
 use borrow.Author.Tests.{le-leb, eq-eqb, ne-eqb}
 use borrow.Rule.Slice.PartMut.{midOf, putMid, same-len-mid}
 use Rattle.frames.specs.Bytes.{byte, bytesOf, atFront}
 use Rattle.frames.proofs.ByteNumbers.{length-bytesOf}
+use Rattle.frames.proofs.ValuesPut.{sets-parts}
 use Rattle.events.specs.EventFile.{typed, frameEdited}
 
 pub address-put : (l : List ℕ) (k a : ℕ) (part : List ℕ) → k + 8 ≤ length l → part ≡ atFront (bytesOf 8 a) (midOf k (length l - k) l) → putMid k (length l - k) l part ≡ sets l k (bytesOf 8 a)
@@ -23,7 +24,7 @@ address-put l k a part h w =
     let mid : midOf k m l ≡ drop k l = take-all m (drop k l) (omega arith) in
     let post : drop m (drop k l) ≡ [] = drop-of-length-le (drop k l) {i = m} (omega arith) in
     let p : part ≡ x ++ drop (k + length x) l = w ∙ ap (atFront x) mid ∙ rw (le-leb (length x) (length (drop k l)) (omega arith)) (ap (λ (v : List ℕ). x ++ v) (drop-drop (length x) k l)) in
-    ap₂ (λ (u v : List ℕ). take k l ++ (u ++ v)) p post ∙ ap (λ (v : List ℕ). take k l ++ v) (append-nil (x ++ drop (k + length x) l)) ∙ sym (append-assoc (take k l) x (drop (k + length x) l)) ∙ sym (sets-eq x l k (omega arith))
+    ap₂ (λ (u v : List ℕ). take k l ++ (u ++ v)) p post ∙ ap (λ (v : List ℕ). take k l ++ v) (append-nil (x ++ drop (k + length x) l)) ∙ sym (sets-parts l k x (omega arith))
 
 -- byte 32 stored, and then the address, as attach_at leaves them
 module _ (l : List ℕ) (at a : ℕ) (part : List ℕ) where

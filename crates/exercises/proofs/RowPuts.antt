@@ -9,8 +9,7 @@ use Rattle.files.specs.declared.Phy.{Phy}
 use Rattle.files.specs.declared.ExpanderUnit.{ExpanderUnit}
 use Rattle.files.specs.Domain.{Expander, addressOf}
 use Rattle.files.specs.Rows.{phyWord, phyWords, headWord, rowOf, rowsOf}
-use Rattle.files.proofs.RowFilling.{length-phyWords, length-rowOf}
-use Rattle.cards.proofs.RowPuts.{row-words}
+use Rattle.files.proofs.RowFilling.{length-phyWords, length-rowOf, stored-in-zeros}
 use Rattle.exercises.specs.Rig.{drive, toward, firstOf, secondOf}
 
 -- one phy more, and the end
@@ -38,7 +37,7 @@ row-put l after u φ ws h a w ql qh qa qw qn few q =
     let n : u .phys ≡ length (φ ∷ map drive ws) = omega arith in
     let g : h ≡ headWord (u .routeIndexes) (length (φ ∷ map drive ws)) (u .configurable) = qh ∙ ap (λ (x : ℕ). headWord (u .routeIndexes) x (u .configurable)) n in
     let s : after ≡ sets (set (set l 0 (u .address)) 1 h) 2 (phyWords (φ ∷ map drive ws)) = q ∙ rw (qa, qw) in
-    s ∙ row-words l (u .address) h (phyWords (φ ∷ map drive ws)) ql (omega arith)
+    s ∙ stored-in-zeros l (u .address) h (phyWords (φ ∷ map drive ws)) ql (omega arith)
     ∙ ap (λ (x : ℕ). u .address ∷ x ∷ (phyWords (φ ∷ map drive ws) ++ replicate (256 - length (phyWords (φ ∷ map drive ws))) 0)) g
 
 -- both rows, one after the other

@@ -1,12 +1,12 @@
 -- What holds of any domain: types and attributes of a phy, the number of an address, and what is not past the end.
-use mathlib.Core.Path.{_≡_, sym, subst, _∙_}
+use mathlib.Core.Path.{_≡_, refl, sym, ap, subst, _∙_}
 use mathlib.Core.Logic.{_⊎_, inl, inr, _≢_, by-cases}
 use mathlib.Core.List.{[], _∷_}
-use mathlib.Core.Bool.{Bool}
-use Prim.Native.Nat.{ℕ, _≤_, _<_}
+use mathlib.Core.Bool.{Bool, cond}
+use Prim.Native.Nat.{ℕ, zero, suc, _≤_, _<_}
 use native.Mathlib.Decide.{ℕ-discrete, decLt}
 use native.Mathlib.Omega.{arith}
-use lib.ListN.{length, List·getD-eq-default}
+use lib.ListN.{length, set, List·getD-eq-default}
 use lib.Dec.{T, eqb, eqb→eq, not-T, T-not, leb→le, le→leb}
 use Rattle.files.specs.declared.Phy.{Phy}
 use Rattle.files.specs.declared.Phy.the-variants.{Vacant}
@@ -47,6 +47,13 @@ numberOf-is [] s h = absurd (omega arith)
 numberOf-is (e ∷ d) s h = by-test (eqb (e .address) s)
     (λ q. rw q (eqb→eq (e .address) s (was-true _ q)))
     (λ q. rw q (numberOf-is d s (let k = rw q at h in omega arith)))
+
+-- it stays where an expander is replaced by one of the same address
+pub number-set : (d : Domain) (i : ℕ) (e : Expander) (s : ℕ) → e .address ≡ expanderAt d i .address → numberOf (set d i e) s ≡ numberOf d s
+unfolding numberOf
+number-set [] i e s h = refl
+number-set (x ∷ d) zero e s h = ap (λ v. cond (eqb v s) 0 (suc (numberOf d s))) h
+number-set (x ∷ d) (suc i) e s h = ap (λ v. cond (eqb (x .address) s) 0 (suc v)) (number-set d i e s h)
 
 -- what is not past the end
 pub expander-range : (d : Domain) (i p : ℕ) → p < length (expanderAt d i .phys) → i < length d

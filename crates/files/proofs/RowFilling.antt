@@ -1,20 +1,20 @@
 -- Filling rows: the words of one phy after the other, and one row after the other.
 use Prim.Native.Nat.{ℕ, zero, suc, _+_, _-_, _*_, _≤_, _<_}
-use mathlib.Core.Path.{_≡_, refl, sym, _∙_, ap}
-use mathlib.Core.List.{List, [], _∷_, _++_, append-nil, append-assoc}
+use mathlib.Core.Path.{_≡_, refl, sym, _∙_, ap, ap₂}
+use mathlib.Core.List.{List, [], _∷_, _++_, append-nil}
 use native.Mathlib.Omega.{arith}
-use native.Mathlib.Nat.{add-zero}
-use lib.ListN.{length, take, drop, set, replicate, length-replicate, length-append, length-drop, drop-of-length-le, take-append-drop}
-use lib.Seq.{sets, sets-eq, drop-length, take-at, drop-at, drop-drop, length-take-le}
+use lib.ListN.{length, take, drop, set, replicate, length-replicate, length-append, length-drop, drop-of-length-le}
+use lib.Seq.{sets, drop-length, drop-at, length-take-le}
 use Rattle.frames.specs.Refusals.{Result, refused, good}
 use Rattle.frames.specs.declared.Refusal.{Refusal}
+use Rattle.frames.proofs.ValuesPut.{sets-front, sets-mid-then}
 use Rattle.files.specs.declared.Setting.{Setting}
 use Rattle.files.specs.declared.ExpanderUnit.{ExpanderUnit}
 use Rattle.files.specs.declared.Phy.{Phy}
 use Rattle.files.specs.Domain.{Expander, Domain, addressOf}
 use Rattle.files.specs.File.{Parsed, parsed, phyUnit, expanderUnit, expanderOf}
 use Rattle.files.specs.Rows.{phyWord, phyWords, headWord, rowOf, rowsOf}
-use Rattle.files.specs.SecondReading.{phyGot, nextGot, andPhys, physGot, physAfter, thenGot, domainGot, pasted}
+use Rattle.files.specs.SecondReading.{phyGot, nextGot, andPhys, physGot, physAfter, thenGot, domainGot}
 
 pub cleared : (k : ℕ) (row : List ℕ) → k ≡ length row → replicate k 0 ++ drop k row ≡ replicate (length row) 0
 cleared k row e = rw (e, drop-length row, append-nil)
@@ -69,14 +69,24 @@ length-rowOf e h =
     rw (length-append, length-replicate) (omega arith)
 
 -- a row whose words after the phys are zeros, with its words stored
-stored : (l : List ℕ) (a w : ℕ) (ws : List ℕ) → length l ≡ 258 → length ws ≤ 256 → drop (2 + length ws) l ≡ replicate (256 - length ws) 0
+pub stored : (l : List ℕ) (a w : ℕ) (ws : List ℕ) → length l ≡ 258 → length ws ≤ 256 → drop (2 + length ws) l ≡ replicate (256 - length ws) 0
     → sets (set (set l 0 a) 1 w) 2 ws ≡ a ∷ w ∷ (ws ++ replicate (256 - length ws) 0)
-stored [] a w ws n h z = absurd (omega arith)
-stored (x ∷ []) a w ws n h z = absurd (omega arith)
-stored (x ∷ y ∷ l) a w ws n h z =
+stored l a w ws n h z =
     let e : 2 + length ws ≡ suc (suc (length ws)) = omega arith in
-    let r : drop (length ws) l ≡ replicate (256 - length ws) 0 = rw e at z in
-    sets-eq ws (a ∷ w ∷ l) 2 (omega arith) ∙ rw (e, r)
+    sets-front (a ∷ w ∷ ws) l (omega arith) ∙ ap (λ (m : List ℕ). a ∷ w ∷ (ws ++ m)) (rw e at z)
+
+-- the same in a row that was all zeros
+drop-zeros : (k n : ℕ) → drop {A = ℕ} k (replicate n 0) ≡ replicate (n - k) 0
+drop-zeros zero n = let e : n - 0 ≡ n = omega arith in rw e
+drop-zeros (suc k) zero = let e : 0 - suc k ≡ 0 = omega arith in rw e
+drop-zeros (suc k) (suc n) = let e : suc n - suc k ≡ n - k = omega arith in rw e (drop-zeros k n)
+
+pub stored-in-zeros : (l : List ℕ) (a w : ℕ) (ws : List ℕ) → l ≡ replicate 258 0 → length ws ≤ 256
+    → sets (set (set l 0 a) 1 w) 2 ws ≡ a ∷ w ∷ (ws ++ replicate (256 - length ws) 0)
+stored-in-zeros l a w ws q h =
+    let n : length l ≡ 258 = ap length q ∙ length-replicate {A = ℕ} 258 0 in
+    let e : 258 - (2 + length ws) ≡ 256 - length ws = omega arith in
+    stored l a w ws n h (ap (drop (2 + length ws)) q ∙ drop-zeros (2 + length ws) 258 ∙ ap (λ (k : ℕ). replicate k 0) e)
 
 pub row-made : (u : ExpanderUnit) (l : List ℕ) (w : ℕ) (file : List ℕ) (i at : ℕ) → length l ≡ 258 → drop (2 + 2 * u .phys) l ≡ replicate (256 - 2 * u .phys) 0
     → w ≡ headWord (u .routeIndexes) (u .phys) (u .configurable) → u .phys ≤ 128
@@ -99,30 +109,6 @@ tail-cleared k m row part n h e z =
     let p : drop m (drop k row) ≡ [] = let q : length (drop k row) ≤ m = omega arith in drop-of-length-le (drop k row) q in
     drop-at (take k row) (part ++ drop m (drop k row)) k a ∙ rw (z, c, p, append-nil)
 
--- nothing more is pasted
-pasted-none : (ws : List ℕ) (i : ℕ) → pasted ws i [] ≡ ws
-unfolding pasted rowsOf
-pasted-none ws i = let e : i + 0 ≡ i = add-zero i in simp e (take-append-drop (258 * i) ws)
-
--- a row in its place, and the rest pasted after it
-pasted-next : (ws : List ℕ) (i a k : ℕ) (e : Expander) (r : List ℕ) (d : Domain) → a ≡ 258 * i → k ≡ 258 → r ≡ rowOf e → length r ≡ 258 → 258 * i ≤ length ws
-    → pasted (take a ws ++ (r ++ drop k (drop a ws))) (i + 1) d ≡ pasted ws i (e ∷ d)
-unfolding pasted rowsOf
-pasted-next ws i a k e r d qa qk qr qe h =
-    let f : List ℕ = take a ws ++ r in
-    let g : List ℕ = drop k (drop a ws) in
-    let la : length (take a ws) ≡ a = length-take-le a ws (omega arith) in
-    let lf : length f ≡ 258 * (i + 1) = length-append (take a ws) r ∙ omega arith in
-    let s : take a ws ++ (r ++ g) ≡ f ++ g = sym (append-assoc (take a ws) r g) in
-    let n : 258 * (i + 1) + 258 * length d ≡ 258 * (i + 1 + length d) = omega arith in
-    let m : a + (k + 258 * length d) ≡ 258 * (i + suc (length d)) = omega arith in
-    let t1 : take (258 * (i + 1)) (f ++ g) ≡ f = take-at f g _ lf in
-    let t2 : drop (258 * (i + 1 + length d)) (f ++ g) ≡ drop (258 * (i + suc (length d))) ws =
-    sym (ap (λ (x : ℕ). drop x (f ++ g)) n) ∙ sym (drop-drop (258 * length d) (258 * (i + 1)) (f ++ g))
-    ∙ ap (drop (258 * length d)) (drop-at f g _ lf) ∙ drop-drop (258 * length d) k (drop a ws) ∙ drop-drop (k + 258 * length d) a ws
-    ∙ ap (λ (x : ℕ). drop x ws) m in
-    rw (s, t1, t2) (append-assoc (take a ws) r (rowsOf d ++ drop (258 * (i + suc (length d))) ws) ∙ rw (qa, qr, append-assoc (rowOf e)))
-
 -- the expanders that are left
 module _ (most : Setting) (file : List ℕ) (n i at : ℕ) where
   got-next : (x : Result (Parsed ExpanderUnit)) → expanderUnit most file [] i at ≡ x → i < n
@@ -136,19 +122,21 @@ module _ (most : Setting) (file : List ℕ) (n i at : ℕ) where
   got-end l = let e : n - i ≡ 0 = omega arith in rw e
 
   -- a turn that stops, one that goes on, and the end
-  module _ (ws : List ℕ) {v : List ℕ} (inv : pasted ws i (domainGot most file (n - i) i at) ≡ v) where
+  module _ (ws : List ℕ) {v : List ℕ} (inv : sets ws (258 * i) (rowsOf (domainGot most file (n - i) i at)) ≡ v) where
     pub rows-stop : {r : Refusal} → expanderUnit most file [] i at ≡ refused r → i < n → ws ≡ v
-    rows-stop q l = sym (ap (pasted ws i) (got-next _ q l) ∙ pasted-none ws i) ∙ inv
+    unfolding rowsOf
+    rows-stop q l = sym (ap (λ (d : Domain). sets ws (258 * i) (rowsOf d)) (got-next _ q l)) ∙ inv
 
     pub rows-end : n ≤ i → ws ≡ v
-    rows-end l = sym (ap (pasted ws i) (got-end l) ∙ pasted-none ws i) ∙ inv
+    unfolding rowsOf
+    rows-end l = sym (ap (λ (d : Domain). sets ws (258 * i) (rowsOf d)) (got-end l)) ∙ inv
 
     pub rows-go : (u : Parsed ExpanderUnit) (a k next : ℕ) (r : List ℕ) → expanderUnit most file [] i at ≡ good u
         → r ≡ rowOf (expanderOf (u .value) (physAfter file i u .value)) → next ≡ physAfter file i u .next
-        → a ≡ 258 * i → k ≡ 258 → length r ≡ 258 → 258 * i ≤ length ws → i < n
-        → pasted (take a ws ++ (r ++ drop k (drop a ws))) (i + 1) (domainGot most file (n - (i + 1)) (i + 1) next) ≡ v
+        → a ≡ 258 * i → k ≡ 258 → length r ≡ 258 → 258 * (i + 1) ≤ length ws → i < n
+        → sets (take a ws ++ (r ++ drop k (drop a ws))) (258 * (i + 1)) (rowsOf (domainGot most file (n - (i + 1)) (i + 1) next)) ≡ v
+    unfolding rowsOf
     rows-go u a k next r q qr qn qa qk l t s =
-        let e : Expander = expanderOf (u .value) (physAfter file i u .value) in
-        pasted-next ws i a k e r (domainGot most file (n - (i + 1)) (i + 1) next) qa qk qr l t
-        ∙ ap (λ (x : ℕ). pasted ws i (e ∷ domainGot most file (n - (i + 1)) (i + 1) x)) qn
-        ∙ sym (ap (pasted ws i) (got-next _ q s)) ∙ inv
+        sets-mid-then ws r (rowsOf (domainGot most file (n - (i + 1)) (i + 1) next)) (258 * i) (258 * (i + 1)) a k qa (omega arith) (omega arith) t
+        ∙ ap₂ (λ (x : List ℕ) (m : ℕ). sets ws (258 * i) (x ++ rowsOf (domainGot most file (n - (i + 1)) (i + 1) m))) qr qn
+        ∙ sym (ap (λ (d : Domain). sets ws (258 * i) (rowsOf d)) (got-next _ q s)) ∙ inv

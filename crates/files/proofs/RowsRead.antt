@@ -3,12 +3,12 @@ use Prim.Native.Nat.{ℕ, _*_, _≤_, _<_}
 use mathlib.Core.Path.{_≡_, refl, sym, _∙_, ap}
 use mathlib.Core.List.{List, _++_}
 use native.Mathlib.Omega.{arith}
-use native.Mathlib.Nat.{zero-add}
 use lib.ListN.{length, take, drop}
-use lib.Seq.{take-at}
+use lib.Seq.{sets, take-at}
 use borrow.Author.Tests.{le-leb, lt-leb}
 use Rattle.frames.specs.Refusals.{Result, refused, good, then, refusal}
 use Rattle.frames.specs.declared.Refusal.{Refusal}
+use Rattle.frames.proofs.ValuesPut.{sets-front}
 use Rattle.files.specs.declared.Setting.{Setting}
 use Rattle.files.specs.declared.DomainRead.{DomainRead}
 use Rattle.files.specs.declared.DomainRead.the-variants.{Refused, Expanders}
@@ -16,7 +16,7 @@ use Rattle.files.specs.Domain.{Domain}
 use Rattle.files.specs.ReadDomain.{Bytes}
 use Rattle.files.specs.File.{domainRead}
 use Rattle.files.specs.Rows.{rowsOf, readAnswer, rowsFor, rowsRead, countOf, rowsAfter, rowsHold, RowsRead}
-use Rattle.files.specs.SecondReading.{domainGot, pasted}
+use Rattle.files.specs.SecondReading.{domainGot}
 use Rattle.files.proofs.CallResults.{never}
 use Rattle.files.proofs.ReadDomain.{read-good, read-fits, read-again}
 use Rattle.files.proofs.RowsRoundTrip.{length-rowsOf, domain-back}
@@ -55,20 +55,18 @@ module _ (setting : Setting) (file ws : List ℕ) where
       let e : rowsFor (length ws) (c .domain) ≡ refused (refusal 16 0 0) = rw (lt-leb (258 * length (c .domain)) (length ws) (omega arith)) in
       promise setting file answer ws ws (refused (refusal 16 0 0)) (rows-by setting file (length ws) _ (c .is) ∙ e) a refl tt
 
-  all-pasted : (n : ℕ) (d : Domain) → n ≡ length d → domainGot setting file (length d) 0 2 ≡ d
-      → pasted ws 0 (domainGot setting file n 0 2) ≡ rowsOf d ++ drop (258 * length d) ws
-  unfolding pasted
-  all-pasted n d e g = rw (e, g, zero-add)
-
   pub rows-full : (ws′ : List ℕ) (n : ℕ) → Bytes file → then (domainRead setting file) countOf ≡ good n → 258 * n ≤ length ws
-      → ws′ ≡ pasted ws 0 (domainGot setting file n 0 2) → RowsRead setting file (Expanders n) ws ws′
+      → ws′ ≡ sets ws 0 (rowsOf (domainGot setting file n 0 2)) → RowsRead setting file (Expanders n) ws ws′
   rows-full ws′ n b q h w =
       let c = counted (domainRead setting file) n q in
       let d = c .domain in
       let g = read-good setting file d (c .is) in
       let e : rowsFor (length ws) d ≡ good d = rw (le-leb (258 * length d) (length ws) (omega (arith, c .count))) in
-      let v : ws′ ≡ rowsOf d ++ drop (258 * length d) ws = w ∙ all-pasted n d (c .count) (read-again setting file d (c .is)) in
-      let t : take (258 * length d) ws′ ≡ rowsOf d = ap (take (258 * length d)) v ∙ take-at (rowsOf d) _ (258 * length d) (length-rowsOf setting d g) in
+      let r : domainGot setting file n 0 2 ≡ d = ap (λ (k : ℕ). domainGot setting file k 0 2) (c .count) ∙ read-again setting file d (c .is) in
+      let l : length (rowsOf d) ≡ 258 * length d = length-rowsOf setting d g in
+      let v : ws′ ≡ rowsOf d ++ drop (258 * length d) ws =
+      w ∙ ap (λ (x : Domain). sets ws 0 (rowsOf x)) r ∙ sets-front (rowsOf d) ws (omega (arith, c .count)) ∙ ap (λ (k : ℕ). rowsOf d ++ drop k ws) l in
+      let t : take (258 * length d) ws′ ≡ rowsOf d = ap (take (258 * length d)) v ∙ take-at (rowsOf d) _ (258 * length d) l in
       promise setting file (Expanders n) ws ws′ (good d) (rows-by setting file (length ws) _ (c .is) ∙ e) (ap good (c .count)) v (rw t (domain-back setting d g (read-fits setting file d b (c .is))))
 
   -- rows have place for all phys that the setting allows

@@ -1,8 +1,7 @@
 -- The second reading of a file, which refuses nothing: of a file that the first one passed it gets the domain.
-use Prim.Native.Nat.{ℕ, zero, suc, _+_, _*_}
+use Prim.Native.Nat.{ℕ, zero, suc, _+_}
 use mathlib.Core.Path.{_≡_}
-use mathlib.Core.List.{List, [], _∷_, _++_}
-use lib.ListN.{length, take, drop}
+use mathlib.Core.List.{List, [], _∷_}
 use lib.Seq.{sets}
 use Rattle.frames.specs.Refusals.{Result, refused, good}
 use Rattle.files.specs.declared.Setting.{Setting}
@@ -11,7 +10,7 @@ use Rattle.files.specs.declared.Phy.{Phy}
 use Rattle.files.specs.declared.Phy.the-variants.{Vacant}
 use Rattle.files.specs.Domain.{Domain}
 use Rattle.files.specs.File.{Parsed, parsed, phyUnit, expanderUnit, expanderOf}
-use Rattle.files.specs.Rows.{phyWords, rowOf, rowsOf, rowWords}
+use Rattle.files.specs.Rows.{phyWords, rowOf}
 
 -- where a phy's unit is refused: a vacant phy, and the place stays
 abbrev pub phyGot : Result (Parsed Phy) → Phy
@@ -44,10 +43,6 @@ domainGot most file zero i at = []
 domainGot most file (suc count) i at =
     thenGot (expanderUnit most file [] i at) (λ u.
     expanderOf (u .value) (physAfter file i u .value) ∷ domainGot most file count (i + 1) (physAfter file i u .next))
-
--- words with a domain's rows from row i on
-unfoldable pub pasted : List ℕ → ℕ → Domain → List ℕ
-pasted ws i d = take (rowWords * i) ws ++ (rowsOf d ++ drop (rowWords * (i + length d)) ws)
 
 -- the words of phys stored in a row, and the place after them
 pub record PhysPut (φs : Parsed (List Phy)) (next : ℕ) (before after : List ℕ) : Type 0 where

@@ -15,10 +15,11 @@ ghost use mathlib.Core.Path.{_≡_};
 ghost use Prim.Native.Nat.{_*_, _≤_};
 ghost use Rattle.frames.specs.Bytes.{byte};
 ghost use lib.ListN.{length, replicate};
+ghost use lib.Seq.{sets};
 ghost use Rattle.files.specs.UnitAnswers.{phyAnswer};
-ghost use Rattle.files.specs.Rows.{phyWord, headWord, RowsRead, rowWords};
+ghost use Rattle.files.specs.Rows.{phyWord, headWord, rowsOf, RowsRead, rowWords};
 ghost use Rattle.files.specs.PhyReplaced.{PhySet};
-ghost use Rattle.files.specs.SecondReading.{phyGot, nextGot, physGot, domainGot, pasted, PhysPut, RowPut};
+ghost use Rattle.files.specs.SecondReading.{phyGot, nextGot, physGot, domainGot, PhysPut, RowPut};
 
 // The phy of a unit: vacant where the unit is refused.
 fn phy_got(unit: PhyRead) -> Phy
@@ -113,7 +114,7 @@ fn put_row(row: &mut [u64], file: &[u8], u: ExpanderUnit, i: ExpanderNumber, at:
 // Writes the rows of the n expanders of a file that passed causes 1 to 6.
 fn fill_rows(rows: &mut [u64], most: Setting, file: &[u8], n: u8)
     requires { ⌜ (most .phys ≤ 128) × (rowWords * n ≤ length (now rows)) ⌝ }
-    ensures { λ _. ⌜ now (rows .exit) ≡ pasted (now (rows .entry)) 0 (domainGot most (now (file .entry)) n 0 2) ⌝ }
+    ensures { λ _. ⌜ now (rows .exit) ≡ sets (now (rows .entry)) 0 (rowsOf (domainGot most (now (file .entry)) n 0 2)) ⌝ }
 {
     // no addresses, so that none was used
     let none = [0u64; 1];

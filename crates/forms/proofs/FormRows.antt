@@ -8,9 +8,10 @@ use native.Mathlib.Omega.{arith}
 use native.Mathlib.Numerals.{add-one}
 use native.Mathlib.Nat.{mod-eq-of-lt}
 use lib.ListN.{length, getD, take, drop, set, length-append, length-drop, drop-of-length-le}
-use lib.Seq.{sets, sets-eq, drop-drop, take-at, drop-at, getD-drop, length-take-le}
+use lib.Seq.{sets, drop-drop, take-at, drop-at, getD-drop, length-take-le}
 use lib.Dec.{eqb}
 use borrow.Author.Tests.{eq-eqb, ne-eqb}
+use Rattle.frames.proofs.ValuesPut.{sets-front}
 use Rattle.files.specs.declared.Phy.{Phy}
 use Rattle.files.specs.declared.Phy.the-variants.{Vacant, Present}
 use Rattle.files.specs.Domain.{Expander, Domain, addressOf}
@@ -119,11 +120,6 @@ put-start ws n from row =
     rw (e, z) refl
 
 -- a row with an expander's words in front holds it
-stored : (l : List ℕ) (a w : ℕ) (ws : List ℕ) → length l ≡ 258 → length ws ≤ 256 → (m : List ℕ) × (sets (set (set l 0 a) 1 w) 2 ws ≡ a ∷ w ∷ (ws ++ m))
-stored [] a w ws n h = absurd (omega arith)
-stored (x ∷ []) a w ws n h = absurd (omega arith)
-stored (x ∷ y ∷ l) a w ws n h = (drop (length ws) l, let e : 2 + length ws ≡ suc (suc (length ws)) = omega arith in sets-eq ws (a ∷ w ∷ l) 2 (omega arith) ∙ rw e refl)
-
 abbrev readAs : ℕ → ℕ → ℕ → List Phy → Expander
 readAs a r c φs = record { address = a; routeIndexes = r; configurable = c; phys = φs }
 
@@ -156,8 +152,8 @@ module _ (ws : List ℕ) (at n a r w : ℕ) (qn : n ≡ countIn (drop at ws)) (q
   row-held l row k h e rest =
       let c = length-phyWords (physBack n (drop (at + 2) ws)) in
       let d = length-physBack n (drop (at + 2) ws) in
-      let s = stored l a w (phyWords (physBack n (drop (at + 2) ws))) k (omega arith) in
-      ap (λ (x : List ℕ). rowIn (x ++ rest)) (e ∙ s .1) ∙ row-as (s .0) rest h ∙ expander-as
+      let vs : List ℕ = a ∷ w ∷ phyWords (physBack n (drop (at + 2) ws)) in
+      ap (λ (x : List ℕ). rowIn (x ++ rest)) (e ∙ sets-front vs l (omega arith)) ∙ row-as (drop (length vs) l) rest h ∙ expander-as
 
 -- rows
 rows-last : (i : ℕ) (ws : List ℕ) → rowsIn (suc i) ws ≡ rowsIn i ws ++ (rowIn (drop (258 * i) ws) ∷ [])

@@ -1,6 +1,6 @@
 -- Writing the form of a domain: one phy's words after the other, and one expander after the other.
 use Prim.Native.Nat.{ℕ, suc, _+_, _-_, _*_, _≤_, _<_}
-use mathlib.Core.Path.{_≡_, refl, sym, ap, subst, _∙_}
+use mathlib.Core.Path.{_≡_, refl, sym, ap, ap₂, subst, _∙_}
 use mathlib.Core.Bool.{Bool, cond}
 use mathlib.Core.List.{List, [], _∷_, _++_}
 use native.Mathlib.Omega.{arith}
@@ -9,7 +9,7 @@ use lib.ListN.{length, getD, drop, set, length-append, drop-of-length-le}
 use lib.Seq.{sets, drop-cons}
 use lib.Dec.{T, le→leb}
 use borrow.Author.Tests.{le-leb, lt-leb}
-use Rattle.frames.proofs.PackedRows.{sets-append}
+use Rattle.frames.proofs.ValuesPut.{sets-front, sets-then}
 use Rattle.files.specs.declared.Phy.{Phy}
 use Rattle.files.specs.declared.Phy.the-variants.{Vacant, Present}
 use Rattle.files.specs.declared.PhyFields.{PhyFields}
@@ -20,7 +20,6 @@ use Rattle.files.proofs.RowsAsDomain.{domain-few}
 use Rattle.wiring.proofs.index.IndexEntries.{far-in}
 use Rattle.wiring.proofs.index.ExpanderNumbers.{number-most}
 use Rattle.forms.specs.Form.{headField, phyField, formPhy, formPhys, formExpanders, formOf}
-use Rattle.tables.proofs.events.BitsReplaced.{sets-front}
 
 -- a phy's second word
 module _ (d : Domain) (φ : Phy) where
@@ -81,15 +80,11 @@ module _ (d es : Domain) (i : ℕ) where
   expanders-go words after to next a w h qa qw qs qn =
       let φs : List Phy = expanderAt es i .phys in
       let more : List ℕ = formExpanders d (drop (i + 1) es) in
-      let n : next ≡ to + 2 + length (formPhys d φs) = omega (arith, length-formPhys d φs) in
       let e : to + 1 ≡ suc to = add-one to in
       let f : to + 2 ≡ suc (suc to) = omega arith in
-      ap (λ (l : List ℕ). sets l next more) qs ∙ ap (λ (k : ℕ). sets (sets (set (set words to a) (to + 1) w) (to + 2) (formPhys d φs)) k more) n
-      ∙ sym (sets-append (set (set words to a) (to + 1) w) (to + 2) (formPhys d φs) more)
-      ∙ ap (λ (k : ℕ). sets (set (set words to a) (to + 1) w) k (formPhys d φs ++ more)) f
-      ∙ ap (λ (k : ℕ). sets (set (set words to a) k w) (suc (suc to)) (formPhys d φs ++ more)) e
-      ∙ ap (λ (x : ℕ). sets words to (x ∷ w ∷ (formPhys d φs ++ more))) qa ∙ ap (λ (x : ℕ). sets words to (expanderAt es i .address ∷ x ∷ (formPhys d φs ++ more))) qw
-      ∙ ap (sets words to) (sym (expanders-next h))
+      let q : after ≡ sets words to (a ∷ w ∷ formPhys d φs) = qs ∙ rw (e, f) refl in
+      sets-then words after (sets after next more) to next (a ∷ w ∷ formPhys d φs) more q refl (omega (arith, length-formPhys d φs))
+      ∙ ap₂ (λ (x y : ℕ). sets words to (x ∷ y ∷ (formPhys d φs ++ more))) qa qw ∙ ap (sets words to) (sym (expanders-next h))
 
   pub expanders-end : (words : List ℕ) (to : ℕ) → length es ≤ i → words ≡ sets words to (formExpanders d (drop i es))
   unfolding formExpanders

@@ -6,14 +6,14 @@ use mathlib.Core.List.{List, [], _∷_, _++_}
 use mathlib.Core.Bool.{Bool, true, false, cond}
 use native.Mathlib.Omega.{arith}
 use native.Mathlib.Numerals.{add-one}
-use native.Mathlib.Nat.{zero-add}
 use lib.ListN.{length, getD, drop, set, length-map, length-append, length-drop, List·getD-eq-default}
-use lib.Seq.{sets, sets-eq, getD-drop, drop-drop, drop-at}
+use lib.Seq.{sets, getD-drop, drop-drop, drop-at}
 use lib.Dec.{eqb, leb}
 use lib.Pow.{pow-mono}
 use borrow.Author.Tests.{eq-eqb, ne-eqb, le-leb, lt-leb, leb-true}
 use Rattle.frames.specs.Bits.{field, bitsOf, packedIn, bytesFor, packed, zeroBit, zeroBits, marked}
 use Rattle.frames.proofs.PackedBits.{Bits, pow-suc, field-next, length-packedIn, bit-packed}
+use Rattle.frames.proofs.ValuesPut.{sets-front}
 
 -- the disable bit of word i
 zero-is : (words : List ℕ) (i : ℕ) → i < length words → getD (zeroBits words) i 0 ≡ zeroBit (getD words i 0)
@@ -79,7 +79,7 @@ mark-start words s n f h =
     let k = length-packedIn n (zeroBits words) in
     let m = length-map words zeroBit in
     let p : packedIn n (zeroBits words) ++ drop n s ≡ packed (zeroBits words) ++ drop (bytesFor (length words)) s = rw (f, m) in
-    rw e (sets-eq (packedIn n (zeroBits words)) s 0 (omega arith) ∙ ap (λ (m : ℕ). packedIn n (zeroBits words) ++ drop m s) (zero-add _ ∙ k) ∙ p ∙ sym (marked-room words s (omega arith)))
+    rw e (sets-front (packedIn n (zeroBits words)) s (omega arith) ∙ ap (λ (m : ℕ). packedIn n (zeroBits words) ++ drop m s) k ∙ p ∙ sym (marked-room words s (omega arith)))
 
 pub mark-end : (v s l : List ℕ) (i n : ℕ) → n ≤ i → sets s i (packedIn (n - i) (drop (8 * i) l)) ≡ v → s ≡ v
 unfolding packedIn

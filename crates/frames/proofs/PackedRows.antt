@@ -5,7 +5,7 @@ use mathlib.Core.List.{List, [], _∷_, _++_, append-assoc}
 use native.Mathlib.Omega.{arith}
 use native.Mathlib.Nat.{mod-eq-of-lt}
 use lib.ListN.{length, getD, drop, set, replicate, length-append, length-replicate, take-append-drop, length-drop}
-use lib.Seq.{drop-at, sets, drop-append-add, drop-nil}
+use lib.Seq.{drop-at, drop-append-add, drop-nil}
 use Rattle.frames.specs.Bits.{numberBits, field, bitsOf, packedIn, packed}
 use Rattle.frames.proofs.PackedBits.{Bits, length-numberBits, length-bitsOf, bits-drop}
 use Rattle.frames.proofs.NumberBits.{bits-numberBits, bits-append, field-back, bits-back, field-lt}
@@ -33,11 +33,6 @@ module _ {A : Type 0} where
   set-past [] q n k a e = let f : k ≡ n = omega arith in rw f
   set-past (x ∷ p) q n zero a e = absurd (omega arith)
   set-past (x ∷ p) q n (suc k) a e = ap (λ (l : List A). x ∷ l) (set-past p q n k a (omega arith))
-
-  -- stores after stores
-  pub sets-append : (l : List A) (i : ℕ) (vs us : List A) → sets l i (vs ++ us) ≡ sets (sets l i vs) (i + length vs) us
-  sets-append l i [] us = let e : i + 0 ≡ i = omega arith in rw e
-  sets-append l i (v ∷ vs) us = let e : suc i + length vs ≡ i + suc (length vs) = omega arith in sets-append (set l i v) (suc i) vs us ∙ rw e
 
 pub bitsOf-drop : (n : ℕ) (s : List ℕ) → bitsOf (drop n s) ≡ drop (8 * n) (bitsOf s)
 unfolding bitsOf

@@ -9,11 +9,11 @@ use lib.ListN.{length, getD, drop, set, length-drop}
 use lib.Seq.{sets, drop-cons}
 use lib.Dec.{leb}
 use borrow.Author.Tests.{lt-ltb, le-ltb}
+use Rattle.frames.proofs.ValuesPut.{sets-front}
 use Rattle.tables.specs.WiringDefinitions.{bytesFor, Refusal, Result, refused, good, unless, then, refusal, Domain}
 use Rattle.tables.specs.filling.Tables.{needed}
 use Rattle.tables.specs.filling.Entries.{Entries, Room}
 use Rattle.tables.specs.lists.PreparedLists.{judgedIn}
-use Rattle.tables.proofs.events.BitsReplaced.{sets-front}
 use Rattle.tracing.specs.declared.TraceAnswer.{TraceAnswer}
 use Rattle.tracing.specs.declared.ListAnswer.{ListAnswer}
 use Rattle.tracing.specs.declared.ListAnswer.the-variants.{Refused, Requests}

@@ -1,16 +1,16 @@
 -- A bit replaced by its number among bytes, and the disable bits of words put among bits: one by one, and whole bytes at once.
 use Prim.Native.Nat.{ℕ, suc, _+_, _*_, _/_, _%_, _-_, _≤_, _<_}
 use mathlib.Core.Path.{_≡_, sym, _∙_, ap, ap₂}
-use mathlib.Core.List.{List, [], _∷_, _++_, append-assoc, append-nil, map-append}
+use mathlib.Core.List.{List, [], _∷_, _++_, append-nil, map-append}
 use native.Mathlib.Omega.{arith}
-use native.Mathlib.Nat.{zero-add}
 use lib.ListN.{length, getD, take, drop, set, replicate, drop-of-length-le, take-append-drop, length-drop, length-map}
-use lib.Seq.{sets, sets-eq, take-at, take-all, drop-drop, length-take-le}
+use lib.Seq.{sets, take-at, take-all, drop-drop, length-take-le}
 use Rattle.frames.specs.Bits.{bitsOf, bytesFor, packed, zeroBit, zeroBits, marked}
 use Rattle.frames.proofs.PackedBits.{length-bitsOf}
 use Rattle.frames.proofs.DisableBits.{bits-zeroBits, marked-room}
-use Rattle.frames.proofs.PackedRows.{sets-append, bitsOf-append, bitsOf-drop, unpacked}
+use Rattle.frames.proofs.PackedRows.{bitsOf-append, bitsOf-drop, unpacked}
 use Rattle.frames.proofs.SetBits.{bits-set}
+use Rattle.frames.proofs.ValuesPut.{sets-parts, sets-append}
 use Rattle.files.proofs.OneMore.{drop-next}
 use Rattle.tables.specs.lists.GrowingLists.{overlay}
 use Rattle.tables.specs.events.TablesRewritten.{withBit}
@@ -44,11 +44,7 @@ mark-last s words at k inv h = sym (ap (λ (l : List ℕ). sets (bitsOf s) (at +
 -- stores one after the other are the new numbers put there
 pub sets-overlay : (l : List ℕ) (at : ℕ) (new : List ℕ) → at + length new ≤ length l → sets l at new ≡ overlay l at new
 unfolding overlay
-sets-overlay l at new h = sets-eq new l at h ∙ append-assoc (take at l) new (drop (at + length new) l)
-
--- stores from the front on
-pub sets-front : (new l : List ℕ) → length new ≤ length l → sets l 0 new ≡ new ++ drop (length new) l
-sets-front new l h = sets-eq new l 0 (omega arith) ∙ ap (λ (m : ℕ). new ++ drop m l) (zero-add (length new))
+sets-overlay l at new h = sets-parts l at new h
 
 -- whole bytes of disable bits put among bytes
 module _ (s words : List ℕ) (j : ℕ) (whole : length words % 8 ≡ 0) (room : 8 * j + length words ≤ 8 * length s) where

@@ -1,17 +1,17 @@
 -- What a domain past causes 1 to 10 has: where each phy leads, and how neighbours go with it.
 use mathlib.Core.Path.{_≡_, refl, sym, ap, subst, _∙_}
 use mathlib.Core.Logic.{_⊎_, inl, inr, _≢_, ⊎-elim, by-cases}
-use mathlib.Core.List.{List, [], _∷_}
+use mathlib.Core.List.{List, [], _∷_, _++_}
 use mathlib.Core.Bool.{_&&_}
 use Prim.Native.Nat.{ℕ, zero, suc, _+_, _≤_, _<_}
 use native.Mathlib.Decide.{ℕ-discrete}
 use native.Mathlib.Omega.{arith}
-use lib.ListN.{length}
+use lib.ListN.{length, set}
 use lib.Dec.{T, eqb}
 use Rattle.files.specs.declared.Phy.{Phy}
 use Rattle.files.specs.declared.Phy.the-variants.{Vacant, Present}
 use Rattle.files.specs.Lists.{In}
-use Rattle.files.specs.Domain.{Domain, expanderAt, phyAt, addressOf, attachedPhyOf, attributeOf, isTable, isSubtractive, attached, toEnd, toExpander, numberOf}
+use Rattle.files.specs.Domain.{Expander, Domain, expanderAt, phyAt, addressOf, attachedPhyOf, attributeOf, isTable, isSubtractive, attached, toEnd, toExpander, numberOf}
 use Rattle.wiring.specs.phys.PhyCauses.{farPhy, place, phyPlaces, placesFrom, places}
 use Rattle.wiring.specs.graph.Graph.{Tail, Symmetric}
 pub use Rattle.wiring.specs.graph.Devices.{LoopIn, ChainIn, Home, AttachedTo}
@@ -85,6 +85,13 @@ in-placesFrom (e ∷ d) k (suc i) p h =
 
 pub in-places : (d : Domain) (i p : ℕ) → p < length (expanderAt d i .phys) → In (place i p) (places d)
 in-places d i p h = subst (λ v. In (place v p) (places d)) (omega arith) (in-placesFrom d 0 i p h)
+
+-- places stay where an expander is replaced by one of as many phys
+pub places-set : (d : Domain) (k i : ℕ) (e : Expander) → length (e .phys) ≡ length (expanderAt d i .phys) → placesFrom k (set d i e) ≡ placesFrom k d
+unfolding placesFrom
+places-set [] k i e h = refl
+places-set (x ∷ d) k zero e h = ap (λ v. phyPlaces k 0 v ++ placesFrom (k + 1) d) h
+places-set (x ∷ d) k (suc i) e h = ap (λ v. phyPlaces k 0 (length (x .phys)) ++ v) (places-set d (k + 1) i e h)
 
 module _ (d : Domain) (w : Wired d) where
   pub differ : (i j : ℕ) → i < length d → j < length d → expanderAt d i .address ≡ expanderAt d j .address → i ≡ j

@@ -1,14 +1,16 @@
--- fill_rows meets its contract. The loop's invariant: pasting the rows of the expanders from i on gives what pasting all of them gives.
+-- fill_rows meets its contract. The loop's invariant: the words with the rows of the expanders from i on put there are those with all rows put.
 use Prim.Native.Nat.{_+_, _-_, _*_, _≤_}
 use mathlib.Core.Path.{_≡_, refl, sym, _∙_, ap}
 use native.Mathlib.Nat.{sub-zero}
 use native.Mathlib.Omega.{arith}
 use lib.ListN.{length, length-take, length-drop}
+use lib.Seq.{sets}
 use borrow.Author.Needs.{needs}
 use borrow.Rule.Slice.PartMut.{same-len-mid}
 use Rattle.files.proofs.RowFilling.{rows-stop, rows-end, rows-go}
 use Rattle.files.proofs.ReadDomain.{few-phys}
-use Rattle.files.specs.SecondReading.{pasted, domainGot}
+use Rattle.files.specs.SecondReading.{domainGot}
+use Rattle.files.specs.Rows.{rowsOf}
 use Rattle.files.specs.UnitAnswers.{expanderAnswer}
 use Rattle.files.proofs.rows.fill_rows.Statement.{statement}
 use Rattle.files.proofs.rows.fill_rows.Tie as tie
@@ -17,7 +19,7 @@ abbrev Inv-loop : tie.InvT-loop
 Inv-loop rows₀ most file n none i₀ at₀ rows i at =
     (i ≤ n)
     × ((length rows ≡ length rows₀)
-    × (pasted rows i (domainGot most file (n - i) i at) ≡ pasted rows₀ 0 (domainGot most file n 0 2)))
+    × (sets rows (258 * i) (rowsOf (domainGot most file (n - i) i at)) ≡ sets rows₀ 0 (rowsOf (domainGot most file n 0 2))))
 
 abbrev μ-loop : tie.MeasureT-loop
 μ-loop rows₀ most file n none i₀ at₀ rows i at = n - i
