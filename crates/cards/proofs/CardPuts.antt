@@ -1,16 +1,16 @@
 -- Putting a domain's bits one number after the other.
-use Prim.Native.Nat.{ℕ, zero, suc, _+_, _-_, _*_, _≤_, _<_}
+use Prim.Native.Nat.{ℕ, _+_, _-_, _*_, _≤_, _<_}
 use mathlib.Core.Path.{_≡_, refl, sym, _∙_, ap}
 use mathlib.Core.Bool.{Bool, true, false}
-use mathlib.Core.List.{List, [], _∷_, _++_, append-assoc}
+use mathlib.Core.List.{List, _∷_, _++_, append-assoc}
 use native.Mathlib.Omega.{arith}
 use lib.ListN.{length, getD, drop, replicate, length-append, drop-of-length-le}
-use lib.Seq.{sets, getD-drop}
+use lib.Seq.{sets}
 use lib.Dec.{eqb}
 use borrow.Author.Tests.{eq-eqb, ne-eqb}
 use Rattle.frames.specs.Bits.{numberBits, bitsOf, bytesFor}
 use Rattle.frames.proofs.PackedBits.{length-numberBits, length-bitsOf, length-packedIn}
-use Rattle.frames.proofs.PackedRows.{Bytes, unpacked, bitsOf-append, bitsOf-drop, same-bits, bytes-packedIn}
+use Rattle.frames.proofs.PackedRows.{Bytes, bytes-append, bytes-drop, unpacked, bitsOf-append, bitsOf-drop, same-bits, bytes-packedIn}
 use Rattle.frames.proofs.ValuesPut.{sets-front, sets-then}
 use Rattle.files.specs.declared.Phy.{Phy}
 use Rattle.files.specs.declared.Phy.the-variants.{Vacant, Present}
@@ -145,14 +145,6 @@ unfolding cardBits numberBits
 card-bits d = refl
 
 -- a whole card
-bytes-append : (s t : List ℕ) → Bytes s → Bytes t → Bytes (s ++ t)
-bytes-append [] t h k n = k n
-bytes-append (b ∷ s) t h k zero = h 0
-bytes-append (b ∷ s) t h k (suc n) = bytes-append s t (λ m. h (suc m)) k n
-
-bytes-drop : (n : ℕ) (s : List ℕ) → Bytes s → Bytes (drop n s)
-bytes-drop n s h k = rw getD-drop (h (n + k))
-
 pub card-put : (d : Domain) (s s1 s2 s3 s4 s5 : List ℕ) (k at fill : ℕ) → Bytes s → Bytes s5 → bytesFor (cardSize d) ≤ length s
     → k ≡ length d - 1 → at ≡ cardSize d → fill ≡ 8 * bytesFor (cardSize d) - cardSize d
     → bitsOf s1 ≡ sets (bitsOf s) 0 (numberBits 4 2) → bitsOf s2 ≡ sets (bitsOf s1) 4 (numberBits 6 k) → bitsOf s3 ≡ sets (bitsOf s2) 10 (numberBits 6 0)

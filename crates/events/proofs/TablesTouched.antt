@@ -11,6 +11,7 @@ use lib.Dec.{T}
 use Rattle.frames.specs.Bits.{bitsOf, packedIn, zeroBit, zeroBits}
 use Rattle.frames.specs.Refusals.{good}
 use Rattle.frames.proofs.PackedBits.{Bits, length-bitsOf, bits-drop}
+use Rattle.frames.proofs.NumberBits.{bits-append}
 use Rattle.frames.proofs.PackedRows.{bits-bitsOf, unpacked}
 use Rattle.files.specs.declared.Setting.{Setting}
 use Rattle.files.specs.Lists.{In, any, keep, isIn}
@@ -107,15 +108,11 @@ module _ (y : Domain) (test : Place → Bool) (new : Place → List ℕ) (fits :
   bits-take (suc n) [] h = tt
   bits-take (suc n) (x ∷ l) h = (h .0, bits-take n l (h .1))
 
-  bits-more : (l m : List ℕ) → Bits l → Bits m → Bits (l ++ m)
-  bits-more [] m h k = k
-  bits-more (x ∷ l) m h k = (h .0, bits-more l m (h .1) k)
-
   renewed-bits : ((v : Place) → Bits (new v)) → (qs : List Place) (l : List ℕ) → Bits l → Bits (renewed test (size y) new qs l)
   unfolding renewed
   renewed-bits h [] l k = k
   renewed-bits h (v ∷ qs) l k =
-      bits-more (piece v l) (renewed test (size y) new qs (drop (size y v) l)) (go (test v)) (renewed-bits h qs (drop (size y v) l) (bits-drop (size y v) l k))
+      bits-append (piece v l) (renewed test (size y) new qs (drop (size y v) l)) (go (test v)) (renewed-bits h qs (drop (size y v) l) (bits-drop (size y v) l k))
     where
       go : (b : Bool) → Bits (cond b (new v) (take (size y v) l))
       go true = h v

@@ -4,14 +4,14 @@ use mathlib.Core.Path.{_≡_, refl, sym, ap, ap₂, subst, _∙_}
 use mathlib.Core.Logic.{_⊎_, inl, inr}
 use mathlib.Core.List.{List, [], _∷_, _++_, map, flatMap, append-assoc, append-nil, map-append}
 use mathlib.Core.Bool.{Bool, true, false, cond}
-use Prim.Native.Nat.{ℕ, zero, suc, _+_, _*_, _-_, _/_, _≤_, _<_}
+use Prim.Native.Nat.{ℕ, _+_, _*_, _-_, _/_, _≤_, _<_}
 use native.Mathlib.Omega.{arith}
 use lib.ListN.{length, getD, take, drop, replicate, length-append, length-drop, length-map}
-use lib.Seq.{take-at, drop-at, getD-drop}
+use lib.Seq.{take-at, drop-at}
 use lib.Dec.{T, eqb}
 use Rattle.frames.specs.Bits.{bitsOf, packedIn, bytesFor, packed, zeroBit, zeroBits, marked}
 use Rattle.frames.proofs.PackedBits.{Bits, length-packedIn}
-use Rattle.frames.proofs.PackedRows.{Bytes, bitsOf-append, packed-back, unpacked, bytes-packedIn}
+use Rattle.frames.proofs.PackedRows.{Bytes, bytes-append, bytes-drop, bitsOf-append, packed-back, unpacked, bytes-packedIn}
 use Rattle.frames.proofs.DisableBits.{bits-zeroBits, marked-room, length-marked}
 use Rattle.files.specs.declared.Phy.{Phy}
 use Rattle.files.specs.Lists.{In, isIn}
@@ -53,11 +53,6 @@ unfolding flatMap
 zeroBits-flat f [] = refl
 zeroBits-flat f (v ∷ qs) = map-append zeroBit (f v) (flatMap f qs) ∙ ap (λ l. zeroBits (f v) ++ l) (zeroBits-flat f qs)
 
-bytes-append : (s t : List ℕ) → Bytes s → Bytes t → Bytes (s ++ t)
-bytes-append [] t h k j = k j
-bytes-append (x ∷ s) t h k zero = h zero
-bytes-append (x ∷ s) t h k (suc j) = bytes-append s t (λ i. h (suc i)) k j
-
 -- padding bits and the bits of the bytes after
 abbrev afterBits : ℕ → List ℕ → List ℕ
 afterBits n bits = replicate (8 * bytesFor n - n) 0 ++ bitsOf (drop (bytesFor n) bits)
@@ -77,7 +72,7 @@ module _ (words bits : List ℕ) (h : bytesFor (length words) ≤ length bits) w
   marked-bytes b =
       let n : ℕ = bytesFor (length words) in
       subst Bytes (sym (marked-room words bits h))
-      (bytes-append (packed (zeroBits words)) (drop n bits) (bytes-packedIn (bytesFor (length (zeroBits words))) (zeroBits words) (bits-zeroBits words)) (λ k. rw (getD-drop n bits k 0) (b (n + k))))
+      (bytes-append (packed (zeroBits words)) (drop n bits) (bytes-packedIn (bytesFor (length (zeroBits words))) (zeroBits words) (bits-zeroBits words)) (bytes-drop n bits b))
 
 -- d, and d with phy q of expander e plugged or pulled, both accepted
 module _ (d : Domain) (e q a : ℕ) (f : T (pluggable (phyAt d e q))) (wires : Wired d) (linked : Linked d)

@@ -36,25 +36,21 @@ use Rattle.events.specs.EventFile.{fileEdited}
 use Rattle.events.specs.Calls.{eventCall, fileAfter, entriesAfter, EventDone, Lab}
 use Rattle.events.specs.EventLists.{Configured}
 use Rattle.events.specs.WordsMoved.{OnDirect, Unaltered, tableLinks, MovesLittle}
+use Rattle.tables.proofs.filling.WordsChanged.{changed-self}
 use Rattle.tables.proofs.events.LevelsAfterEvent.{route-indexes-same, attribute-same, touched-same, table-places-same}
 use Rattle.events.proofs.TouchedTablesRefilled.{renewed-is, table-same, tables-length}
 use Rattle.events.proofs.EventLists.{accepted-is}
 use Rattle.events.proofs.OneWordChanged.{list-length, table-one}
 
--- words changed: of a list and itself, of one with a place set, and of two lists one after the other
-changed-none : (l : List ℕ) → changed l l ≡ 0
-unfolding changed
-changed-none [] = refl
-changed-none (x ∷ l) = rw (is-true (eqb x x) (eqb-refl x)) (omega (arith, changed-none l))
-
+-- words changed: of a list with a place set, and of two lists one after the other
 changed-set : (l : List ℕ) (j v : ℕ) → changed l (set l j v) ≤ 1
 unfolding changed
 changed-set [] j v = omega arith
 changed-set (x ∷ l) zero v = go (eqb x v)
   where
     go : (b : Bool) → cond b 0 1 + changed l l ≤ 1
-    go true = omega (arith, changed-none l)
-    go false = omega (arith, changed-none l)
+    go true = omega (arith, changed-self l)
+    go false = omega (arith, changed-self l)
 changed-set (x ∷ l) (suc j) v = rw (is-true (eqb x x) (eqb-refl x)) (omega (arith, changed-set l j v))
 
 changed-append : (l m l′ m′ : List ℕ) → length l ≡ length m → changed (l ++ l′) (m ++ m′) ≡ changed l m + changed l′ m′
@@ -100,7 +96,7 @@ module _ (d : Domain) (e q a : ℕ) (f : T (pluggable (phyAt d e q))) (was : T (
           omega (arith, rest)
       go false k r =
           let s = table-same d e q a f w l w′ l′ v (untouched v (λ t. subst T k t)) in
-          let c : changed (tableAt d v) (tableAt d′ v) ≡ 0 = subst (λ y. changed (tableAt d v) y ≡ 0) s (changed-none (tableAt d v)) in
+          let c : changed (tableAt d v) (tableAt d′ v) ≡ 0 = subst (λ y. changed (tableAt d v) y ≡ 0) s (changed-self (tableAt d v)) in
           omega (arith, rest)
 
   -- of all tables, whatever words stand after them
@@ -109,7 +105,7 @@ module _ (d : Domain) (e q a : ℕ) (f : T (pluggable (phyAt d e q))) (was : T (
   few-changed rest =
       let r = changed-tables (tablePlaces d) in
       let c : changed (tables d) (tables d′) ≤ length (tableLinks d) = subst (λ vs. changed (tables d) (flatMap (tableAt d′) vs) ≤ length (tableLinks d)) (sym (table-places-same d e q a f)) r in
-      omega (arith, changed-append (tables d) (tables d′) rest rest (sym (tables-length d e q a f w l w′ l′)), changed-none rest)
+      omega (arith, changed-append (tables d) (tables d′) rest rest (sym (tables-length d e q a f w l w′ l′)), changed-self rest)
 
   size-of : (v : Place) → In v (tablePlaces d′) → size d′ v ≡ expanderAt d (v .expander) .routeIndexes
   unfolding size tablePlaces

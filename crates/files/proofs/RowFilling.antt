@@ -69,7 +69,7 @@ length-rowOf e h =
     rw (length-append, length-replicate) (omega arith)
 
 -- a row whose words after the phys are zeros, with its words stored
-pub stored : (l : List ℕ) (a w : ℕ) (ws : List ℕ) → length l ≡ 258 → length ws ≤ 256 → drop (2 + length ws) l ≡ replicate (256 - length ws) 0
+stored : (l : List ℕ) (a w : ℕ) (ws : List ℕ) → length l ≡ 258 → length ws ≤ 256 → drop (2 + length ws) l ≡ replicate (256 - length ws) 0
     → sets (set (set l 0 a) 1 w) 2 ws ≡ a ∷ w ∷ (ws ++ replicate (256 - length ws) 0)
 stored l a w ws n h z =
     let e : 2 + length ws ≡ suc (suc (length ws)) = omega arith in

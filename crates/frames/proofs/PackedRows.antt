@@ -5,7 +5,7 @@ use mathlib.Core.List.{List, [], _∷_, _++_, append-assoc}
 use native.Mathlib.Omega.{arith}
 use native.Mathlib.Nat.{mod-eq-of-lt}
 use lib.ListN.{length, getD, drop, set, replicate, length-append, length-replicate, take-append-drop, length-drop}
-use lib.Seq.{drop-at, drop-append-add, drop-nil}
+use lib.Seq.{drop-at, drop-append-add, drop-nil, getD-drop}
 use Rattle.frames.specs.Bits.{numberBits, field, bitsOf, packedIn, packed}
 use Rattle.frames.proofs.PackedBits.{Bits, length-numberBits, length-bitsOf, bits-drop}
 use Rattle.frames.proofs.NumberBits.{bits-numberBits, bits-append, field-back, bits-back, field-lt}
@@ -13,6 +13,14 @@ use Rattle.frames.proofs.NumberBits.{bits-numberBits, bits-append, fiel
 -- all numbers of a list are bytes
 abbrev pub Bytes : List ℕ → Type 0
 Bytes s = (k : ℕ) → getD s k 0 < 256
+
+pub bytes-append : (s t : List ℕ) → Bytes s → Bytes t → Bytes (s ++ t)
+bytes-append [] t h k n = k n
+bytes-append (b ∷ s) t h k zero = h 0
+bytes-append (b ∷ s) t h k (suc n) = bytes-append s t (λ m. h (suc m)) k n
+
+pub bytes-drop : (n : ℕ) (s : List ℕ) → Bytes s → Bytes (drop n s)
+bytes-drop n s h k = rw getD-drop (h (n + k))
 
 pub bits-bitsOf : (s : List ℕ) → Bits (bitsOf s)
 unfolding bitsOf

@@ -17,7 +17,6 @@ use Rattle.listing.specs.Text.{lineOf}
 use Rattle.listing.specs.Lines.{Entry, wordLines, textOf, fitting, entriesFrom, linesFrom, cursorAt, cursorAfter, chunkFrom, chunksFrom, ChunkPut}
 use Rattle.listing.proofs.Cursors.{entries-after}
 use Rattle.listing.proofs.BytesPut.{Going, go-start, go-turn, go-end, put-within}
-use Rattle.listing.proofs.Digits.{line-short}
 use Rattle.files.proofs.OneMore.{drop-next}
 
 module _ (end : ℕ) where
@@ -115,9 +114,9 @@ module _ (ws : List ℕ) where
   module _ {es₀ : List Entry} {w₀ : ℕ} {out₀ : List ℕ} {es : List Entry} {w : ℕ} {out : List ℕ} {end : ℕ} (g : Putting es₀ w₀ out₀ es w out end) where
     -- one line more
     pub putting-line : {out' : List ℕ} {end' : ℕ} (e : Entry) (es' : List Entry) → es ≡ e ∷ es' → w < length ws → end ≤ 65456
-        → end + 80 ≤ length out → WordsPut out out' end end' (lineOf (e .expander) (e .phy) (e .index) (getD ws w 0))
+        → WordsPut out out' end end' (lineOf (e .expander) (e .phy) (e .index) (getD ws w 0))
         → Putting es₀ w₀ out₀ es' (w + 1) out' end'
-    putting-line {out'} {end'} e es' q h f room u =
+    putting-line {out'} {end'} e es' q h f u =
         let l : List ℕ = lineOf (e .expander) (e .phy) (e .index) (getD ws w 0) in
         let c = drop-next 0 ws w h in
         let t : toPut es w end ≡ l ∷ toPut es' (w + 1) end' =
@@ -126,7 +125,7 @@ module _ (ws : List ℕ) where
         record {
           entries = sym (ap₂ (λ (x : List (List ℕ)) (y : List Entry). drop (length x) y) t q) ∙ g .entries;
           word = omega (arith, ap length t, g .word);
-          text = go-turn (g .text) _ u (text-next _ _ _ t) (omega (arith, line-short (e .expander) (e .phy) (e .index) (getD ws w 0)));
+          text = go-turn (g .text) _ u (text-next _ _ _ t);
         }
 
 module _ {d : Domain} {ws : List ℕ} {from : Cursor} {out₀ : List ℕ} {es : List Entry} {w : ℕ} {out : List ℕ} {end : ℕ}

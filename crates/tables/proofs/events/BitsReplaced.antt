@@ -12,7 +12,6 @@ use Rattle.frames.proofs.PackedRows.{bitsOf-append, bitsOf-drop, unpacked}
 use Rattle.frames.proofs.SetBits.{bits-set}
 use Rattle.frames.proofs.ValuesPut.{sets-parts, sets-append}
 use Rattle.files.proofs.OneMore.{drop-next}
-use Rattle.tables.specs.lists.GrowingLists.{overlay}
 use Rattle.tables.specs.events.TablesRewritten.{withBit}
 
 -- bit k of bytes replaced, by its byte
@@ -41,11 +40,6 @@ mark-turn s t words at k b inv e q h =
 pub mark-last : (s words : List ℕ) (at k : ℕ) {v : List ℕ} → sets (bitsOf s) (at + k) (zeroBits (drop k words)) ≡ v → length words ≤ k → bitsOf s ≡ v
 mark-last s words at k inv h = sym (ap (λ (l : List ℕ). sets (bitsOf s) (at + k) (zeroBits l)) (drop-of-length-le words h)) ∙ inv
 
--- stores one after the other are the new numbers put there
-pub sets-overlay : (l : List ℕ) (at : ℕ) (new : List ℕ) → at + length new ≤ length l → sets l at new ≡ overlay l at new
-unfolding overlay
-sets-overlay l at new h = sets-parts l at new h
-
 -- whole bytes of disable bits put among bytes
 module _ (s words : List ℕ) (j : ℕ) (whole : length words % 8 ≡ 0) (room : 8 * j + length words ≤ 8 * length s) where
   abbrev new : List ℕ
@@ -70,12 +64,11 @@ module _ (s words : List ℕ) (j : ℕ) (whole : length words % 8 ≡ 0) (room :
       ap bitsOf (drop-drop (bytesFor (length words)) j s) ∙ bitsOf-drop (j + bytesFor (length words)) s ∙ ap (λ (k : ℕ). drop k (bitsOf s)) n
 
   pub marked-bytes : bitsOf (take j s ++ marked words (drop j s)) ≡ sets (bitsOf s) (8 * j) new
-  unfolding overlay
   marked-bytes =
       let rest : List ℕ = drop (bytesFor (length words)) (drop j s) in
       ap (λ (x : List ℕ). bitsOf (take j s ++ x)) (marked-room words (drop j s) (omega (arith, length-drop j s)))
       ∙ bitsOf-append (take j s) (packed new ++ rest) ∙ ap₂ _++_ front (bitsOf-append (packed new) rest ∙ ap₂ _++_ middle back)
-      ∙ sym (sets-overlay (bitsOf s) (8 * j) new (omega (arith, same, length-bitsOf s)))
+      ∙ sym (sets-parts (bitsOf s) (8 * j) new (omega (arith, same, length-bitsOf s)))
 
 -- the same where they are lent as the part of the bytes from j on
 pub marked-part : (s words r : List ℕ) (j : ℕ) → length words % 8 ≡ 0 → 8 * j + length words ≤ 8 * length s → r ≡ marked words (take (length s - j) (drop j s))

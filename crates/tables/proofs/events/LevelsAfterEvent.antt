@@ -12,10 +12,12 @@ use Rattle.files.specs.declared.Phy.{Phy}
 use Rattle.files.specs.declared.Phy.the-variants.{Vacant, Present}
 use Rattle.files.specs.Lists.{In, keep, isIn}
 use Rattle.files.specs.Domain.{Expander, Domain, noExpander, expanderAt, phyAt, addressOf, attachedPhyOf, hasAttribute, isTable, toExpander, numberOf}
-use Rattle.wiring.specs.phys.PhyCauses.{Place, phyPlaces, placesFrom, places, farPhy}
+use Rattle.wiring.specs.phys.PhyCauses.{Place, places}
 use Rattle.files.specs.PhyReplaced.{withPhy, setPhy}
 use Rattle.files.proofs.ListMembers.{is-false, keep-same}
-use Rattle.files.proofs.Domains.{phy-range, expander-range}
+use Rattle.files.proofs.Domains.{number-set, phy-range, expander-range}
+use Rattle.wiring.proofs.phys.WiredPhys.{places-set}
+use Rattle.tables.proofs.levels.DownstreamLists.{downstream-none}
 use Rattle.tables.proofs.levels.LevelOrders.{not-down}
 use Rattle.tables.specs.levels.Levels.{eachOnce, down, downstreamOfPhys, downstream, nextLevel, levelsFrom, levels}
 use Rattle.tables.specs.filling.Tables.{tablePlaces, size, sizes, needed, offsetIn, stretch}
@@ -51,18 +53,6 @@ replug-address : (a : ℕ) (φ : Phy) → T (pluggable φ) → addressOf (replug
 replug-address a (Vacant r) t = absurd t
 replug-address a (Present f) t = refl
 
-number-set : (d : Domain) (e : ℕ) (y : Expander) (s : ℕ) → y .address ≡ expanderAt d e .address → numberOf (set d e y) s ≡ numberOf d s
-unfolding numberOf
-number-set [] e y s h = refl
-number-set (x ∷ d) zero y s h = ap (λ v. cond (eqb v s) 0 (suc (numberOf d s))) h
-number-set (x ∷ d) (suc e) y s h = ap (λ v. cond (eqb (x .address) s) 0 (suc v)) (number-set d e y s h)
-
-placesFrom-set : (d : Domain) (k e : ℕ) (y : Expander) → length (y .phys) ≡ length (expanderAt d e .phys) → placesFrom k (set d e y) ≡ placesFrom k d
-unfolding placesFrom
-placesFrom-set [] k e y h = refl
-placesFrom-set (x ∷ d) k zero y h = ap (λ v. phyPlaces k 0 v ++ placesFrom (k + 1) d) h
-placesFrom-set (x ∷ d) k (suc e) y h = ap (λ v. phyPlaces k 0 (length (x .phys)) ++ v) (placesFrom-set d (k + 1) e y h)
-
 downstreamOfPhys-same : (d d′ : Domain) (φs : List Phy) → ((s : ℕ) → numberOf d′ s ≡ numberOf d s) → ((φ : Phy) → down d′ φ ≡ down d φ) → downstreamOfPhys d′ φs ≡ downstreamOfPhys d φs
 unfolding downstreamOfPhys keep
 downstreamOfPhys-same d d′ [] n h = refl
@@ -83,10 +73,6 @@ downstreamOfPhys-set d (φ ∷ φs) (suc q) ψ h k = go (down d φ) (downstreamO
         → map (λ ψ. numberOf d (addressOf ψ)) (cond b (φ ∷ keep (down d) (set φs q ψ)) (keep (down d) (set φs q ψ))) ≡ map (λ ψ. numberOf d (addressOf ψ)) (cond b (φ ∷ keep (down d) φs) (keep (down d) φs))
     go true r = ap (λ l. numberOf d (addressOf φ) ∷ l) r
     go false r = r
-
-none-downstream : (d : Domain) (φ : Phy) → down d φ ≡ false → downstreamOfPhys d (φ ∷ []) ≡ []
-unfolding downstreamOfPhys keep
-none-downstream d φ h = rw h refl
 
 -- the domain d, and d with phy q of expander e plugged or pulled
 module _ (d : Domain) (e q a : ℕ) (f : T (pluggable (phyAt d e q))) where
@@ -120,7 +106,7 @@ module _ (d : Domain) (e q a : ℕ) (f : T (pluggable (phyAt d e q))) where
 
   pub places-same : places d′ ≡ places d
   unfolding setPhy withPhy
-  places-same = placesFrom-set d 0 e (withPhy (expanderAt d e) q ψ) (length-set (expanderAt d e .phys) q ψ)
+  places-same = places-set d 0 e (withPhy (expanderAt d e) q ψ) (length-set (expanderAt d e .phys) q ψ)
 
   -- every expander: as it was, or the one named
   pub by-expander : {A : Type 0} (g : Expander → A) → g (withPhy (expanderAt d e) q ψ) ≡ g (expanderAt d e) → (i : ℕ) → g (expanderAt d′ i) ≡ g (expanderAt d i)
@@ -190,7 +176,7 @@ module _ (d : Domain) (e q a : ℕ) (f : T (pluggable (phyAt d e q))) where
 
   pub first-level-same : (x p : ℕ) → downstreamOfPhys d′ (phyAt d′ x p ∷ []) ≡ downstreamOfPhys d (phyAt d x p ∷ [])
   first-level-same x p =
-      downstreamOfPhys-same d d′ (phyAt d′ x p ∷ []) number-same down-same ∙ by-phy (λ φ. downstreamOfPhys d (φ ∷ [])) (none-downstream d ψ not-here ∙ sym (none-downstream d (phyAt d e q) not-there)) x p
+      downstreamOfPhys-same d d′ (phyAt d′ x p ∷ []) number-same down-same ∙ by-phy (λ φ. downstreamOfPhys d (φ ∷ [])) (downstream-none d ψ not-here ∙ sym (downstream-none d (phyAt d e q) not-there)) x p
 
   -- an event leaves the levels as they were
   pub levels-same : (x p : ℕ) → levels d′ x p ≡ levels d x p

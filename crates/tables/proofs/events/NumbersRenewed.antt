@@ -4,25 +4,22 @@ use mathlib.Core.Path.{_≡_, refl, sym, _∙_, ap, ap₂}
 use mathlib.Core.Bool.{Bool, true, false, cond}
 use mathlib.Core.List.{List, [], _∷_, _++_, append-assoc}
 use native.Mathlib.Omega.{arith}
-use lib.ListN.{length, take, drop, length-append, length-drop, take-append-drop}
-use lib.Seq.{take-at, drop-drop, length-take-le, take-append-add, drop-append-add}
+use lib.ListN.{length, take, drop, length-drop, take-append-drop}
+use lib.Seq.{sets, take-at, drop-drop, length-take-le, take-append-add}
 use lib.Dec.{T}
+use Rattle.frames.proofs.PackedRows.{drop-past}
+use Rattle.frames.proofs.ValuesPut.{sets-mid}
 use Rattle.files.specs.Lists.{keep}
 use Rattle.files.specs.Domain.{Domain}
 use Rattle.wiring.specs.phys.PhyCauses.{Place}
 use Rattle.files.proofs.ListMembers.{was-true}
 use Rattle.tables.specs.filling.Tables.{size, sizes}
-use Rattle.tables.specs.lists.GrowingLists.{overlay}
 use Rattle.tables.specs.events.TouchedTables.{renewed}
 use Rattle.tables.specs.events.TablesRewritten.{renewedAt}
 
 -- past a front whose length is known
-module _ {A : Type 0} (p q : List A) (m n : ℕ) (e : length p ≡ m) where
-  pub take-past : take (m + n) (p ++ q) ≡ p ++ take n q
-  take-past = ap (λ (k : ℕ). take (k + n) (p ++ q)) (sym e) ∙ take-append-add p q n
-
-  pub drop-past : drop (m + n) (p ++ q) ≡ drop n q
-  drop-past = ap (λ (k : ℕ). drop (k + n) (p ++ q)) (sym e) ∙ drop-append-add p q n
+take-past : (p q : List ℕ) (n k : ℕ) → k ≡ length p + n → take k (p ++ q) ≡ p ++ take n q
+take-past p q n k e = rw e (take-append-add p q n)
 
 module _ (d : Domain) (test : Place → Bool) (new : Place → List ℕ) (fits : (v : Place) → T (test v) → length (new v) ≡ size d v) where
   abbrev piece : Place → List ℕ → List ℕ
@@ -40,7 +37,7 @@ module _ (d : Domain) (test : Place → Bool) (new : Place → List ℕ) (fits :
   renewed-after [] l h = refl
   renewed-after (v ∷ qs) l h =
       let k = length-drop (size d v) l in
-      drop-past (piece v l) (renewed test (size d) new qs (drop (size d v) l)) (size d v) (sizes d qs) (length-piece v l (omega arith))
+      drop-past (piece v l) (renewed test (size d) new qs (drop (size d v) l)) (sizes d qs) (size d v + sizes d qs) (omega (arith, length-piece v l (omega arith)))
       ∙ renewed-after qs (drop (size d v) l) (omega arith) ∙ drop-drop (sizes d qs) (size d v) l
 
   -- places, and others after them
@@ -55,13 +52,13 @@ module _ (d : Domain) (test : Place → Bool) (new : Place → List ℕ) (fits :
       let n : ℕ = sizes d qs in
       let e : length p ≡ size d v = length-piece v l (omega arith) in
       ap (λ (m : List ℕ). p ++ m) (renewed-cut qs rs (drop (size d v) l) (omega arith)) ∙ sym (append-assoc p (take n x) (renewed test (size d) new rs (drop n x)))
-      ∙ sym (ap₂ (λ (a b : List ℕ). a ++ renewed test (size d) new rs b) (take-past p x (size d v) n e) (drop-past p x (size d v) n e))
+      ∙ sym (ap₂ (λ (a b : List ℕ). a ++ renewed test (size d) new rs b) (take-past p x n (size d v + n) (omega arith)) (drop-past p x n (size d v + n) (omega arith)))
 
   pub renewedAt-after : (qs : List Place) (at : ℕ) (l : List ℕ) → at + sizes d qs ≤ length l → drop (at + sizes d qs) (renewedAt d test new qs at l) ≡ drop (at + sizes d qs) l
   unfolding renewedAt
   renewedAt-after qs at l h =
       let k = length-drop at l in
-      drop-past (take at l) (renewed test (size d) new qs (drop at l)) at (sizes d qs) (length-take-le at l (omega arith))
+      drop-past (take at l) (renewed test (size d) new qs (drop at l)) (sizes d qs) (at + sizes d qs) (omega (arith, length-take-le at l (omega arith)))
       ∙ renewed-after qs (drop at l) (omega arith) ∙ drop-drop (sizes d qs) at l
 
   pub renewedAt-before : (qs : List Place) (at : ℕ) (l : List ℕ) → at ≤ length l → take at (renewedAt d test new qs at l) ≡ take at l
@@ -77,7 +74,7 @@ module _ (d : Domain) (test : Place → Bool) (new : Place → List ℕ) (fits :
       let x : List ℕ = renewed test (size d) new qs (drop at l) in
       let n : ℕ = sizes d qs in
       let e : length p ≡ at = length-take-le at l (omega arith) in
-      ap₂ (λ (a b : List ℕ). a ++ renewed test (size d) new rs b) (take-past p x at n e) (drop-past p x at n e)
+      ap₂ (λ (a b : List ℕ). a ++ renewed test (size d) new rs b) (take-past p x n (at + n) (omega arith)) (drop-past p x n (at + n) (omega arith))
       ∙ append-assoc p (take n x) (renewed test (size d) new rs (drop n x)) ∙ ap (λ (m : List ℕ). p ++ m) (sym (renewed-cut qs rs (drop at l) (omega arith)))
 
   pub renewedAt-none : (at : ℕ) (l : List ℕ) → renewedAt d test new [] at l ≡ l
@@ -85,13 +82,12 @@ module _ (d : Domain) (test : Place → Bool) (new : Place → List ℕ) (fits :
   renewedAt-none at l = take-append-drop at l
 
   -- one place: new numbers put there, or all as it was
-  pub renewedAt-new : (v : Place) (at : ℕ) (l : List ℕ) → test v ≡ true → renewedAt d test new (v ∷ []) at l ≡ overlay l at (new v)
-  unfolding renewedAt renewed overlay
-  renewedAt-new v at l q =
+  pub renewedAt-new : (v : Place) (at : ℕ) (l : List ℕ) → test v ≡ true → at + size d v ≤ length l → renewedAt d test new (v ∷ []) at l ≡ sets l at (new v)
+  unfolding renewedAt renewed
+  renewedAt-new v at l q h =
       let t : T (test v) = was-true (test v) q in
       let a : cond (test v) (new v) (take (size d v) (drop at l)) ≡ new v = ap (λ (b : Bool). cond b (new v) (take (size d v) (drop at l))) q in
-      let b : drop (size d v) (drop at l) ≡ drop (at + length (new v)) l = drop-drop (size d v) at l ∙ ap (λ (n : ℕ). drop (at + n) l) (sym (fits v t)) in
-      ap₂ (λ (x y : List ℕ). take at l ++ (x ++ y)) a b
+      ap (λ (x : List ℕ). take at l ++ (x ++ drop (size d v) (drop at l))) a ∙ sets-mid l (new v) at (size d v) (fits v t) h
 
   pub renewedAt-old : (v : Place) (at : ℕ) (l : List ℕ) → test v ≡ false → renewedAt d test new (v ∷ []) at l ≡ l
   unfolding renewedAt renewed

@@ -3,15 +3,16 @@
 use Prim.Native.Nat.{ℕ, zero, suc, _+_, _-_, _*_, _≤_, _<_}
 use mathlib.Core.Path.{_≡_, refl, sym, _∙_, ap, ap₂}
 use mathlib.Core.Logic.{by-cases}
-use mathlib.Core.Bool.{Bool, true, false, _||_, _&&_}
+use mathlib.Core.Bool.{Bool, true, false, _||_, _&&_, or-assoc, or-false}
 use mathlib.Core.List.{List, [], _∷_, _++_}
 use native.Mathlib.Decide.{decLt}
 use native.Mathlib.Omega.{arith}
 use native.Mathlib.Nat.{zero-add, add-zero}
 use native.Mathlib.Numerals.{add-one}
 use lib.ListN.{length, getD, take, drop, set, length-take}
-use lib.Seq.{take-suc, getD-take, drop-set-lt, drop-append-add, drop-drop, length-take-le}
+use lib.Seq.{take-suc, getD-take, drop-set-lt, drop-drop, length-take-le}
 use lib.Dec.{eqb, ltb}
+use Rattle.frames.proofs.PackedRows.{drop-past}
 use Rattle.wiring.specs.FrameDefinitions.{Result, refused, good, then}
 use Rattle.wiring.specs.declared.Check.{Check}
 use Rattle.wiring.specs.declared.Check.the-variants.{Refused, Passed}
@@ -32,14 +33,6 @@ use Rattle.tables.specs.events.EndDeviceTests.{isEnd, endsAt, isFound}
 use Rattle.tables.proofs.lists.ListCells.{cells-put}
 
 -- booleans
-or-assoc : (a b c : Bool) → ((a || b) || c) ≡ (a || (b || c))
-or-assoc true b c = refl
-or-assoc false b c = refl
-
-or-no : (b : Bool) → (b || false) ≡ b
-or-no true = refl
-or-no false = refl
-
 and-yes : (a b : Bool) → (a && (b && true)) ≡ (a && b)
 and-yes a true = refl
 and-yes a false = refl
@@ -82,7 +75,7 @@ module _ (k : ℕ) (d : Domain) (i : ℕ) where
 -- before the first expander
 pub taken-start : (s : ℕ) (d : Domain) {t : Bool} → t ≡ ltb (numberOf d s) (length d) → t ≡ isTaken d 0 s
 unfolding any
-taken-start s d e = e ∙ sym (or-no (ltb (numberOf d s) (length d)))
+taken-start s d e = e ∙ sym (or-false (ltb (numberOf d s) (length d)))
 
 -- 8 of one address at one expander
 module _ (s : ℕ) (d : Domain) (i : ℕ) where
@@ -107,7 +100,7 @@ module _ (s : ℕ) (d : Domain) (i : ℕ) where
       let y : Bool = any (endAt s) (take i d) in
       let n : take (i + 1) d ≡ take i d ++ (expanderAt d i ∷ []) = rw add-one (take-suc d i noExpander h) in
       let z : any (endAt s) (take (i + 1) d) ≡ (y || endAt s (expanderAt d i)) =
-      ap (any (endAt s)) n ∙ any-append (endAt s) (take i d) (expanderAt d i ∷ []) ∙ ap (λ (b : Bool). y || b) (or-no (endAt s (expanderAt d i))) in
+      ap (any (endAt s)) n ∙ any-append (endAt s) (take i d) (expanderAt d i ∷ []) ∙ ap (λ (b : Bool). y || b) (or-false (endAt s (expanderAt d i))) in
       ap₂ _||_ p (q ∙ found-end a e) ∙ or-assoc x y (endAt s (expanderAt d i)) ∙ ap (λ (b : Bool). x || b) (sym z)
 
   -- one turn
@@ -174,9 +167,6 @@ module _ (φs : List Phy) (s q : ℕ) {v : Bool} (inv : any (bears s) (lower φs
   lower-end e = sym (ap (λ (n : ℕ). any (bears s) (lower φs n)) e) ∙ inv
 
 -- words after a list and its length were put into a lent part
-past : (p q : List ℕ) (n k : ℕ) → k ≡ length p + n → drop k (p ++ q) ≡ drop n q
-past p q n k e = ap (λ (j : ℕ). drop j (p ++ q)) e ∙ drop-append-add p q n
-
 put-after : (ws : List ℕ) (a k : ℕ) (r : List ℕ) (m n : ℕ) → length r ≡ k → a + 1 + k ≤ length ws → a + 1 + k ≤ n
     → drop n (set (take (a + 1) ws ++ (r ++ drop k (drop (a + 1) ws))) a m) ≡ drop n ws
 put-after ws a k r m n e fits h =
@@ -184,8 +174,8 @@ put-after ws a k r m n e fits h =
     let x : List ℕ = drop k (drop (a + 1) ws) in
     let z : a + 1 + (k + t) ≡ n = omega arith in
     drop-set-lt n (take (a + 1) ws ++ (r ++ x)) a m (omega arith)
-    ∙ past (take (a + 1) ws) (r ++ x) (k + t) n (omega (arith, length-take-le (a + 1) ws (omega arith)))
-    ∙ past r x t (k + t) (omega arith) ∙ drop-drop t k (drop (a + 1) ws) ∙ drop-drop (k + t) (a + 1) ws ∙ ap (λ (j : ℕ). drop j ws) z
+    ∙ drop-past (take (a + 1) ws) (r ++ x) (k + t) n (omega (arith, length-take-le (a + 1) ws (omega arith)))
+    ∙ drop-past r x t (k + t) (omega arith) ∙ drop-drop t k (drop (a + 1) ws) ∙ drop-drop (k + t) (a + 1) ws ∙ ap (λ (j : ℕ). drop j ws) z
 
 -- one own list put among the others
 pub own-renewed : (d : Domain) (e : ℕ) (ws : List ℕ) → OwnListsHeldBut d e ws → ((j : ℕ) → length (ownWords d j) < 129) → e < length d → {part r : List ℕ} {m : ℕ}

@@ -8,11 +8,12 @@ use borrow.Author.Tests.{not-true}
 use native.Mathlib.Nat.{add-zero, zero-add}
 use native.Mathlib.Numerals.{add-one}
 use lib.ListN.{length, getD, take, drop, length-append, length-drop, length-map, take-append-drop}
-use lib.Seq.{sets, take-all, take-at, drop-at, drop-drop, length-take-le}
+use lib.Seq.{sets, take-all, take-at, drop-at, length-take-le}
 use lib.Dec.{T}
 use Rattle.frames.specs.Bits.{bitsOf, packedIn, zeroBit, zeroBits}
 use Rattle.frames.proofs.PackedBits.{length-bitsOf}
 use Rattle.frames.proofs.PackedRows.{Bytes, packed-back}
+use Rattle.frames.proofs.ValuesPut.{sets-mid}
 use Rattle.files.specs.declared.Phy.{Phy}
 use Rattle.wiring.specs.FrameDefinitions.{Result, good}
 use Rattle.files.specs.Lists.{any, keep, isIn}
@@ -23,7 +24,7 @@ use Rattle.tables.specs.levels.Levels.{down}
 use Rattle.tables.specs.filling.Tables.{tablePlaces, size, sizes, needed}
 use Rattle.tables.specs.filling.Entries.{Entries, entries, roomOf, Room}
 use Rattle.tables.specs.filling.WordsChanged.{changed}
-use Rattle.tables.specs.lists.GrowingLists.{overlay, placesAt}
+use Rattle.tables.specs.lists.GrowingLists.{placesAt}
 use Rattle.tables.specs.lists.PreparedLists.{orderOf, ownWordsOfOrder, filledTo}
 use Rattle.tables.specs.events.TouchedTables.{Moved, movedBy}
 use Rattle.tables.specs.events.ReplugCall.{ownTouched, ownTableAt, ownRefilled, replugAnswer}
@@ -34,7 +35,6 @@ use Rattle.tables.proofs.filling.FilledTable.{length-filled}
 use Rattle.tables.proofs.levels.LevelOrders.{order-none}
 use Rattle.tables.proofs.filling.TablesPut.{sizes-append}
 use Rattle.tables.proofs.filling.WordsChanged.{changed-self, changed-part, changed-then}
-use Rattle.tables.proofs.events.BitsReplaced.{sets-overlay}
 use Rattle.tables.proofs.events.NumbersRenewed.{renewedAt-after, renewedAt-before, renewedAt-then, renewedAt-none, renewedAt-new, renewedAt-old, renewedAt-all, keep-keep}
 
 -- one table in its words and bits
@@ -51,12 +51,8 @@ module _ (ws : List ℕ) (at to : ℕ) (h : at ≤ to) (i : to ≤ length ws) (r
   new-is : r ≡ filledTo (to - at) l
   new-is = q ∙ ap (λ (n : ℕ). filledTo n l) part-length
 
-  pub renew-words : after ≡ overlay ws at (filledTo (to - at) l)
-  unfolding overlay
-  renew-words =
-      let s : List ℕ = filledTo (to - at) l in
-      let n : length s ≡ to - at = length-filled (to - at) l in
-      ap₂ (λ (x y : List ℕ). take at ws ++ (x ++ y)) new-is (drop-drop (to - at) at ws ∙ ap (λ (m : ℕ). drop (at + m) ws) (sym n))
+  pub renew-words : after ≡ sets ws at (filledTo (to - at) l)
+  renew-words = sets-mid ws r at (to - at) new-length (omega arith) ∙ ap (sets ws at) new-is
 
   pub renew-changed : changed (take (to - at) (drop at ws)) r ≡ changed ws after
   renew-changed =
@@ -65,14 +61,12 @@ module _ (ws : List ℕ) (at to : ℕ) (h : at ≤ to) (i : to ≤ length ws) (r
       let w : take at ws ++ (p ++ s) ≡ ws = ap (λ (x : List ℕ). take at ws ++ x) (take-append-drop (to - at) (drop at ws)) ∙ take-append-drop at ws in
       sym (changed-part (take at ws) p r s (part-length ∙ sym new-length)) ∙ ap (λ (x : List ℕ). changed x after) w
 
-  pub renew-bits : (bits bits′ : List ℕ) → bitsOf bits′ ≡ sets (bitsOf bits) at (zeroBits (take (to - at) (drop at after))) → to ≤ 8 * length bits
-      → bitsOf bits′ ≡ overlay (bitsOf bits) at (zeroBits (filledTo (to - at) l))
-  renew-bits bits bits′ e k =
+  pub renew-bits : (bits bits′ : List ℕ) → bitsOf bits′ ≡ sets (bitsOf bits) at (zeroBits (take (to - at) (drop at after)))
+      → bitsOf bits′ ≡ sets (bitsOf bits) at (zeroBits (filledTo (to - at) l))
+  renew-bits bits bits′ e =
       let a : drop at after ≡ r ++ drop (to - at) (drop at ws) = drop-at (take at ws) (r ++ drop (to - at) (drop at ws)) at (length-take-le at ws (omega arith)) in
       let b : take (to - at) (drop at after) ≡ r = ap (take (to - at)) a ∙ take-at r (drop (to - at) (drop at ws)) (to - at) new-length in
-      let n : length (zeroBits r) ≡ to - at = length-map r zeroBit ∙ new-length in
-      e ∙ ap (λ (x : List ℕ). sets (bitsOf bits) at (zeroBits x)) b
-      ∙ sets-overlay (bitsOf bits) at (zeroBits r) (omega (arith, length-bitsOf bits)) ∙ ap (λ (x : List ℕ). overlay (bitsOf bits) at (zeroBits x)) new-is
+      e ∙ ap (λ (x : List ℕ). sets (bitsOf bits) at (zeroBits x)) (b ∙ new-is)
 
 abbrev answer : ℕ → ℕ → Result Moved
 answer t w = good (record { tableCount = t; wordCount = w })
@@ -154,17 +148,17 @@ module _ (d : Domain) (e : ℕ) where
 
   -- one place that is
   pub rewritten-new : (v : Place) (s r : Tally) (a b : Entries) (k : ℕ) → ownTouched d e v ≡ true → roomOf b ≡ roomOf a → k ≡ size d v
-      → b .words ≡ overlay (a .words) (s .at) (filledTo k (ownWordsOfOrder d (v .expander) (v .phy)))
-      → bitsOf (b .bits) ≡ overlay (bitsOf (a .bits)) (s .at) (zeroBits (filledTo k (ownWordsOfOrder d (v .expander) (v .phy))))
+      → s .at + k ≤ length (a .words) → s .at + k ≤ 8 * length (a .bits) → b .words ≡ sets (a .words) (s .at) (filledTo k (ownWordsOfOrder d (v .expander) (v .phy)))
+      → bitsOf (b .bits) ≡ sets (bitsOf (a .bits)) (s .at) (zeroBits (filledTo k (ownWordsOfOrder d (v .expander) (v .phy))))
       → r .at ≡ s .at + size d v → r .tables ≡ s .tables + 1 → r .words ≡ s .words + changed (a .words) (b .words) → Rewritten d e (v ∷ []) s r a b
-  rewritten-new v s r a b k q room n w m x y z =
+  rewritten-new v s r a b k q room n f g w m x y z =
       let l : List ℕ = ownWordsOfOrder d (v .expander) (v .phy) in
       let t : filledTo k l ≡ ownTableAt d v = ap (λ (j : ℕ). filledTo j l) (n ∙ touched-size v (was-true (ownTouched d e v) q)) in
       record {
         same = room;
-        words = w ∙ ap (overlay (a .words) (s .at)) t ∙ sym (renewedAt-new d (ownTouched d e) (ownTableAt d) words-fit v (s .at) (a .words) q);
-        bits = m ∙ ap (λ (j : List ℕ). overlay (bitsOf (a .bits)) (s .at) (zeroBits j)) t
-            ∙ sym (renewedAt-new d (ownTouched d e) (λ q. zeroBits (ownTableAt d q)) bits-fit v (s .at) (bitsOf (a .bits)) q);
+        words = w ∙ ap (sets (a .words) (s .at)) t ∙ sym (renewedAt-new d (ownTouched d e) (ownTableAt d) words-fit v (s .at) (a .words) q (omega arith));
+        bits = m ∙ ap (λ (j : List ℕ). sets (bitsOf (a .bits)) (s .at) (zeroBits j)) t
+            ∙ sym (renewedAt-new d (ownTouched d e) (λ q. zeroBits (ownTableAt d q)) bits-fit v (s .at) (bitsOf (a .bits)) q (omega (arith, length-bitsOf (a .bits))));
         next = omega (arith, one-size v);
         counted = omega (arith, count-one v q);
         differs = z;

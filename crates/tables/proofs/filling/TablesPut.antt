@@ -3,20 +3,21 @@
 use Prim.Native.Nat.{ℕ, zero, suc, _+_, _-_, _*_, _≤_, _<_}
 use mathlib.Core.Path.{_≡_, refl, sym, _∙_, ap}
 use mathlib.Core.Bool.{Bool, true, false, cond}
-use mathlib.Core.List.{List, [], _∷_, _++_, flatMap, append-nil, append-assoc}
+use mathlib.Core.List.{List, [], _∷_, _++_, flatMap, append-nil}
 use native.Mathlib.Omega.{arith}
 use native.Mathlib.Nat.{add-zero, zero-add, zero-mul, suc-mul, mul-le-mul, le-of-lt}
 use native.Mathlib.Numerals.{add-one}
-use lib.ListN.{length, getD, take, drop, length-append, length-drop, take-append-drop, drop-of-length-le}
-use lib.Seq.{take-all, take-at, drop-at, drop-drop, length-take-le}
+use lib.ListN.{length, getD, take, drop, length-append, drop-of-length-le}
+use lib.Seq.{sets, length-sets, take-all}
 use mir.Val.{boolByte}
+use Rattle.frames.proofs.ValuesPut.{sets-front, sets-then, sets-mid}
 use Rattle.files.specs.Lists.{keep}
 use Rattle.files.specs.Domain.{Domain, Expander, noExpander, expanderAt, phyAt, isTable}
 use Rattle.wiring.specs.phys.PhyCauses.{Place, place, phyPlaces, placesFrom, places}
 use Rattle.files.proofs.ListMembers.{keep-append}
 use Rattle.files.proofs.OneMore.{drop-next}
 use Rattle.tables.specs.filling.Tables.{tablePlaces, size, sizes, needed}
-use Rattle.tables.specs.lists.GrowingLists.{placesAt, withTables, overlay, WordsPut}
+use Rattle.tables.specs.lists.GrowingLists.{placesAt, withTables, WordsPut}
 use Rattle.tables.specs.lists.PreparedLists.{ownWordsOfOrder, filledTo, ownTablesOf, ownTables}
 use Rattle.tables.proofs.lists.GrowingLists.{flat-append}
 use Rattle.tables.proofs.filling.FilledTable.{length-filled}
@@ -186,43 +187,13 @@ module _ (d : Domain) where
       ap length (tables-append (q ∷ []) qs) ∙ length-append (ownTablesOf d (q ∷ [])) (ownTablesOf d qs)
       ∙ omega (arith, length-one q, length-tables qs)
 
--- words put one after the other
-pub overlay-none : (ws : List ℕ) (at : ℕ) → overlay ws at [] ≡ ws
-unfolding overlay
-overlay-none ws at = let e : at + 0 ≡ at = add-zero at in rw e (take-append-drop at ws)
-
-pub overlay-next : (ws : List ℕ) (at : ℕ) (r new : List ℕ) → at + length r ≤ length ws → overlay (overlay ws at r) (at + length r) new ≡ overlay ws at (r ++ new)
-unfolding overlay
-overlay-next ws at r new h =
-    let f : List ℕ = take at ws ++ r in
-    let g : List ℕ = drop (at + length r) ws in
-    let lf : length f ≡ at + length r = length-append (take at ws) r ∙ omega (arith, length-take-le at ws (omega arith)) in
-    let s : take at ws ++ (r ++ g) ≡ f ++ g = sym (append-assoc (take at ws) r g) in
-    let n : at + length r + length new ≡ at + length (r ++ new) = omega (arith, length-append r new) in
-    let t₁ : take (at + length r) (f ++ g) ≡ f = take-at f g _ lf in
-    let t₂ : drop (at + length r + length new) (f ++ g) ≡ drop (at + length (r ++ new)) ws =
-    sym (drop-drop (length new) (at + length r) (f ++ g)) ∙ ap (drop (length new)) (drop-at f g _ lf)
-    ∙ drop-drop (length new) (at + length r) ws ∙ ap (λ (x : ℕ). drop x ws) n in
-    rw (s, t₁, t₂) (append-assoc (take at ws) r (new ++ drop (at + length (r ++ new)) ws) ∙ rw (append-assoc r))
-
-length-overlay : (ws : List ℕ) (at : ℕ) (r : List ℕ) → at + length r ≤ length ws → length (overlay ws at r) ≡ length ws
-unfolding overlay
-length-overlay ws at r h =
-    let a = length-append (take at ws) (r ++ drop (at + length r) ws) in
-    let b = length-append r (drop (at + length r) ws) in
-    let c = length-drop (at + length r) ws in
-    omega (arith, length-take-le at ws (omega arith))
-
-put-part : (ws : List ℕ) (at k : ℕ) (r : List ℕ) → length r ≡ k → take at ws ++ (r ++ drop k (drop at ws)) ≡ overlay ws at r
-unfolding overlay
-put-part ws at k r q = rw (drop-drop k at ws, q)
-
+-- the table of one place, put
 module _ (d : Domain) (i p : ℕ) (ws : List ℕ) (at : ℕ) where
   -- no table phy
   pub put-none : isTable (phyAt d i p) ≡ false → WordsPut ws ws at at (ownTablesOf d (place i p ∷ []))
   put-none b =
       let q = tables-by d i p b in
-      record { same = refl; next = omega (arith, ap length q); words = sym (ap (overlay ws at) q ∙ overlay-none ws at) }
+      record { same = refl; next = omega (arith, ap length q); words = sym (ap (sets ws at) q) }
 
   -- a part of the words, lent and filled
   pub put-one : {r : List ℕ} (k : ℕ) → r ≡ filledTo k (ownWordsOfOrder d i p) → isTable (phyAt d i p) ≡ true
@@ -232,30 +203,26 @@ module _ (d : Domain) (i p : ℕ) (ws : List ℕ) (at : ℕ) where
       let new : List ℕ = ownTablesOf d (place i p ∷ []) in
       let s : r ≡ new = t ∙ ap (λ (n : ℕ). filledTo n (ownWordsOfOrder d i p)) z ∙ sym (tables-by d i p b) in
       let lr : length r ≡ k = ap length t ∙ length-filled k (ownWordsOfOrder d i p) in
-      let w : take at ws ++ (r ++ drop k (drop at ws)) ≡ overlay ws at new = put-part ws at k r lr ∙ ap (overlay ws at) s in
+      let w : take at ws ++ (r ++ drop k (drop at ws)) ≡ sets ws at new = sets-mid ws r at k lr (omega arith) ∙ ap (sets ws at) s in
       let ln : length new ≡ k = sym (ap length s) ∙ lr in
-      record { same = ap length w ∙ length-overlay ws at new (omega arith); next = omega arith; words = w }
+      record { same = ap length w ∙ length-sets ws at new; next = omega arith; words = w }
 
 -- a turn, and the end
-module _ (d : Domain) (ws : List ℕ) (at : ℕ) (rest : List Place) {v : List ℕ} (inv : overlay ws at (ownTablesOf d rest) ≡ v) where
+module _ (d : Domain) (ws : List ℕ) (at : ℕ) (rest : List Place) {v : List ℕ} (inv : sets ws at (ownTablesOf d rest) ≡ v) where
   pub put-go : (piece rest' : List Place) {ws' : List ℕ} {to : ℕ} → WordsPut ws ws' at to (ownTablesOf d piece) → rest ≡ piece ++ rest'
-      → at + sizes d rest ≤ length ws → overlay ws' to (ownTablesOf d rest') ≡ v
-  put-go piece rest' {ws'} {to} u q h =
-      let s = sizes-next d rest piece rest' q in
-      ap (λ (x : List ℕ). overlay x to (ownTablesOf d rest')) (u .words)
-      ∙ ap (λ (x : ℕ). overlay (overlay ws at (ownTablesOf d piece)) x (ownTablesOf d rest')) (u .next)
-      ∙ overlay-next ws at (ownTablesOf d piece) (ownTablesOf d rest') (omega (arith, length-tables d piece))
-      ∙ sym (ap (overlay ws at) (tables-next d rest piece rest' q)) ∙ inv
+      → sets ws' to (ownTablesOf d rest') ≡ v
+  put-go piece rest' {ws'} {to} u q =
+      sets-then ws ws' (sets ws' to (ownTablesOf d rest')) at to (ownTablesOf d piece) (ownTablesOf d rest') (u .words) refl (u .next)
+      ∙ sym (ap (sets ws at) (tables-next d rest piece rest' q)) ∙ inv
 
   pub put-end : rest ≡ [] → ws ≡ v
-  put-end q = sym (ap (overlay ws at) (tables-none d rest q) ∙ overlay-none ws at) ∙ inv
+  put-end q = sym (ap (sets ws at) (tables-none d rest q)) ∙ inv
 
 pub put-long : (d : Domain) (at : ℕ) (rest piece rest' : List Place) {to : ℕ} → to ≡ at + length (ownTablesOf d piece) → rest ≡ piece ++ rest'
     → to + sizes d rest' ≡ at + sizes d rest
 put-long d at rest piece rest' e q = omega (arith, sizes-next d rest piece rest' q, length-tables d piece)
 
-pub put-all : (d : Domain) (ws : List ℕ) → overlay ws 0 (ownTables d) ≡ ownTables d ++ drop (needed d) ws
-unfolding overlay
-put-all d ws =
-    let e : 0 + length (ownTables d) ≡ needed d = omega (arith, length-tables d (places d)) in
-    ap (λ (x : ℕ). ownTables d ++ drop x ws) e
+pub put-all : (d : Domain) (ws : List ℕ) → needed d ≤ length ws → sets ws 0 (ownTables d) ≡ ownTables d ++ drop (needed d) ws
+put-all d ws h =
+    let e : length (ownTables d) ≡ needed d = length-tables d (places d) in
+    sets-front (ownTables d) ws (omega arith) ∙ ap (λ (x : ℕ). ownTables d ++ drop x ws) e

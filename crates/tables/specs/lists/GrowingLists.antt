@@ -3,7 +3,8 @@ use Prim.Native.Nat.{ℕ, _+_, _≤_}
 use mathlib.Core.Path.{_≡_}
 use mathlib.Core.Bool.{cond, _||_}
 use mathlib.Core.List.{List, [], _∷_, _++_, flatMap}
-use lib.ListN.{length, take, drop}
+use lib.ListN.{length, take}
+use lib.Seq.{sets}
 use lib.Dec.{leb}
 use Rattle.files.specs.declared.Phy.{Phy}
 use Rattle.files.specs.Lists.{keep, isIn}
@@ -40,12 +41,8 @@ placesAt d i = phyPlaces i 0 (length (expanderAt d i .phys))
 abbrev pub withTables : Domain → List Place → List Place
 withTables d qs = keep (λ q. isTable (phyAt d (q .expander) (q .phy))) qs
 
--- words with new ones from a place on
-unfoldable pub overlay : List ℕ → ℕ → List ℕ → List ℕ
-overlay ws at new = take at ws ++ (new ++ drop (at + length new) ws)
-
--- words put at a place, and the place after them
+-- words put at a place, those that have room, and the place after them; the room for all of them is said where it is promised
 pub record WordsPut (before after : List ℕ) (at r : ℕ) (new : List ℕ) : Type 0 where
   pub same : length after ≡ length before
   pub next : r ≡ at + length new
-  pub words : after ≡ overlay before at new
+  pub words : after ≡ sets before at new

@@ -18,7 +18,7 @@ ghost use Rattle.wiring.specs.phys.PhyCauses.{place};
 ghost use Rattle.files.specs.Rows.{domainIn};
 ghost use Rattle.tables.specs.filling.Entries.{entries, roomOf, Enough};
 ghost use Rattle.tables.specs.filling.Tables.{size, sizes, needed};
-ghost use Rattle.tables.specs.lists.GrowingLists.{placesAt, overlay};
+ghost use Rattle.tables.specs.lists.GrowingLists.{placesAt};
 ghost use Rattle.tables.specs.lists.PreparedLists.{AttachedExpandersKnown, OwnListsHeld, DownstreamListsHeld, orderOf, ownWordsOfOrder, filledTo, Fillable, FilledFrom, mostDownstream};
 ghost use Rattle.tables.specs.events.TouchedTables.{movedBy};
 ghost use Rattle.tables.specs.filling.WordsChanged.{changed};
@@ -103,8 +103,8 @@ fn renew_table(
 ) -> usize
     requires { ⌜ FilledFrom (domainIn (now rows)) (i .0) (p .0) (now lists) (now order) (to - at)
         × ((at ≤ to) × ((to ≤ length (now words)) × (to ≤ 8 * length (now bits)))) ⌝ }
-    ensures { λ r. ⌜ (now (words .exit) ≡ overlay (now (words .entry)) at (filledTo (to - at) (ownWordsOfOrder (domainIn (now (rows .entry))) (i .0) (p .0))))
-        × ((bitsOf (now (bits .exit)) ≡ overlay (bitsOf (now (bits .entry))) at (zeroBits (filledTo (to - at) (ownWordsOfOrder (domainIn (now (rows .entry))) (i .0) (p .0)))))
+    ensures { λ r. ⌜ (now (words .exit) ≡ sets (now (words .entry)) at (filledTo (to - at) (ownWordsOfOrder (domainIn (now (rows .entry))) (i .0) (p .0))))
+        × ((bitsOf (now (bits .exit)) ≡ sets (bitsOf (now (bits .entry))) at (zeroBits (filledTo (to - at) (ownWordsOfOrder (domainIn (now (rows .entry))) (i .0) (p .0)))))
         × ((r ≡ changed (now (words .entry)) (now (words .exit))) × (r ≤ to - at))) ⌝ }
 {
     let n = table_filling::fill_table(rows, lists, order, i, p, &mut words[at..to]);

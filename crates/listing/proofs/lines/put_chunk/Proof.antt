@@ -115,7 +115,7 @@ loop-again-2 c =
     let u = c .before .put-line-at .ensures in
     let z = l .inv .1 .1 .text .same in
     let g = putting-line _ (l .inv .1 .1) (entry (at .expander .0) (at .phy .0) (at .index .0)) (entriesOn d (at .expander .0) (at .phy .0) (at .index .0 + 1)) e
-    (omega arith) (omega arith) (omega arith) u in
+    (omega arith) (omega arith) u in
     let h = line-short (at .expander .0) (at .phy .0) (at .index .0) (getD (at-args .words .now) (at .word) 0) in
     (omega (arith, u .next, u .same), (l .inv .1 .0, putting-same _ (ap (entriesFrom d) f) (ap (λ (x : Cursor). x .word) f) g))
 

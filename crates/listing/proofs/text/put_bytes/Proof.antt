@@ -36,13 +36,11 @@ loop-less c = omega arith
 
 loop-again : tie.Need-loop-again Inv-loop μ-loop
 loop-again c =
-    let at-pre = c .before .before .before .before .before .before .before .before .before .pre in
     let a = c .before .before .before .before .before .before .before .before .before .args in
     let l = c .before .before .before .before .before .before .loop in
     let e = drop-next 0 (a .text .now) (l .i) (omega arith) in
     let rest : List ℕ = drop (l .i + 1) (a .text .now) in
-    let f = go-fits (l .inv .1) (getD (a .text .now) (l .i) 0 ∷ []) rest e at-pre in
-    (omega arith, go-turn (l .inv .1) rest (c .before .before .put-byte .ensures) e f)
+    (omega arith, go-turn (l .inv .1) rest (c .before .before .put-byte .ensures) e)
 
 same-length : tie.Need-same-length Inv-loop μ-loop
 same-length c = c .before .loop .inv .1 .same

@@ -23,8 +23,7 @@ returns : tie.Need-returns
 unfolding entryOf
 returns c =
     let at-put-hex = c .before .before .before .before .before .before .put-hex in
-    let at-args = c .before .before .before .before .before .before .before .before .before .args in
-    put-then (at-put-hex .ensures) (c .before .before .put-byte .ensures) (omega (arith, hex-short (at-args .w)))
+    put-then (at-put-hex .ensures) (c .before .before .put-byte .ensures)
 
 pub put-entry-spec : {M : Type 1} → statement M
 put-entry-spec = tie.close (tie.spec put-hex-requires put-byte-requires same-length returns)

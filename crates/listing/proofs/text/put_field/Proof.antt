@@ -23,8 +23,7 @@ returns : tie.Need-returns
 unfolding fieldOf
 returns c =
     let at-put-decimal = c .before .before .before .before .before .before .put-decimal in
-    let at-args = c .before .before .before .before .before .before .before .before .before .args in
-    put-then (at-put-decimal .ensures) (c .before .before .put-byte .ensures) (omega (arith, decimal-short (at-args .n)))
+    put-then (at-put-decimal .ensures) (c .before .before .put-byte .ensures)
 
 pub put-field-spec : {M : Type 1} → statement M
 put-field-spec = tie.close (tie.spec put-decimal-requires put-byte-requires same-length returns)

@@ -52,22 +52,7 @@ returns c =
     let at-put-field = c .before .before .before .before .before .before .before .before .before .before .before .before .before .before .before .before .put-field in
     let at-put-field2 = c .before .before .before .before .before .before .before .before .before .before .before .put-field2 in
     let at-put-field3 = c .before .before .before .before .before .before .put-field3 in
-    let a = c .before .before .before .before .before .before .before .before .before .before .before .before .before .before .before .before .before .before .before .before .args in
-    let u = at-put-field .ensures in
-    let v = at-put-field2 .ensures in
-    let w = at-put-field3 .ensures in
-    let i = field-short (a .i .0) 32 in
-    let p = field-short (a .p .0) 32 in
-    let k = field-short (a .k .0) 32 in
-    let e = u .next in
-    let f = v .next in
-    let g = u .same in
-    let h = v .same in
-    put-then u
-    (put-then v
-    (put-then w (c .before .before .put-entry .ensures) (omega arith))
-    (omega arith))
-    (omega arith)
+    put-then (at-put-field .ensures) (put-then (at-put-field2 .ensures) (put-then (at-put-field3 .ensures) (c .before .before .put-entry .ensures)))
 
 pub put-line-spec : {M : Type 1} → statement M
 put-line-spec = tie.close (tie.spec cast-put-field put-field-requires cast-put-field-2 put-field-requires-2 cast-put-field-3 put-field-requires-3 put-entry-requires same-length returns)

@@ -53,7 +53,7 @@ returns c =
     let h = x .next in
     let y = v .same in
     let z = w .same in
-    let t = put-then u (put-then v (put-then w x (omega arith)) (omega arith)) (omega arith) in
+    let t = put-then u (put-then v (put-then w x)) in
     (put-within t (omega arith), t)
 
 pub totals-spec : {M : Type 1} → statement M

@@ -78,7 +78,7 @@ returns-2 c =
     let u = t .ensures in
     let q = touched-is d (a .e .0) (a .i .0) (a .p .0) (a .order .now) (at-pre .1 .0) (at-has-number .ensures) ∙ not-false _ (at-if1 .left) in
     let same : (x y : ℕ) → Room = λ x y. record { words = x; bits = y } in
-    (rewritten-new d (a .e .0) v (a .s) _ (entries (a .words .now) (a .bits .now)) _ (a .s .at + width .result - a .s .at) q (ap₂ same (t .kept .1 .1 .1 .1 .1 .0) (t .kept .1 .1 .1 .1 .1 .1 .0)) (omega (arith, z .0)) (u .0) (u .1 .0) (ap (λ (n : ℕ). a .s .at + n) (z .0)) refl (ap (λ (n : ℕ). a .s .words + n) (u .1 .1 .0)), record { far = omega (arith, z .1); few = omega arith; less = omega (arith, u .1 .1 .1) })
+    (rewritten-new d (a .e .0) v (a .s) _ (entries (a .words .now) (a .bits .now)) _ (a .s .at + width .result - a .s .at) q (ap₂ same (t .kept .1 .1 .1 .1 .1 .0) (t .kept .1 .1 .1 .1 .1 .1 .0)) (omega (arith, z .0)) (omega (arith, z .0, at-pre .1 .1 .1 .1 .0)) (omega (arith, z .0, at-pre .1 .1 .1 .1 .1)) (u .0) (u .1 .0) (ap (λ (n : ℕ). a .s .at + n) (z .0)) refl (ap (λ (n : ℕ). a .s .words + n) (u .1 .1 .0)), record { far = omega (arith, z .1); few = omega arith; less = omega (arith, u .1 .1 .1) })
 
 pub refill-table-spec : {M : Type 1} → statement M
 refill-table-spec = tie.close (tie.spec size-at-requires add-to has-number-requires returns renew-table-requires add-t13 add-t20 same-length same-length-2 returns-2)

@@ -8,7 +8,6 @@ use Rattle.files.specs.Rows.{domainIn}
 use Rattle.tables.specs.lists.PreparedLists.{ownWordsOfOrder}
 use Rattle.tables.proofs.events.TablesRewritten.{renew-words, renew-changed, renew-bits}
 use borrow.Author.Needs.{needs}
-use borrow.Author.Needs.{needs}
 use Rattle.tables.proofs.events.refilling.renew_table.Statement.{statement}
 use Rattle.tables.proofs.events.refilling.renew_table.Tie as tie
 
@@ -53,7 +52,7 @@ returns c =
     let at-args = c .before .before .before .before .before .before .before .before .before .before .before .before .before .before .before .args in
     let at-pre = c .before .before .before .before .before .before .before .before .before .before .before .before .before .before .before .pre in
     let at-fill-table = c .before .before .before .before .before .before .before .before .fill-table in
-    (renew-words (at-args .words .now) (at-args .at) (at-args .to) (at-pre .1 .0) (at-pre .1 .1 .0) _ (ownWordsOfOrder (domainIn (at-args .rows .now)) (at-args .i .0) (at-args .p .0)) (at-fill-table .ensures .0), (renew-bits (at-args .words .now) (at-args .at) (at-args .to) (at-pre .1 .0) (at-pre .1 .1 .0) _ (ownWordsOfOrder (domainIn (at-args .rows .now)) (at-args .i .0) (at-args .p .0)) (at-fill-table .ensures .0) (at-args .bits .now) _ ((c .before .before .mark-from) .ensures) (at-pre .1 .1 .1), (at-fill-table .ensures .1 .0 ∙ renew-changed (at-args .words .now) (at-args .at) (at-args .to) (at-pre .1 .0) (at-pre .1 .1 .0) _ (ownWordsOfOrder (domainIn (at-args .rows .now)) (at-args .i .0) (at-args .p .0)) (at-fill-table .ensures .0), omega (arith, at-fill-table .ensures .1 .1, length-take-le (at-args .to - at-args .at) (drop (at-args .at) (at-args .words .now)) (omega (arith, length-drop (at-args .at) (at-args .words .now)))))))
+    (renew-words (at-args .words .now) (at-args .at) (at-args .to) (at-pre .1 .0) (at-pre .1 .1 .0) _ (ownWordsOfOrder (domainIn (at-args .rows .now)) (at-args .i .0) (at-args .p .0)) (at-fill-table .ensures .0), (renew-bits (at-args .words .now) (at-args .at) (at-args .to) (at-pre .1 .0) (at-pre .1 .1 .0) _ (ownWordsOfOrder (domainIn (at-args .rows .now)) (at-args .i .0) (at-args .p .0)) (at-fill-table .ensures .0) (at-args .bits .now) _ ((c .before .before .mark-from) .ensures), (at-fill-table .ensures .1 .0 ∙ renew-changed (at-args .words .now) (at-args .at) (at-args .to) (at-pre .1 .0) (at-pre .1 .1 .0) _ (ownWordsOfOrder (domainIn (at-args .rows .now)) (at-args .i .0) (at-args .p .0)) (at-fill-table .ensures .0), omega (arith, at-fill-table .ensures .1 .1, length-take-le (at-args .to - at-args .at) (drop (at-args .at) (at-args .words .now)) (omega (arith, length-drop (at-args .at) (at-args .words .now)))))))
 
 pub renew-table-spec : {M : Type 1} → statement M
 renew-table-spec = tie.close (tie.spec mul-fill-table sub-fill-table part-fill-table-start part-fill-table-end fill-table-requires mul-mark-from sub-mark-from part-mark-from-start part-mark-from-end mark-from-requires same-length same-length-2 returns)

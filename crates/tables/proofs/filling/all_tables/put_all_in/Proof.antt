@@ -5,11 +5,12 @@ use mathlib.Core.Path.{_≡_, refl, _∙_}
 use native.Mathlib.Omega.{arith}
 use native.Mathlib.Nat.{zero-add}
 use lib.ListN.{length, drop}
+use lib.Seq.{sets}
 use Rattle.files.specs.Domain.{Domain}
 use Rattle.wiring.specs.phys.PhyCauses.{Place, placesFrom}
 use Rattle.files.specs.Rows.{domainIn}
 use Rattle.tables.specs.filling.Tables.{sizes, needed}
-use Rattle.tables.specs.lists.GrowingLists.{placesAt, overlay}
+use Rattle.tables.specs.lists.GrowingLists.{placesAt}
 use Rattle.tables.specs.lists.PreparedLists.{ownTablesOf, ownTables}
 use Rattle.tables.proofs.filling.TablesPut.{from-next, from-last, from-sizes, put-go, put-long, put-end, put-all}
 use borrow.Author.Needs.{needs}
@@ -23,7 +24,7 @@ Inv-loop rows first low lists downstream order₀ words₀ n to₀ i₀ order wo
     × ((length order ≡ length order₀)
     × ((length words ≡ length words₀)
     × ((to + sizes (domainIn rows) (placesFrom i (drop i (domainIn rows))) ≡ needed (domainIn rows))
-    × (overlay words to (ownTablesOf (domainIn rows) (placesFrom i (drop i (domainIn rows)))) ≡ overlay words₀ 0 (ownTables (domainIn rows))))))
+    × (sets words to (ownTablesOf (domainIn rows) (placesFrom i (drop i (domainIn rows)))) ≡ sets words₀ 0 (ownTables (domainIn rows))))))
 
 abbrev μ-loop : tie.MeasureT-loop
 μ-loop rows first low lists downstream order₀ words₀ n to₀ i₀ order words to i = n - i
@@ -63,7 +64,6 @@ loop-less c = omega arith
 loop-again : tie.Need-loop-again Inv-loop μ-loop
 loop-again c =
     let at-args = c .before .before .before .before .before .before .before .before .before .before .before .before .before .before .before .before .before .before .before .before .before .before .before .before .before .before .before .args in
-    let at-pre = c .before .before .before .before .before .before .before .before .before .before .before .before .before .before .before .before .before .before .before .before .before .before .before .before .before .before .before .pre in
     let l = (c .before .before .before .before .before .before .before .before .before .before .loop) in
     let d : Domain = domainIn (at-args .rows .now) in
     let e = from-next d (l .i) (omega arith) in
@@ -72,7 +72,7 @@ loop-again c =
     let rest : List Place = placesFrom (l .i) (drop (l .i) d) in
     let v = l .inv .1 .1 in
     let s = put-long d (l .to) rest (placesAt d (l .i)) _ (u .next) e ∙ v .1 .0 in
-    let g = put-go d (l .words) (l .to) rest (v .1 .1) (placesAt d (l .i)) _ u e (omega (arith, at-pre .1 .1 .1, v .0, v .1 .0)) in
+    let g = put-go d (l .words) (l .to) rest (v .1 .1) (placesAt d (l .i)) _ u e in
     (omega arith, (t .kept .1 .1 .1 .1 .0 ∙ l .inv .1 .0, (u .same ∙ v .0, (s, g))))
 
 same-length : tie.Need-same-length Inv-loop μ-loop
@@ -90,9 +90,10 @@ same-length-4 c = search needs
 returns : tie.Need-returns Inv-loop μ-loop
 returns c =
     let at-args = c .before .before .before .before .before .before .before .before .before .before .before .before .before .before .before .before .before .before .args in
+    let at-pre = c .before .before .before .before .before .before .before .before .before .before .before .before .before .before .before .before .before .before .pre in
     let l = (c .before .loop) in
     let d : Domain = domainIn (at-args .rows .now) in
-    put-end d (l .words) (l .to) _ (l .inv .1 .1 .1 .1) (from-last d (l .i) (omega arith)) ∙ put-all d (at-args .words .now)
+    put-end d (l .words) (l .to) _ (l .inv .1 .1 .1 .1) (from-last d (l .i) (omega arith)) ∙ put-all d (at-args .words .now) (omega (arith, at-pre .1 .1 .1))
 
 pub put-all-in-spec : {M : Type 1} → statement M
 put-all-in-spec = tie.close (tie.spec Inv-loop μ-loop put-owns-requires put-downstream-requires expander-count-requires loop-holds put-tables-requires add-i loop-less loop-again same-length same-length-2 same-length-3 same-length-4 returns)

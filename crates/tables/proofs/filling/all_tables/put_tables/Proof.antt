@@ -4,7 +4,7 @@ use mathlib.Core.List.{List, [], _∷_}
 use mathlib.Core.Path.{_≡_, refl, sym, _∙_, ap}
 use native.Mathlib.Omega.{arith}
 use lib.ListN.{length, List·getD-eq-default}
-use lib.Seq.{length-take-le}
+use lib.Seq.{sets, length-take-le}
 use Rattle.files.proofs.RowsAsDomain.{phy-held}
 use Rattle.files.specs.declared.Phy.the-variants.{Vacant}
 use Rattle.files.specs.Domain.{Domain, expanderAt, phyAt}
@@ -12,7 +12,7 @@ use Rattle.wiring.specs.phys.PhyCauses.{Place, place, phyPlaces}
 use Rattle.files.specs.Rows.{domainIn}
 use Rattle.wiring.proofs.index.SlotDevices.{short-in}
 use Rattle.tables.specs.filling.Tables.{sizes}
-use Rattle.tables.specs.lists.GrowingLists.{Grown, placesAt, overlay}
+use Rattle.tables.specs.lists.GrowingLists.{Grown, placesAt}
 use Rattle.tables.specs.lists.PreparedLists.{orderOf, ownTablesOf}
 use Rattle.tables.proofs.lists.GrowingLists.{grown-kept, grown-again}
 use Rattle.tables.proofs.levels.LevelOrders.{order-none}
@@ -28,8 +28,8 @@ Inv-loop rows first lists downstream order₀ i words₀ at n to₀ q₀ g₀ m�
     × (((g ≡ phyAt (domainIn rows) (i .0) (q .0)) × Grown order order m (orderOf (domainIn rows) g))
     × ((length words ≡ length words₀)
     × ((to + sizes (domainIn rows) (phyPlaces (i .0) p (n - p)) ≡ at + sizes (domainIn rows) (placesAt (domainIn rows) (i .0)))
-    × (overlay words to (ownTablesOf (domainIn rows) (phyPlaces (i .0) p (n - p)))
-    ≡ overlay words₀ at (ownTablesOf (domainIn rows) (placesAt (domainIn rows) (i .0))))))))
+    × (sets words to (ownTablesOf (domainIn rows) (phyPlaces (i .0) p (n - p)))
+    ≡ sets words₀ at (ownTablesOf (domainIn rows) (placesAt (domainIn rows) (i .0))))))))
 
 abbrev μ-loop : tie.MeasureT-loop
 μ-loop rows first lists downstream order₀ i words₀ at n to₀ q₀ g₀ m₀ p₀ order words to q g m p = n - p
@@ -45,7 +45,7 @@ loop-holds c =
     let o = grown-kept 0 (a .order .now) (order-none d (Vacant 0) refl) (omega arith) in
     let s = ap (λ (x : ℕ). a .at + sizes d (phyPlaces (a .i .0) 0 x)) e in
     let none : Vacant 0 ≡ phyAt d (a .i .0) 255 = sym (List·getD-eq-default (expanderAt d (a .i .0) .phys) (Vacant 0) (omega (arith, short-in (a .rows .now) (a .i .0)))) in
-    (omega arith, (refl, ((none, o), (refl, (s, ap (λ (x : ℕ). overlay (a .words .now) (a .at) (ownTablesOf d (phyPlaces (a .i .0) 0 x))) e)))))
+    (omega arith, (refl, ((none, o), (refl, (s, ap (λ (x : ℕ). sets (a .words .now) (a .at) (ownTablesOf d (phyPlaces (a .i .0) 0 x))) e)))))
 
 phy-in-row-requires : tie.Need-phy-in-row-requires Inv-loop μ-loop
 phy-in-row-requires c κs = search needs
@@ -81,7 +81,6 @@ loop-again : tie.Need-loop-again Inv-loop μ-loop
 loop-again c =
     let at-phy-count = c .before .before .before .before .before .before .before .before .before .before .before .before .phy-count in
     let at-order-for = c .before .before .before .before .before .before .before .order-for in
-    let at-pre = c .before .before .before .before .before .before .before .before .before .before .before .before .before .before .before .before .before .before .before .pre in
     let a = (c .before .before .before .before .before .before .before .before .before .before .before .before .before .before .before .before .before .before .before .args) in
     let l = (c .before .before .before .before .before .before .before .before .before .before .before .loop) in
     let d : Domain = domainIn (a .rows .now) in
@@ -94,7 +93,7 @@ loop-again c =
     let e = phys-next (a .i .0) n (l .p) (omega arith) in
     let v = l .inv .1 .1 .1 in
     let s = put-long d (l .to) rest piece _ (u .next) e ∙ v .1 .0 in
-    let g = put-go d (l .words) (l .to) rest (v .1 .1) piece _ u e (omega (arith, at-pre .1 .1 .1 .1 .1, v .0, v .1 .0)) in
+    let g = put-go d (l .words) (l .to) rest (v .1 .1) piece _ u e in
     (omega arith, (o .same ∙ l .inv .1 .0, ((f .ensures ∙ phy-held _ _ _ (omega arith), grown-again o), (u .same ∙ v .0, (s, g)))))
 
 same-length : tie.Need-same-length Inv-loop μ-loop
