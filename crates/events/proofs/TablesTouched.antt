@@ -32,6 +32,7 @@ use Rattle.events.specs.declared.Event.{Event}
 use Rattle.events.specs.Events.{edited}
 use Rattle.events.specs.Calls.{eventCall}
 use Rattle.events.specs.EventLists.{Touches}
+use Rattle.tables.proofs.events.NumbersRenewed.{length-piece, renewed-after, renewed-kept}
 use Rattle.tables.proofs.events.LevelsAfterEvent.{levels-same, touched-same, attribute-same, needed-same, stretch-same}
 use Rattle.frames.proofs.DisableBits.{bits-zeroBits}
 use Rattle.events.proofs.EventLists.{accepted-is}
@@ -40,26 +41,6 @@ use Rattle.events.proofs.EventLists.{accepted-is}
 module _ (y : Domain) (test : Place → Bool) (new : Place → List ℕ) (fits : (v : Place) → T (test v) → length (new v) ≡ size y v) where
   abbrev piece : Place → List ℕ → List ℕ
   piece v l = cond (test v) (new v) (take (size y v) l)
-
-  length-piece : (v : Place) (l : List ℕ) → size y v ≤ length l → length (piece v l) ≡ size y v
-  length-piece v l h = go (test v) refl
-    where
-      go : (b : Bool) → test v ≡ b → length (cond b (new v) (take (size y v) l)) ≡ size y v
-      go true q = fits v (was-true (test v) q)
-      go false q = length-take-le (size y v) l h
-
-  -- places without a table have no width
-  renewed-kept : (g : Place → Bool) → ((v : Place) → g v ≡ false → (test v ≡ false) × (size y v ≡ 0)) → (qs : List Place) (l : List ℕ) → renewed test (size y) new (keep g qs) l ≡ renewed test (size y) new qs l
-  unfolding renewed keep
-  renewed-kept g h [] l = refl
-  renewed-kept g h (v ∷ qs) l = go (g v) refl (renewed-kept g h qs)
-    where
-      go : (b : Bool) → g v ≡ b → ((m : List ℕ) → renewed test (size y) new (keep g qs) m ≡ renewed test (size y) new qs m)
-          → renewed test (size y) new (cond b (v ∷ keep g qs) (keep g qs)) l ≡ piece v l ++ renewed test (size y) new qs (drop (size y v) l)
-      go true q more = ap (λ m. piece v l ++ m) (more (drop (size y v) l))
-      go false q more =
-          let k = h v q in
-          more l ∙ sym (ap₂ (λ b n. cond b (new v) (take n l) ++ renewed test (size y) new qs (drop n l)) (k .0) (k .1))
 
   renewed-stretch : (i p : ℕ) (qs : List Place) (l : List ℕ) → In (place i p) qs → sizes y qs ≤ length l
       → take (size y (place i p)) (drop (offsetIn y i p qs) (renewed test (size y) new qs l)) ≡ cond (test (place i p)) (new (place i p)) (take (size y (place i p)) (drop (offsetIn y i p qs) l))
@@ -71,7 +52,7 @@ module _ (y : Domain) (test : Place → Bool) (new : Place → List ℕ) (fits :
       rest = renewed test (size y) new qs (drop (size y v) l)
 
       n : length (piece v l) ≡ size y v
-      n = length-piece v l (omega arith)
+      n = length-piece y test new fits v l (omega arith)
 
       go : (b : Bool) → isPlace i p v ≡ b
           → (In (place i p) qs → take (size y (place i p)) (drop (offsetIn y i p qs) rest) ≡ cond (test (place i p)) (new (place i p)) (take (size y (place i p)) (drop (offsetIn y i p qs) (drop (size y v) l))))
@@ -87,21 +68,13 @@ module _ (y : Domain) (test : Place → Bool) (new : Place → List ℕ) (fits :
           ap (take (size y (place i p))) a ∙ more t
           ∙ ap (λ m. cond (test (place i p)) (new (place i p)) (take (size y (place i p)) m)) (drop-drop o (size y v) l)
 
-  renewed-after : (qs : List Place) (l : List ℕ) → sizes y qs ≤ length l → drop (sizes y qs) (renewed test (size y) new qs l) ≡ drop (sizes y qs) l
-  unfolding renewed sizes
-  renewed-after [] l h = refl
-  renewed-after (v ∷ qs) l h =
-      let rest : List ℕ = renewed test (size y) new qs (drop (size y v) l) in
-      sym (drop-drop (sizes y qs) (size y v) (piece v l ++ rest)) ∙ ap (drop (sizes y qs)) (drop-at (piece v l) rest (size y v) (length-piece v l (omega arith)))
-      ∙ renewed-after qs (drop (size y v) l) (omega (arith, length-drop (size y v) l)) ∙ drop-drop (sizes y qs) (size y v) l
-
   renewed-length : (qs : List Place) (l : List ℕ) → sizes y qs ≤ length l → length (renewed test (size y) new qs l) ≡ length l
   unfolding renewed sizes
   renewed-length [] l h = refl
   renewed-length (v ∷ qs) l h =
       let rest : List ℕ = renewed test (size y) new qs (drop (size y v) l) in
       let k = length-drop (size y v) l in
-      length-append (piece v l) rest ∙ omega (arith, length-piece v l (omega arith), renewed-length qs (drop (size y v) l) (omega arith))
+      length-append (piece v l) rest ∙ omega (arith, length-piece y test new fits v l (omega arith), renewed-length qs (drop (size y v) l) (omega arith))
 
   bits-take : (n : ℕ) (l : List ℕ) → Bits l → Bits (take n l)
   bits-take zero l h = tt

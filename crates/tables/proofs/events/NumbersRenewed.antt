@@ -25,14 +25,14 @@ module _ (d : Domain) (test : Place → Bool) (new : Place → List ℕ) (fits :
   abbrev piece : Place → List ℕ → List ℕ
   piece v l = cond (test v) (new v) (take (size d v) l)
 
-  length-piece : (v : Place) (l : List ℕ) → size d v ≤ length l → length (piece v l) ≡ size d v
+  pub length-piece : (v : Place) (l : List ℕ) → size d v ≤ length l → length (piece v l) ≡ size d v
   length-piece v l h = go (test v) refl
     where
       go : (b : Bool) → test v ≡ b → length (cond b (new v) (take (size d v) l)) ≡ size d v
       go true q = fits v (was-true (test v) q)
       go false q = length-take-le (size d v) l h
 
-  renewed-after : (qs : List Place) (l : List ℕ) → sizes d qs ≤ length l → drop (sizes d qs) (renewed test (size d) new qs l) ≡ drop (sizes d qs) l
+  pub renewed-after : (qs : List Place) (l : List ℕ) → sizes d qs ≤ length l → drop (sizes d qs) (renewed test (size d) new qs l) ≡ drop (sizes d qs) l
   unfolding renewed sizes
   renewed-after [] l h = refl
   renewed-after (v ∷ qs) l h =
@@ -96,7 +96,7 @@ module _ (d : Domain) (test : Place → Bool) (new : Place → List ℕ) (fits :
       ap (λ (x : List ℕ). take at l ++ (x ++ drop (size d v) (drop at l))) a ∙ ap (λ (x : List ℕ). take at l ++ x) (take-append-drop (size d v) (drop at l)) ∙ take-append-drop at l
 
   -- places without a table have no width
-  renewed-kept : (g : Place → Bool) → ((v : Place) → g v ≡ false → (test v ≡ false) × (size d v ≡ 0)) → (qs : List Place) (l : List ℕ)
+  pub renewed-kept : (g : Place → Bool) → ((v : Place) → g v ≡ false → (test v ≡ false) × (size d v ≡ 0)) → (qs : List Place) (l : List ℕ)
       → renewed test (size d) new (keep g qs) l ≡ renewed test (size d) new qs l
   unfolding renewed keep
   renewed-kept g h [] l = refl
