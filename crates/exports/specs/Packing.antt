@@ -9,6 +9,9 @@ use Rattle.forms.specs.Calls.{FormCounts}
 use Rattle.tracing.specs.Steps.{Step, here, endDevice, bad, lost, onward}
 use Rattle.tracing.specs.Reasons.{StepTold}
 use Rattle.tracing.specs.declared.Reason.{Reason}
+use Rattle.tracing.specs.declared.Step.{Step as CodeStep}
+use Rattle.tracing.specs.declared.Step.the-variants.{Ended, Onward}
+use Rattle.tracing.specs.declared.Outcome.the-variants.{Arrived, NoDestination, BadDestination}
 
 -- a setting: most expanders, most phys and longest chain, a byte each; with a bit above these 24, one outside its range (22)
 abbrev pub settingOf : ℕ → Setting
@@ -51,6 +54,14 @@ packNext (endDevice p) = 255 * 2 ^ 8 + 255
 packNext bad = 255 * 2 ^ 8 + 255
 packNext lost = 255 * 2 ^ 8 + 255
 packNext (onward j q) = j * 2 ^ 8 + q
+
+-- a step of the code in the cases above. The phy at which a request ends is not packed, so arrived at the expander, which is phy 255 in the code,
+-- is taken here for arrived at an end device
+abbrev pub stepSaid : CodeStep → Step
+stepSaid (Ended Arrived p) = endDevice (p .0)
+stepSaid (Ended NoDestination p) = lost
+stepSaid (Ended BadDestination p) = bad
+stepSaid (Onward j q) = onward (j .0) (q .0)
 
 -- rule, phy picked and route index that matched
 abbrev pub packReason : Reason → ℕ

@@ -6,6 +6,7 @@ use tracing::End;
 use tracing::Entry;
 use tracing::General;
 use tracing::LongGeneral;
+use tracing::Outcome;
 use tracing::PhyId;
 use tracing::Reason;
 use tracing::Refusal;
@@ -17,8 +18,7 @@ ghost use mathlib.Core.Path.{_≡_};
 ghost use Prim.Native.Nat.{_≤_, _<_, _^_};
 ghost use Rattle.shelves.specs.Shelf.{entryAt, disabledAt};
 ghost use Rattle.exports.specs.Shelves.{packAnswer};
-ghost use Rattle.tracing.specs.Answers.{stepAnswer};
-ghost use Rattle.exports.specs.Packing.{settingOf, packRefusal, packEnd, packBad, packNext, packReason, stepPacked, counts, formPacked, entryPacked, packFields, packLong, general, route};
+ghost use Rattle.exports.specs.Packing.{settingOf, packRefusal, packEnd, packBad, packNext, packReason, stepSaid, stepPacked, counts, formPacked, entryPacked, packFields, packLong, general, route};
 
 // A setting: most expanders, most phys and longest chain, a byte each. A bit above these 24 makes one
 // outside its range.
@@ -76,26 +76,24 @@ pub(crate) fn entry(e: Entry) -> u64
 
 // 1 for BAD DESTINATION.
 fn is_bad(s: Step) -> u64
-    ensures { λ n. ⌜ (n ≡ packBad (stepAnswer s)) × (n ≤ 1) ⌝ }
+    ensures { λ n. ⌜ (n ≡ packBad (stepSaid s)) × (n ≤ 1) ⌝ }
 {
     match s {
-        Step::Here => 0,
-        Step::EndDevice(_) => 0,
-        Step::Bad => 1,
-        Step::Lost => 0,
+        Step::Ended(o, _) => match o {
+            Outcome::Arrived => 0,
+            Outcome::NoDestination => 0,
+            Outcome::BadDestination => 1,
+        },
         Step::Onward(_, _) => 0,
     }
 }
 
 // The expander that a step goes on to and its arrival phy, a byte each; 255 where it goes no further.
 fn next(s: Step) -> u64
-    ensures { λ n. ⌜ (n ≡ packNext (stepAnswer s)) × (n < 65536) ⌝ }
+    ensures { λ n. ⌜ (n ≡ packNext (stepSaid s)) × (n < 65536) ⌝ }
 {
     match s {
-        Step::Here => 65535,
-        Step::EndDevice(_) => 65535,
-        Step::Bad => 65535,
-        Step::Lost => 65535,
+        Step::Ended(_, _) => 65535,
         Step::Onward(j, q) => (j.0 as u64) * 256 + (q.0 as u64),
     }
 }
@@ -109,7 +107,7 @@ fn reason(r: Reason) -> u64
 
 // A step and its reason.
 pub(crate) fn step(r: Reason, s: Step) -> u64
-    ensures { λ n. ⌜ n ≡ stepPacked (record { reason = r; step = stepAnswer s }) ⌝ }
+    ensures { λ n. ⌜ n ≡ stepPacked (record { reason = r; step = stepSaid s }) ⌝ }
 {
     is_bad(s) * 281474976710656 + reason(r) + next(s)
 }

@@ -1,6 +1,6 @@
 -- Picks, turn by turn, and what each step does with the phy picked. `inv` is the loop's invariant.
 use Prim.Native.Nat.{ℕ, suc, _+_, _-_, _≤_, _<_}
-use mathlib.Core.Path.{_≡_, sym, _∙_}
+use mathlib.Core.Path.{_≡_, refl, sym, _∙_}
 use mathlib.Core.Logic.{⊎-elim}
 use mathlib.Core.Bool.{Bool, true, false, cond}
 use mathlib.Core.List.{List}
@@ -9,11 +9,13 @@ use lib.ListN.{length, take, drop}
 use lib.Dec.{T, eqb, eqb→eq}
 use borrow.Author.Tests.{eq-eqb, ne-eqb}
 use Rattle.tables.specs.WiringDefinitions.{numbers}
-use Rattle.tables.specs.WiringDefinitions.{Phy, Domain, expanderAt, phyAt, typeOf, addressOf, attachedPhyOf, numberOf, attached, toEnd, toExpander, isIn}
-use Rattle.tracing.specs.Steps.{Step, here, endDevice, bad, lost, onward, Pick, at, nowhere, pick, phyNumbers, bearing, listing, subtracting}
+use Rattle.tables.specs.WiringDefinitions.{Phy, Domain, expanderAt, phyAt, typeOf, addressOf, attachedPhyOf, numberOf, attached, toExpander, isIn}
+use Rattle.tracing.specs.Steps.{Step as Stepped, here, bad, lost, Pick, at, nowhere, pick, phyNumbers, bearing, listing, subtracting}
 use Rattle.tables.specs.filling.Tables.{offset, stretch}
-use Rattle.tracing.specs.Steps.{cameFrom, moveBy, subtractively, byTable, directly, step}
-use Rattle.tracing.specs.Answers.{bearingPick, listingPick, subtractingPick, directStep}
+use Rattle.tracing.specs.Steps.{cameFrom, moveBy, arriving, subtractively, byTable, directly, step}
+use Rattle.tracing.specs.declared.Step.{Step}
+use Rattle.tracing.specs.declared.Step.the-variants.{Onward}
+use Rattle.tracing.specs.Answers.{stepOf, bearingPick, listingPick, subtractingPick, directStep}
 use Rattle.tables.proofs.WiringLemmas.{tests, expander-attached, attached-cases, in-range}
 use Rattle.tracing.proofs.StepReasons.{pick-at}
 
@@ -59,41 +61,45 @@ in-stretch d words i p s e f = rw (e, f)
 
 -- on over a phy, or `back` where its address s is the one that the request came from
 module _ (d : Domain) (i p came : ℕ) (back : Step) {s : ℕ} (q : s ≡ addressOf (phyAt d i p)) where
-  pub move-back : s ≡ came → back ≡ cond (eqb (addressOf (phyAt d i p)) came) back (moveBy d i p)
+  pub move-back : s ≡ came → back ≡ cond (eqb (addressOf (phyAt d i p)) came) back (stepOf (moveBy d i p))
   move-back e = rw (eq-eqb (addressOf (phyAt d i p)) came (sym q ∙ e))
 
   pub move-on : {j f : ℕ} → (s ≡ came → ⊥) → j ≡ numberOf d (addressOf (phyAt d i p)) → f ≡ attachedPhyOf (phyAt d i p)
-      → onward j f ≡ cond (eqb (addressOf (phyAt d i p)) came) back (moveBy d i p)
+      → Onward (record { 0 = j }) (record { 0 = f }) ≡ cond (eqb (addressOf (phyAt d i p)) came) back (stepOf (moveBy d i p))
   move-on n e g = rw (ne-eqb (addressOf (phyAt d i p)) came (λ h. n (q ∙ h)), e, g)
+
+-- a choice of two steps, as the code says it
+pub said : (b : Bool) (x y : Stepped) → cond b (stepOf x) (stepOf y) ≡ stepOf (cond b x y)
+said true x y = refl
+said false x y = refl
 
 -- what each step does with the pick
 module _ (d : Domain) (i came : ℕ) {v : Pick} where
-  pub subtractively-at : {p : ℕ} → at p ≡ v → cond (eqb (addressOf (phyAt d i p)) came) lost (moveBy d i p) ≡ subtractively d i came v
+  pub subtractively-at : {p : ℕ} {r : Step} → at p ≡ v → r ≡ cond (eqb (addressOf (phyAt d i p)) came) (stepOf lost) (stepOf (moveBy d i p)) → r ≡ stepOf (subtractively d i came v)
   unfolding subtractively
-  subtractively-at e = rw (← e)
+  subtractively-at {p} e f = rw (← e) (f ∙ said (eqb (addressOf (phyAt d i p)) came) lost (moveBy d i p))
 
-  pub subtractively-none : nowhere ≡ v → lost ≡ subtractively d i came v
+  pub subtractively-none : nowhere ≡ v → stepOf lost ≡ stepOf (subtractively d i came v)
   unfolding subtractively
   subtractively-none e = rw (← e)
 
-  pub table-at : (after : Step) {p : ℕ} → at p ≡ v → cond (eqb (addressOf (phyAt d i p)) came) bad (moveBy d i p) ≡ byTable d i came v after
+  pub table-at : (after : Stepped) {p : ℕ} {r : Step} → at p ≡ v → r ≡ cond (eqb (addressOf (phyAt d i p)) came) (stepOf bad) (stepOf (moveBy d i p)) → r ≡ stepOf (byTable d i came v after)
   unfolding byTable
-  table-at after e = rw (← e)
+  table-at after {p} e f = rw (← e) (f ∙ said (eqb (addressOf (phyAt d i p)) came) bad (moveBy d i p))
 
-  pub table-none : (after : Step) → nowhere ≡ v → after ≡ byTable d i came v after
+  pub table-none : (after : Stepped) → nowhere ≡ v → stepOf after ≡ stepOf (byTable d i came v after)
   unfolding byTable
   table-none after e = rw (← e)
 
-  pub direct-at : (after : Step) {p : ℕ} → at p ≡ v
-      → cond (eqb (addressOf (phyAt d i p)) came) bad (cond (toEnd (phyAt d i p)) (endDevice p) (moveBy d i p)) ≡ directly d i came v after
+  pub direct-at : (after : Stepped) {p : ℕ} → at p ≡ v → stepOf (arriving d i came p) ≡ stepOf (directly d i came v after)
   unfolding directly
   direct-at after e = rw (← e)
 
-  pub direct-none : (after : Step) → nowhere ≡ v → after ≡ directly d i came v after
+  pub direct-none : (after : Stepped) → nowhere ≡ v → stepOf after ≡ stepOf (directly d i came v after)
   unfolding directly
   direct-none after e = rw (← e)
 
 pub step-by : (d : Domain) (words : List ℕ) (i arrival s : ℕ) {b : Bool} → eqb (expanderAt d i .address) s ≡ b
-    → step d words i arrival s ≡ cond b here (directStep d words i (cameFrom d i arrival) s)
+    → stepOf (step d words i arrival s) ≡ stepOf (cond b here (directStep d words i (cameFrom d i arrival) s))
 unfolding step
 step-by d words i arrival s q = rw q

@@ -7,7 +7,7 @@ use native.Mathlib.Omega.{arith}
 use lib.ListN.{length, getD, take, drop, drop-of-length-le}
 use lib.Dec.{T, eqb, ltb, leb}
 use borrow.Author.Tests.{eq-eqb, ne-eqb, eqb-true, eqb-false}
-use Rattle.tables.specs.WiringDefinitions.{bytesFor, Refusal, Result, refused, good, unless, refusal, Setting, Domain, expanderAt, phyAt, addressOf, attached, domainRead, isIn, any}
+use Rattle.tables.specs.WiringDefinitions.{bytesFor, Refusal, refused, good, unless, refusal, Setting, Domain, expanderAt, phyAt, addressOf, attached, domainRead, isIn, any}
 use Rattle.tables.specs.filling.Tables.{needed, offset, stretch}
 use Rattle.tables.specs.filling.Entries.{Entries, Room, roomOf, counted}
 use Rattle.tables.specs.JudgingCall.{judgedDomain}
@@ -165,16 +165,16 @@ module _ (chain first low : ℕ) (d : Domain) (t : Entries) (q : Request) where
   unfolding stepIn
   rows-no r e = rw e
 
-  pub rows-yes : (a : Result StepTold) → judgedIn chain first low d ≡ good d → a ≡ stepAsked d t q → a ≡ stepIn chain first low d t q
+  pub rows-yes : judgedIn chain first low d ≡ good d → stepAsked d t q ≡ stepIn chain first low d t q
   unfolding stepIn
-  rows-yes a e f = rw e f
+  rows-yes e = rw e
 
 module _ (setting : Setting) (file : List ℕ) (t : Entries) (q : Request) where
   pub file-no : (r : Refusal) → domainRead setting file ≡ refused r → refused r ≡ stepCall setting file t q
   unfolding stepCall
   file-no r e = rw e
 
-  pub file-yes : (first low : ℕ) (d : Domain) (a : Result StepTold) → domainRead setting file ≡ good d → judgedIn (setting .chain) first low d ≡ judgedDomain (setting .chain) d
-      → a ≡ stepIn (setting .chain) first low d t q → a ≡ stepCall setting file t q
+  pub file-yes : (first low : ℕ) (d : Domain) → domainRead setting file ≡ good d → judgedIn (setting .chain) first low d ≡ judgedDomain (setting .chain) d
+      → stepIn (setting .chain) first low d t q ≡ stepCall setting file t q
   unfolding stepCall stepIn
-  file-yes first low d a e j f = rw e (rw j at f)
+  file-yes first low d e j = rw (e, j)

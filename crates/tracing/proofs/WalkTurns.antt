@@ -1,6 +1,6 @@
 -- A walk, turn by turn.
 use Prim.Native.Nat.{ℕ, suc, _+_, _-_, _≤_, _<_}
-use mathlib.Core.Path.{_≡_, sym, _∙_, ap, subst}
+use mathlib.Core.Path.{_≡_, refl, sym, _∙_, ap, subst}
 use mathlib.Core.List.{List, [], _∷_, _++_, append-nil, append-assoc}
 use native.Mathlib.Omega.{arith}
 use lib.ListN.{length, take, drop, set, length-append, take-append-drop}
@@ -8,9 +8,11 @@ use lib.Seq.{drop-set-lt, length-take-le, drop-drop}
 use Rattle.tables.specs.WiringDefinitions.{Result, good, Domain}
 use Rattle.tracing.specs.declared.Outcome.{Outcome}
 use Rattle.tracing.specs.declared.Outcome.the-variants.{NoDestination}
-use Rattle.tracing.specs.Steps.{Step, onward, step}
+use Rattle.tracing.specs.declared.Step.{Step}
+use Rattle.tracing.specs.declared.Step.the-variants.{Ended, Onward}
+use Rattle.tracing.specs.Steps.{Step as Stepped, here, endDevice, bad, lost, onward, step}
 use Rattle.tracing.specs.Trace.{Traced, endingAt, after, afterStep, traceFrom, Reported}
-use Rattle.tracing.specs.Answers.{endOf, Walked}
+use Rattle.tracing.specs.Answers.{stepOf, endOf, Walked}
 use Rattle.files.proofs.OneMore.{set-next}
 
 abbrev reported : Outcome → ℕ → ℕ → ℕ → Result Reported
@@ -27,21 +29,34 @@ module _ (k i : ℕ) (bytes bytes₀ : List ℕ) (same : drop k bytes ≡ drop k
       ∙ ap (λ (x : List ℕ). x ++ drop (k + 1) (set bytes k i)) (set-next bytes k i h)
       ∙ ap (λ (x : List ℕ). (take k bytes ++ (i ∷ [])) ++ x) (kept h)
 
+-- the trace by the code's step is that by the definition's
+abbrev afterSaid : ℕ → (ℕ → ℕ → Traced) → Step → Traced
+afterSaid i go (Ended o p) = endingAt o i (p .0)
+afterSaid i go (Onward j q) = after (i ∷ []) (go (j .0) (q .0))
+
+after-said : (i : ℕ) (go : ℕ → ℕ → Traced) (t : Stepped) → afterSaid i go (stepOf t) ≡ afterStep i go t
+unfolding afterStep
+after-said i go here = refl
+after-said i go (endDevice p) = refl
+after-said i go bad = refl
+after-said i go lost = refl
+after-said i go (onward j q) = refl
+
 -- the walk after k steps, at expander i with arrival phy q; `inv` and `same` are the loop's invariant
 module _ (d : Domain) (words : List ℕ) (s n k i q : ℕ) (bytes bytes₀ : List ℕ) {v : Traced}
     (inv : after (take k bytes) (traceFrom (n - k) d words i q s) ≡ v) (same : drop k bytes ≡ drop k bytes₀) where
-  turn : {t : Step} → t ≡ step d words i q s → k < n
-      → after (take k bytes) (afterStep i (λ j p. traceFrom (n - (k + 1)) d words j p s) t) ≡ v
+  turn : {t : Step} → t ≡ stepOf (step d words i q s) → k < n
+      → after (take k bytes) (afterSaid i (λ j p. traceFrom (n - (k + 1)) d words j p s) t) ≡ v
   unfolding traceFrom
   turn e h =
       let m : n - k ≡ suc (n - (k + 1)) = omega arith in
-      ap (λ (x : Step). after (take k bytes) (afterStep i (λ j p. traceFrom (n - (k + 1)) d words j p s) x)) e
+      let go : ℕ → ℕ → Traced = λ j p. traceFrom (n - (k + 1)) d words j p s in
+      ap (after (take k bytes)) (ap (afterSaid i go) e ∙ after-said i go (step d words i q s))
       ∙ ap (λ (x : ℕ). after (take k bytes) (traceFrom x d words i q s)) (sym m) ∙ inv
 
   -- on to another expander
-  pub walk-go : {j p : ℕ} → onward j p ≡ step d words i q s → k < n → k < length bytes
+  pub walk-go : {j p : ℕ} → Onward (record { 0 = j }) (record { 0 = p }) ≡ stepOf (step d words i q s) → k < n → k < length bytes
       → after (take (k + 1) (set bytes k i)) (traceFrom (n - (k + 1)) d words j p s) ≡ v
-  unfolding afterStep
   walk-go {j} {p} e h g =
       let t : Traced = traceFrom (n - (k + 1)) d words j p s in
       ap (λ (x : List ℕ). after x t) (set-next bytes k i g)
@@ -50,14 +65,12 @@ module _ (d : Domain) (words : List ℕ) (s n k i q : ℕ) (bytes bytes₀ : Lis
       ∙ turn e h
 
   -- it ends at this expander
-  pub walk-stop : {t : Step} (o : Outcome) (p : ℕ) → t ≡ step d words i q s
-      → afterStep i (λ j p. traceFrom (n - (k + 1)) d words j p s) t ≡ endingAt o i p → k < n → k < length bytes
+  pub walk-stop : {o : Outcome} {p : ℕ} → Ended o (record { 0 = p }) ≡ stepOf (step d words i q s) → k < n → k < length bytes
       → Walked v (endOf o i p (k + 1)) bytes₀ (set bytes k i)
-  walk-stop o p e f h g =
-      let u : after (take k bytes) (endingAt o i p) ≡ v = ap (after (take k bytes)) (sym f) ∙ turn e h in
+  walk-stop {o} {p} e h g =
       let m : length (take k bytes ++ (i ∷ [])) ≡ k + 1 =
       length-append (take k bytes) (i ∷ []) ∙ omega (arith, length-take-le k bytes (omega arith)) in
-      subst (λ (x : Traced). Walked x (endOf o i p (k + 1)) bytes₀ (set bytes k i)) u
+      subst (λ (x : Traced). Walked x (endOf o i p (k + 1)) bytes₀ (set bytes k i)) (turn e h)
       (record {
         ends = ap (reported o i p) (sym m);
         bytes = written k i bytes bytes₀ same g ∙ ap (λ (x : ℕ). (take k bytes ++ (i ∷ [])) ++ drop x bytes₀) (sym m);

@@ -12,21 +12,27 @@ use Rattle.tracing.specs.Steps.{Step as Stepped, here, endDevice, bad, l
 use Rattle.tracing.specs.Steps.{bearing, listing, subtracting, subtractively, byTable, directly}
 use Rattle.tracing.specs.Trace.{Request, Traced, tracedRequest, report, traceAnswer}
 use Rattle.tracing.specs.declared.Step.{Step}
-use Rattle.tracing.specs.declared.Step.the-variants.{Here, EndDevice, Bad, Lost, Onward}
+use Rattle.tracing.specs.declared.Step.the-variants.{Ended, Onward}
 use Rattle.tracing.specs.declared.steps.Pick.{Pick}
 use Rattle.tracing.specs.declared.steps.Pick.the-variants.{At, Nowhere}
 use Rattle.tracing.specs.declared.Outcome.{Outcome}
+use Rattle.tracing.specs.declared.Outcome.the-variants.{Arrived, NoDestination, BadDestination}
 use Rattle.tracing.specs.declared.End.{End}
-use Rattle.tracing.specs.declared.TraceAnswer.the-variants.{Ended}
+use Rattle.tracing.specs.declared.TraceAnswer.the-variants.{Ended as TraceEnded}
 
--- what a step says in document 01's terms
-abbrev pub stepAnswer : Step → Stepped
-stepAnswer Here = here
-stepAnswer (EndDevice p) = endDevice (p .0)
-stepAnswer Bad = bad
-stepAnswer Lost = lost
-stepAnswer (Onward j q) = onward (j .0) (q .0)
+-- how the code says that a request ends at the expander itself: with phy 255
+abbrev pub endedHere : Outcome → Step
+endedHere o = Ended o (record { 0 = 255 })
 
+-- how the code says what a step does: it ends with an outcome and a phy, or goes on
+abbrev pub stepOf : Stepped → Step
+stepOf here = endedHere Arrived
+stepOf (endDevice p) = Ended Arrived (record { 0 = p })
+stepOf bad = endedHere BadDestination
+stepOf lost = endedHere NoDestination
+stepOf (onward j q) = Onward (record { 0 = j }) (record { 0 = q })
+
+-- what a pick says in document 01's terms
 abbrev pub pickAnswer : Pick → Picked
 pickAnswer (At p) = at (p .0)
 pickAnswer Nowhere = nowhere
@@ -61,7 +67,7 @@ endOf o i p count = record { outcome = o; last = record { 0 = i }; phy = record 
 
 -- what a walk answers, and its bytes
 pub record Walked (t : Traced) (end : End) (before after : List ℕ) : Type 0 where
-  pub ends : traceAnswer (Ended end) ≡ report t
+  pub ends : traceAnswer (TraceEnded end) ≡ report t
   pub bytes : after ≡ t .passed ++ drop (length (t .passed)) before
 
 -- the judging call's causes from 7 on, and 15 to 18, then the trace; 14 by own lists, and 16 where there is no room for entries of so

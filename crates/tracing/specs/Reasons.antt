@@ -11,7 +11,7 @@ use Rattle.tables.specs.JudgingCall.{judged}
 use Rattle.tables.specs.lists.PreparedLists.{judgedIn}
 use Rattle.tracing.specs.Steps.{Step, here, bad, lost, Pick, at, nowhere, pick, phyNumbers, cameFrom, moveBy, arriving, bearing, listing, subtracting, step}
 use Rattle.tracing.specs.Trace.{Request}
-use Rattle.tracing.specs.Answers.{stepAnswer}
+use Rattle.tracing.specs.Answers.{stepOf}
 use Rattle.tracing.specs.declared.Reason.{Reason}
 use Rattle.tracing.specs.declared.StepAnswer.{StepAnswer}
 use Rattle.tracing.specs.declared.StepAnswer.the-variants.{Refused, Told}
@@ -91,7 +91,7 @@ stepIn chain first low d t q = then (judgedIn chain first low d) (λ e. stepAske
 unfoldable pub stepCall : Setting → List ℕ → Entries → Request → Result StepTold
 stepCall setting file t q = then (judged setting file) (λ d. stepAsked d t q)
 
--- what the answer says
-abbrev pub toldAnswer : StepAnswer → Result StepTold
-toldAnswer (Refused r) = refused r
-toldAnswer (Told r s) = good (record { reason = r; step = stepAnswer s })
+-- how the code says what the call answers
+abbrev pub toldOf : Result StepTold → StepAnswer
+toldOf (refused r) = Refused r
+toldOf (good t) = Told (t .reason) (stepOf (t .step))

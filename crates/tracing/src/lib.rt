@@ -47,13 +47,10 @@ pub use tables::read_route;
 pub use tables::wire;
 pub use tables::word_place;
 
-// What an expander does with a request: arrived here; arrived at the end device of a phy; BAD
-// DESTINATION; NO DESTINATION; on to an expander with its arrival phy.
+// What an expander does with a request: it ends there, with its outcome and phy (255 unless arrived at an end device), or goes
+// on to an expander with its arrival phy.
 pub enum Step {
-    Here,
-    EndDevice(PhyId),
-    Bad,
-    Lost,
+    Ended(Outcome, PhyId),
     Onward(ExpanderNumber, PhyId),
 }
 

@@ -1,4 +1,5 @@
 // What an expander does with a request: steps (i) to (v).
+use crate::Outcome;
 use crate::Step;
 use crate::stretches::lists;
 use tables::ExpanderNumber;
@@ -13,7 +14,7 @@ ghost use Rattle.tables.specs.WiringDefinitions.{IndexedFirst, phyAt, addressOf
 ghost use Rattle.tables.specs.filling.Tables.{offset};
 ghost use Rattle.tables.specs.filling.Entries.{entries, counted};
 ghost use Rattle.tracing.specs.Steps.{listing, cameFrom, moveBy, arriving, step};
-ghost use Rattle.tracing.specs.Answers.{stepAnswer, pickAnswer, bearingPick, listingPick, subtractingPick};
+ghost use Rattle.tracing.specs.Answers.{endedHere, stepOf, pickAnswer, bearingPick, listingPick, subtractingPick};
 ghost use Rattle.tracing.specs.Answers.{subtractiveStep, tableStep, directStep};
 
 // The phy that a step picks, if any.
@@ -118,22 +119,22 @@ pub(crate) fn came_from(rows: &[u64], i: ExpanderNumber, arrival: PhyId) -> u64
     tables::phy_address(tables::phy_at(rows, i, arrival))
 }
 
-// On over phy p of expander i, which is attached to an expander, or `back` where that has the address at the
-// arrival phy, `came`. `first` has who has which address.
+// On over phy p of expander i, which is attached to an expander, or the end with outcome `back` where that has the address
+// at the arrival phy, `came`. `first` has who has which address.
 fn move_unless(
     rows: &[u64],
     first: &[u16],
     i: ExpanderNumber,
     p: PhyId,
     came: u64,
-    back: Step,
+    back: Outcome,
 ) -> Step
     requires { ⌜ IndexedFirst (domainIn (now rows)) (now first) × T (toExpander (phyAt (domainIn (now rows)) (i .0) (p .0))) ⌝ }
-    ensures { λ r. ⌜ stepAnswer r ≡ cond (eqb (addressOf (phyAt (domainIn (now (rows .entry))) (i .0) (p .0))) came) (stepAnswer back) (moveBy (domainIn (now (rows .entry))) (i .0) (p .0)) ⌝ }
+    ensures { λ r. ⌜ r ≡ cond (eqb (addressOf (phyAt (domainIn (now (rows .entry))) (i .0) (p .0))) came) (endedHere back) (stepOf (moveBy (domainIn (now (rows .entry))) (i .0) (p .0))) ⌝ }
 {
     let f = tables::phy_at(rows, i, p);
     if tables::phy_address(f) == came {
-        return back;
+        return Step::Ended(back, PhyId(255));
     }
     Step::Onward(
         tables::attached_expander(rows, first, i, p),
@@ -144,11 +145,11 @@ fn move_unless(
 // (iv), or (v).
 fn subtractive_step(rows: &[u64], first: &[u16], i: ExpanderNumber, came: u64) -> Step
     requires { ⌜ IndexedFirst (domainIn (now rows)) (now first) ⌝ }
-    ensures { λ r. ⌜ stepAnswer r ≡ subtractiveStep (domainIn (now (rows .entry))) (i .0) came ⌝ }
+    ensures { λ r. ⌜ r ≡ stepOf (subtractiveStep (domainIn (now (rows .entry))) (i .0) came) ⌝ }
 {
     match pick_subtracting(rows, i) {
-        Pick::At(p) => move_unless(rows, first, i, p, came, Step::Lost),
-        Pick::Nowhere => Step::Lost,
+        Pick::At(p) => move_unless(rows, first, i, p, came, Outcome::NoDestination),
+        Pick::Nowhere => Step::Ended(Outcome::NoDestination, PhyId(255)),
     }
 }
 
@@ -163,10 +164,10 @@ fn table_step(
     s: u64,
 ) -> Step
     requires { ⌜ IndexedFirst (domainIn (now rows)) (now first) ⌝ }
-    ensures { λ r. ⌜ stepAnswer r ≡ tableStep (domainIn (now (rows .entry))) (counted (entries (now (words .entry)) (now (bits .entry)))) (i .0) came s ⌝ }
+    ensures { λ r. ⌜ r ≡ stepOf (tableStep (domainIn (now (rows .entry))) (counted (entries (now (words .entry)) (now (bits .entry)))) (i .0) came s) ⌝ }
 {
     match pick_listing(rows, words, bits, i, s) {
-        Pick::At(p) => move_unless(rows, first, i, p, came, Step::Bad),
+        Pick::At(p) => move_unless(rows, first, i, p, came, Outcome::BadDestination),
         Pick::Nowhere => subtractive_step(rows, first, i, came),
     }
 }
@@ -174,16 +175,16 @@ fn table_step(
 // What (ii) does with the phy it picks: phy p of expander i, which is attached.
 fn arrive_unless(rows: &[u64], first: &[u16], i: ExpanderNumber, p: PhyId, came: u64) -> Step
     requires { ⌜ IndexedFirst (domainIn (now rows)) (now first) × T (attached (phyAt (domainIn (now rows)) (i .0) (p .0))) ⌝ }
-    ensures { λ r. ⌜ stepAnswer r ≡ arriving (domainIn (now (rows .entry))) (i .0) came (p .0) ⌝ }
+    ensures { λ r. ⌜ r ≡ stepOf (arriving (domainIn (now (rows .entry))) (i .0) came (p .0)) ⌝ }
 {
     let f = tables::phy_at(rows, i, p);
     if tables::phy_type(f) != 1 {
-        return move_unless(rows, first, i, p, came, Step::Bad);
+        return move_unless(rows, first, i, p, came, Outcome::BadDestination);
     }
     if tables::phy_address(f) == came {
-        return Step::Bad;
+        return Step::Ended(Outcome::BadDestination, PhyId(255));
     }
-    Step::EndDevice(p)
+    Step::Ended(Outcome::Arrived, p)
 }
 
 // (ii), or what comes after.
@@ -197,7 +198,7 @@ fn direct_step(
     s: u64,
 ) -> Step
     requires { ⌜ IndexedFirst (domainIn (now rows)) (now first) ⌝ }
-    ensures { λ r. ⌜ stepAnswer r ≡ directStep (domainIn (now (rows .entry))) (counted (entries (now (words .entry)) (now (bits .entry)))) (i .0) came s ⌝ }
+    ensures { λ r. ⌜ r ≡ stepOf (directStep (domainIn (now (rows .entry))) (counted (entries (now (words .entry)) (now (bits .entry)))) (i .0) came s) ⌝ }
 {
     match pick_bearing(rows, i, s) {
         Pick::At(p) => arrive_unless(rows, first, i, p, came),
@@ -216,10 +217,10 @@ pub(crate) fn take_step(
     s: u64,
 ) -> Step
     requires { ⌜ IndexedFirst (domainIn (now rows)) (now first) ⌝ }
-    ensures { λ r. ⌜ stepAnswer r ≡ step (domainIn (now (rows .entry))) (counted (entries (now (words .entry)) (now (bits .entry)))) (i .0) (arrival .0) s ⌝ }
+    ensures { λ r. ⌜ r ≡ stepOf (step (domainIn (now (rows .entry))) (counted (entries (now (words .entry)) (now (bits .entry)))) (i .0) (arrival .0) s) ⌝ }
 {
     if tables::expander_address(rows, i) == s {
-        return Step::Here;
+        return Step::Ended(Outcome::Arrived, PhyId(255));
     }
     direct_step(rows, first, words, bits, i, came_from(rows, i, arrival), s)
 }

@@ -51,10 +51,7 @@ pub(crate) fn walk(
         k += 1;
         let t = take_step(rows, first, words, bits, i, q, s);
         match t {
-            Step::Here => return ended(Outcome::Arrived, i, PhyId(255), k),
-            Step::EndDevice(p) => return ended(Outcome::Arrived, i, p, k),
-            Step::Bad => return ended(Outcome::BadDestination, i, PhyId(255), k),
-            Step::Lost => return ended(Outcome::NoDestination, i, PhyId(255), k),
+            Step::Ended(o, p) => return ended(o, i, p, k),
             Step::Onward(j, f) => {
                 i = j;
                 q = f;

@@ -1,26 +1,29 @@
--- next packs each case of a step.
-use mathlib.Core.Path.{sym, ap}
+-- next packs both cases of a step: one that ends goes no further, whatever its outcome.
+use Prim.Native.Nat.{ℕ}
+use mathlib.Core.Path.{_≡_, sym, ap}
 use native.Mathlib.Omega.{arith}
 use borrow.Author.Needs.{needs}
-use Rattle.tracing.specs.Answers.{stepAnswer}
-use Rattle.exports.specs.Packing.{packNext}
+use Rattle.tracing.specs.declared.Outcome.{Outcome}
+use Rattle.tracing.specs.declared.Outcome.the-variants.{Arrived, NoDestination, BadDestination}
+use Rattle.tracing.specs.declared.Step.{Step}
+use Rattle.tracing.specs.declared.Step.the-variants.{Ended}
+use Rattle.exports.specs.Packing.{packNext, stepSaid}
 use Rattle.exports.proofs.packing.next.Statement.{statement}
 use Rattle.exports.proofs.packing.next.Tie as tie
 
-returns-5 : tie.Need-returns-5
-returns-5 c = (sym (ap (λ s. packNext (stepAnswer s)) (c .before .before .before .s .given .1)), omega arith)
+no-further : {s : Step} (o : Outcome) {p : ℕ} → s ≡ Ended o (record { 0 = p }) → 65535 ≡ packNext (stepSaid s)
+no-further Arrived e = sym (ap (λ s. packNext (stepSaid s)) e)
+no-further NoDestination e = sym (ap (λ s. packNext (stepSaid s)) e)
+no-further BadDestination e = sym (ap (λ s. packNext (stepSaid s)) e)
+
+returns : tie.Need-returns
+returns c = (no-further _ (c .enum-told .given .1), omega arith)
+
+returns-2 : tie.Need-returns-2
+returns-2 c = (sym (ap (λ s. packNext (stepSaid s)) (c .before .before .before .s .given .1)), omega arith)
 
 enum-told : tie.Need-enum-told
 enum-told c = search needs
-
-enum-told-2 : tie.Need-enum-told-2
-enum-told-2 c = search needs
-
-enum-told-3 : tie.Need-enum-told-3
-enum-told-3 c = search needs
-
-enum-told-4 : tie.Need-enum-told-4
-enum-told-4 c = search needs
 
 enum-known-s : tie.Need-enum-known-s
 enum-known-s c = search needs
@@ -37,17 +40,5 @@ cast-result-2 c = search needs
 add-result : tie.Need-add-result
 add-result c = search needs
 
-returns : tie.Need-returns
-returns c = search needs
-
-returns-2 : tie.Need-returns-2
-returns-2 c = search needs
-
-returns-3 : tie.Need-returns-3
-returns-3 c = search needs
-
-returns-4 : tie.Need-returns-4
-returns-4 c = search needs
-
 pub next-spec : {M : Type 1} → statement M
-next-spec = tie.close (tie.spec enum-told enum-told-2 enum-told-3 enum-told-4 enum-known-s cast-result mul-result cast-result-2 add-result returns returns-2 returns-3 returns-4 returns-5)
+next-spec = tie.close (tie.spec enum-told enum-known-s cast-result mul-result cast-result-2 add-result returns returns-2)

@@ -1,8 +1,10 @@
 -- arrive_unless meets its contract: an attached phy that is not attached to an end device is attached to an expander.
 use mathlib.Core.Path.{sym, _∙_, ap}
+use lib.Dec.{eqb}
 use borrow.Author.Tests.{eq-eqb, ne-eqb}
-use Rattle.tables.specs.WiringDefinitions.{domainIn, Phy, phyAt, typeOf, addressOf}
-use Rattle.tracing.proofs.PhyPicks.{far-attached}
+use Rattle.tables.specs.WiringDefinitions.{Domain, domainIn, Phy, phyAt, typeOf, addressOf}
+use Rattle.tracing.specs.Steps.{bad, moveBy}
+use Rattle.tracing.proofs.PhyPicks.{said, far-attached}
 use borrow.Author.Needs.{needs}
 use Rattle.tracing.proofs.steps.arrive_unless.Statement.{statement}
 use Rattle.tracing.proofs.steps.arrive_unless.Tie as tie
@@ -24,7 +26,9 @@ returns : tie.Need-returns
 returns c =
     let a = c .before .before .before .before .before .before .args in
     let e = c .before .before .phy-type .ensures ∙ ap typeOf (c .before .before .before .phy-at .ensures) in
-    rw (ne-eqb (typeOf (phyAt (domainIn (a .rows .now)) (a .i .0) (a .p .0))) 1 (λ u. c .before .if1 .taken (e ∙ u))) (c .move-unless .ensures)
+    let d : Domain = domainIn (a .rows .now) in
+    rw (ne-eqb (typeOf (phyAt d (a .i .0) (a .p .0))) 1 (λ u. c .before .if1 .taken (e ∙ u)))
+    (c .move-unless .ensures ∙ said (eqb (addressOf (phyAt d (a .i .0) (a .p .0))) (a .came)) bad (moveBy d (a .i .0) (a .p .0)))
 
 phy-address-requires : tie.Need-phy-address-requires
 phy-address-requires c κs = search needs

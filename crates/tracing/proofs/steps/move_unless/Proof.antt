@@ -2,7 +2,7 @@
 use mathlib.Core.Path.{_∙_, ap}
 use Rattle.tables.specs.WiringDefinitions.{domainIn, addressOf, attachedPhyOf}
 use Rattle.tables.proofs.WiringLemmas.{far-in}
-use Rattle.tracing.specs.Answers.{stepAnswer}
+use Rattle.tracing.specs.Answers.{endedHere}
 use Rattle.tracing.proofs.PhyPicks.{move-back, move-on}
 use borrow.Author.Needs.{needs}
 use Rattle.tracing.proofs.steps.move_unless.Statement.{statement}
@@ -17,7 +17,7 @@ phy-address-requires c κs = search needs
 returns : tie.Need-returns
 returns c =
     let a = c .before .before .before .before .before .args in
-    move-back (domainIn (a .rows .now)) (a .i .0) (a .p .0) (a .came) (stepAnswer (a .back)) (c .before .phy-address .ensures ∙ ap addressOf (c .before .before .phy-at .ensures)) (c .if1 .taken)
+    move-back (domainIn (a .rows .now)) (a .i .0) (a .p .0) (a .came) (endedHere (a .back)) (c .before .phy-address .ensures ∙ ap addressOf (c .before .before .phy-at .ensures)) (c .if1 .taken)
 
 attached-expander-requires : tie.Need-attached-expander-requires
 attached-expander-requires c κs = search needs
@@ -30,7 +30,7 @@ returns-2 c =
     let a = c .before .before .before .before .before .before .before .args in
     let pre = c .before .before .before .before .before .before .before .pre in
     let e = c .before .before .before .before .phy-at .ensures in
-    move-on (domainIn (a .rows .now)) (a .i .0) (a .p .0) (a .came) (stepAnswer (a .back)) (c .before .before .before .phy-address .ensures ∙ ap addressOf e) (c .before .before .if1 .left)
+    move-on (domainIn (a .rows .now)) (a .i .0) (a .p .0) (a .came) (endedHere (a .back)) (c .before .before .before .phy-address .ensures ∙ ap addressOf e) (c .before .before .if1 .left)
     (c .before .attached-expander .ensures ∙ far-in (a .rows .now) (a .first .now) (a .i .0) (a .p .0) (pre .0) (pre .1)) (c .attached-phy .ensures ∙ ap attachedPhyOf e)
 
 pub move-unless-spec : {M : Type 1} → statement M

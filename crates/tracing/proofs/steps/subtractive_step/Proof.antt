@@ -27,7 +27,7 @@ returns : tie.Need-returns
 returns c =
     let a = c .before .before .before .before .before .before .before .args in
     let e = ap pickAnswer (sym (c .before .before .p .given .1)) ∙ c .before .before .before .before .pick-subtracting .ensures in
-    c .move-unless .ensures ∙ subtractively-at (domainIn (a .rows .now)) (a .i .0) (a .came) e
+    subtractively-at (domainIn (a .rows .now)) (a .i .0) (a .came) e (c .move-unless .ensures)
 
 returns-2 : tie.Need-returns-2
 returns-2 c =

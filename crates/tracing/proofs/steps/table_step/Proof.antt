@@ -32,7 +32,7 @@ returns c =
     let a = c .before .before .before .before .before .before .before .before .before .args in
     let d : Domain = domainIn (a .rows .now) in
     let e = ap pickAnswer (sym (c .before .before .p .given .1)) ∙ c .before .before .before .before .pick-listing .ensures in
-    c .move-unless .ensures ∙ table-at d (a .i .0) (a .came) (subtractiveStep d (a .i .0) (a .came)) e
+    table-at d (a .i .0) (a .came) (subtractiveStep d (a .i .0) (a .came)) e (c .move-unless .ensures)
 
 returns-2 : tie.Need-returns-2
 returns-2 c =

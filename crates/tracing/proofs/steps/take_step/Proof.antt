@@ -5,7 +5,7 @@ use borrow.Author.Tests.{eq-eqb, ne-eqb}
 use Rattle.tables.specs.WiringDefinitions.{Domain, expanderAt}
 use Rattle.tables.specs.WiringDefinitions.{domainIn}
 use Rattle.tables.specs.filling.Entries.{entries, counted}
-use Rattle.tracing.specs.Answers.{directStep}
+use Rattle.tracing.specs.Answers.{stepOf, directStep}
 use Rattle.tracing.proofs.PhyPicks.{step-by}
 use borrow.Author.Needs.{needs}
 use Rattle.tracing.proofs.steps.take_step.Statement.{statement}
@@ -33,7 +33,7 @@ returns-2 c =
     let d : Domain = domainIn (a .rows .now) in
     let e = ne-eqb (expanderAt d (a .i .0) .address) (a .s) (λ e. c .before .before .if1 .left (c .before .before .before .expander-address .ensures ∙ e)) in
     c .direct-step .ensures
-    ∙ ap (λ (x : ℕ). directStep d (counted (entries (a .words .now) (a .bits .now))) (a .i .0) x (a .s)) (c .before .came-from .ensures)
+    ∙ ap (λ (x : ℕ). stepOf (directStep d (counted (entries (a .words .now) (a .bits .now))) (a .i .0) x (a .s))) (c .before .came-from .ensures)
     ∙ sym (step-by d (counted (entries (a .words .now) (a .bits .now))) (a .i .0) (a .arrival .0) (a .s) e)
 
 pub take-step-spec : {M : Type 1} → statement M

@@ -7,9 +7,7 @@ use lib.ListN.{length, take, drop, length-set}
 use Rattle.tables.specs.WiringDefinitions.{Domain}
 use Rattle.tables.specs.WiringDefinitions.{domainIn}
 use Rattle.tables.specs.filling.Entries.{entries, counted}
-use Rattle.tracing.specs.declared.Outcome.the-variants.{Arrived, NoDestination, BadDestination}
-use Rattle.tracing.specs.Trace.{after, afterStep, traceFrom, request, traced}
-use Rattle.tracing.specs.Answers.{stepAnswer}
+use Rattle.tracing.specs.Trace.{after, traceFrom, request, traced}
 use Rattle.tracing.proofs.WalkTurns.{kept, walk-stop, walk-go, walk-end}
 use borrow.Author.Needs.{needs}
 use Rattle.tracing.proofs.walks.walk.Statement.{statement}
@@ -52,91 +50,27 @@ add-k c = omega arith
 take-step-requires : tie.Need-take-step-requires Inv-loop μ-loop
 take-step-requires c κs = search needs
 
-enum-told : tie.Need-enum-told Inv-loop μ-loop
-enum-told c = search needs
+enum-known-t : tie.Need-enum-known-t Inv-loop μ-loop
+enum-known-t c = search needs
 
 ended-requires : tie.Need-ended-requires Inv-loop μ-loop
 ended-requires c κs = search needs
 
 same-length : tie.Need-same-length Inv-loop μ-loop
-same-length c = simp length-set (c .before .before .before .before .before .loop .inv .1)
-
-returns : tie.Need-returns Inv-loop μ-loop
-unfolding afterStep
-returns c =
-    let at-expander-count = c .before .before .before .before .before .before .expander-count in
-    let a = c .before .before .before .before .before .before .before .before .before .before .before .before .args in
-    let l = c .before .before .before .before .before .loop in
-    let n : ℕ = at-expander-count .result in
-    let e = ap stepAnswer (sym (c .before .enum-told .given .1)) ∙ c .before .before .before .take-step .ensures in
-    rw (c .ended .ensures)
-    (walk-stop (domainIn (a .rows .now)) (counted (entries (a .words .now) (a .bits .now))) (a .s) n (l .k) (l .i .0) (l .q .0) (l .passed) (a .passed .now)
-    (l .inv .3) (l .inv .2) Arrived 255 e refl (omega arith) (omega arith))
-
-enum-known-t : tie.Need-enum-known-t Inv-loop μ-loop
-enum-known-t c = search needs
-
-ended-requires-2 : tie.Need-ended-requires-2 Inv-loop μ-loop
-ended-requires-2 c κs = search needs
-
-same-length-2 : tie.Need-same-length-2 Inv-loop μ-loop
-same-length-2 c =
+same-length c =
     let at-loop = c .before .before .before .before .before .before .loop in
     simp length-set (at-loop .inv .1)
 
-returns-2 : tie.Need-returns-2 Inv-loop μ-loop
-unfolding afterStep
-returns-2 c =
+returns : tie.Need-returns Inv-loop μ-loop
+returns c =
     let at-expander-count = c .before .before .before .before .before .before .before .expander-count in
     let a = c .before .before .before .before .before .before .before .before .before .before .before .before .before .args in
     let l = c .before .before .before .before .before .before .loop in
     let n : ℕ = at-expander-count .result in
-    let e = ap stepAnswer (sym (c .before .before .t .given .1)) ∙ c .before .before .before .before .take-step .ensures in
-    rw (c .ended2 .ensures)
+    let e = sym (c .before .before .t .given .1) ∙ c .before .before .before .before .take-step .ensures in
+    rw (c .ended .ensures)
     (walk-stop (domainIn (a .rows .now)) (counted (entries (a .words .now) (a .bits .now))) (a .s) n (l .k) (l .i .0) (l .q .0) (l .passed) (a .passed .now)
-    (l .inv .3) (l .inv .2) Arrived _ e refl (omega arith) (omega arith))
-
-enum-told-2 : tie.Need-enum-told-2 Inv-loop μ-loop
-enum-told-2 c = search needs
-
-ended-requires-3 : tie.Need-ended-requires-3 Inv-loop μ-loop
-ended-requires-3 c κs = search needs
-
-same-length-3 : tie.Need-same-length-3 Inv-loop μ-loop
-same-length-3 c = simp length-set (c .before .before .before .before .before .loop .inv .1)
-
-returns-3 : tie.Need-returns-3 Inv-loop μ-loop
-unfolding afterStep
-returns-3 c =
-    let at-expander-count = c .before .before .before .before .before .before .expander-count in
-    let a = c .before .before .before .before .before .before .before .before .before .before .before .before .args in
-    let l = c .before .before .before .before .before .loop in
-    let n : ℕ = at-expander-count .result in
-    let e = ap stepAnswer (sym (c .before .enum-told2 .given .1)) ∙ c .before .before .before .take-step .ensures in
-    rw (c .ended3 .ensures)
-    (walk-stop (domainIn (a .rows .now)) (counted (entries (a .words .now) (a .bits .now))) (a .s) n (l .k) (l .i .0) (l .q .0) (l .passed) (a .passed .now)
-    (l .inv .3) (l .inv .2) BadDestination 255 e refl (omega arith) (omega arith))
-
-enum-told-3 : tie.Need-enum-told-3 Inv-loop μ-loop
-enum-told-3 c = search needs
-
-ended-requires-4 : tie.Need-ended-requires-4 Inv-loop μ-loop
-ended-requires-4 c κs = search needs
-
-same-length-4 : tie.Need-same-length-4 Inv-loop μ-loop
-same-length-4 c = simp length-set (c .before .before .before .before .before .loop .inv .1)
-
-returns-4 : tie.Need-returns-4 Inv-loop μ-loop
-unfolding afterStep
-returns-4 c =
-    let at-expander-count = c .before .before .before .before .before .before .expander-count in
-    let a = c .before .before .before .before .before .before .before .before .before .before .before .before .args in
-    let l = c .before .before .before .before .before .loop in
-    let n : ℕ = at-expander-count .result in
-    let e = ap stepAnswer (sym (c .before .enum-told3 .given .1)) ∙ c .before .before .before .take-step .ensures in
-    rw (c .ended4 .ensures)
-    (walk-stop (domainIn (a .rows .now)) (counted (entries (a .words .now) (a .bits .now))) (a .s) n (l .k) (l .i .0) (l .q .0) (l .passed) (a .passed .now)
-    (l .inv .3) (l .inv .2) NoDestination 255 e refl (omega arith) (omega arith))
+    (l .inv .3) (l .inv .2) e (omega arith) (omega arith))
 
 enum-known-t-2 : tie.Need-enum-known-t-2 Inv-loop μ-loop
 enum-known-t-2 c = search needs
@@ -151,7 +85,7 @@ loop-again c =
     let d : Domain = domainIn (a .rows .now) in
     let l = c .before .before .before .before .before .loop in
     let n : ℕ = at-expander-count .result in
-    let e = ap stepAnswer (sym (c .before .t2 .given .1)) ∙ c .before .before .before .take-step .ensures in (
+    let e = sym (c .before .t2 .given .1) ∙ c .before .before .before .take-step .ensures in (
       omega arith,
       simp length-set (l .inv .1),
       kept (l .k) (l .i .0) (l .passed) (a .passed .now) (l .inv .2) (omega arith),
@@ -159,20 +93,20 @@ loop-again c =
           e (omega arith) (omega arith),
     )
 
-ended-requires-5 : tie.Need-ended-requires-5 Inv-loop μ-loop
-ended-requires-5 c κs = search needs
+ended-requires-2 : tie.Need-ended-requires-2 Inv-loop μ-loop
+ended-requires-2 c κs = search needs
 
-same-length-5 : tie.Need-same-length-5 Inv-loop μ-loop
-same-length-5 c = c .before .before .loop .inv .1
+same-length-2 : tie.Need-same-length-2 Inv-loop μ-loop
+same-length-2 c = c .before .before .loop .inv .1
 
-returns-5 : tie.Need-returns-5 Inv-loop μ-loop
-returns-5 c =
+returns-2 : tie.Need-returns-2 Inv-loop μ-loop
+returns-2 c =
     let a = c .before .before .before .before .before .before .before .before .before .args in
     let l = c .before .before .loop in
     let n : ℕ = c .before .before .before .expander-count .result in
-    rw (c .ended5 .ensures)
+    rw (c .ended2 .ensures)
     (walk-end (domainIn (a .rows .now)) (counted (entries (a .words .now) (a .bits .now))) (a .s) n (l .k) (l .i .0) (l .q .0) (l .passed) (a .passed .now)
     (l .inv .3) (l .inv .2) (omega arith) (omega arith))
 
 pub walk-spec : {M : Type 1} → statement M
-walk-spec = tie.close (tie.spec Inv-loop μ-loop expander-count-requires loop-holds cast-passed slice-write-passed add-k take-step-requires enum-told ended-requires same-length returns enum-known-t ended-requires-2 same-length-2 returns-2 enum-told-2 ended-requires-3 same-length-3 returns-3 enum-told-3 ended-requires-4 same-length-4 returns-4 enum-known-t-2 loop-less loop-again ended-requires-5 same-length-5 returns-5)
+walk-spec = tie.close (tie.spec Inv-loop μ-loop expander-count-requires loop-holds cast-passed slice-write-passed add-k take-step-requires enum-known-t ended-requires same-length returns enum-known-t-2 loop-less loop-again ended-requires-2 same-length-2 returns-2)
