@@ -13,6 +13,7 @@ changed [] ws = 0
 changed (v ∷ vs) [] = 0
 changed (v ∷ vs) (w ∷ ws) = cond (eqb v w) 0 1 + changed vs ws
 
+-- so many words written, and so many of them changed
 abbrev pub copied : ℕ → ℕ → Copied
 copied at words = record { at = at; words = words }
 
