@@ -57,11 +57,11 @@ packNext (onward j q) = j * 2 ^ 8 + q
 
 -- a step of the code in the cases above. The phy at which a request ends is not packed, so arrived at the expander, which is phy 255 in the code,
 -- is taken here for arrived at an end device
-abbrev pub stepSaid : CodeStep → Step
-stepSaid (Ended Arrived p) = endDevice (p .0)
-stepSaid (Ended NoDestination p) = lost
-stepSaid (Ended BadDestination p) = bad
-stepSaid (Onward j q) = onward (j .0) (q .0)
+abbrev pub stepToPack : CodeStep → Step
+stepToPack (Ended Arrived p) = endDevice (p .0)
+stepToPack (Ended NoDestination p) = lost
+stepToPack (Ended BadDestination p) = bad
+stepToPack (Onward j q) = onward (j .0) (q .0)
 
 -- rule, phy picked and route index that matched
 abbrev pub packReason : Reason → ℕ

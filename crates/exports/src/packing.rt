@@ -18,7 +18,7 @@ ghost use mathlib.Core.Path.{_≡_};
 ghost use Prim.Native.Nat.{_≤_, _<_, _^_};
 ghost use Rattle.shelves.specs.Shelf.{entryAt, disabledAt};
 ghost use Rattle.exports.specs.Shelves.{packAnswer};
-ghost use Rattle.exports.specs.Packing.{settingOf, packRefusal, packEnd, packBad, packNext, packReason, stepSaid, stepPacked, counts, formPacked, entryPacked, packFields, packLong, general, route};
+ghost use Rattle.exports.specs.Packing.{settingOf, packRefusal, packEnd, packBad, packNext, packReason, stepToPack, stepPacked, counts, formPacked, entryPacked, packFields, packLong, general, route};
 
 // A setting: most expanders, most phys and longest chain, a byte each. A bit above these 24 makes one
 // outside its range.
@@ -76,7 +76,7 @@ pub(crate) fn entry(e: Entry) -> u64
 
 // 1 for BAD DESTINATION.
 fn is_bad(s: Step) -> u64
-    ensures { λ n. ⌜ (n ≡ packBad (stepSaid s)) × (n ≤ 1) ⌝ }
+    ensures { λ n. ⌜ (n ≡ packBad (stepToPack s)) × (n ≤ 1) ⌝ }
 {
     match s {
         Step::Ended(o, _) => match o {
@@ -90,7 +90,7 @@ fn is_bad(s: Step) -> u64
 
 // The expander that a step goes on to and its arrival phy, a byte each; 255 where it goes no further.
 fn next(s: Step) -> u64
-    ensures { λ n. ⌜ (n ≡ packNext (stepSaid s)) × (n < 65536) ⌝ }
+    ensures { λ n. ⌜ (n ≡ packNext (stepToPack s)) × (n < 65536) ⌝ }
 {
     match s {
         Step::Ended(_, _) => 65535,
@@ -107,7 +107,7 @@ fn reason(r: Reason) -> u64
 
 // A step and its reason.
 pub(crate) fn step(r: Reason, s: Step) -> u64
-    ensures { λ n. ⌜ n ≡ stepPacked (record { reason = r; step = stepSaid s }) ⌝ }
+    ensures { λ n. ⌜ n ≡ stepPacked (record { reason = r; step = stepToPack s }) ⌝ }
 {
     is_bad(s) * 281474976710656 + reason(r) + next(s)
 }

@@ -75,7 +75,7 @@ stored l a w ws n h z =
     let e : 2 + length ws ≡ suc (suc (length ws)) = omega arith in
     sets-front (a ∷ w ∷ ws) l (omega arith) ∙ ap (λ (m : List ℕ). a ∷ w ∷ (ws ++ m)) (rw e at z)
 
--- the same in a row that was all zeros
+-- a row that was all zeros, with its words stored
 drop-zeros : (k n : ℕ) → drop {A = ℕ} k (replicate n 0) ≡ replicate (n - k) 0
 drop-zeros zero n = let e : n - 0 ≡ n = omega arith in rw e
 drop-zeros (suc k) zero = let e : 0 - suc k ≡ 0 = omega arith in rw e

@@ -32,7 +32,7 @@ module _ {A : Type 0} where
       let d : drop k (drop a l) ≡ drop (a + length r) l = drop-drop k a l ∙ ap (λ (n : ℕ). drop (a + n) l) (sym e) in
       ap (λ (m : List A). take a l ++ (r ++ m)) d ∙ sym (sets-parts l a r (omega arith))
 
-  -- the same, with the values that are to come behind it
+  -- a part that comes back, and the values that are to come behind it
   pub sets-mid-then : (l r us : List A) (i j a k : ℕ) → a ≡ i → length r ≡ k → j ≡ i + k → j ≤ length l
       → sets (take a l ++ (r ++ drop k (drop a l))) j us ≡ sets l i (r ++ us)
   sets-mid-then l r us i j a k e f g h =

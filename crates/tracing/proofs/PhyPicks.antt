@@ -69,15 +69,15 @@ module _ (d : Domain) (i p came : ℕ) (back : Step) {s : ℕ} (q : s ≡ addres
   move-on n e g = rw (ne-eqb (addressOf (phyAt d i p)) came (λ h. n (q ∙ h)), e, g)
 
 -- a choice of two steps, as the code says it
-pub said : (b : Bool) (x y : Stepped) → cond b (stepOf x) (stepOf y) ≡ stepOf (cond b x y)
-said true x y = refl
-said false x y = refl
+pub step-of-cond : (b : Bool) (x y : Stepped) → cond b (stepOf x) (stepOf y) ≡ stepOf (cond b x y)
+step-of-cond true x y = refl
+step-of-cond false x y = refl
 
 -- what each step does with the pick
 module _ (d : Domain) (i came : ℕ) {v : Pick} where
   pub subtractively-at : {p : ℕ} {r : Step} → at p ≡ v → r ≡ cond (eqb (addressOf (phyAt d i p)) came) (stepOf lost) (stepOf (moveBy d i p)) → r ≡ stepOf (subtractively d i came v)
   unfolding subtractively
-  subtractively-at {p} e f = rw (← e) (f ∙ said (eqb (addressOf (phyAt d i p)) came) lost (moveBy d i p))
+  subtractively-at {p} e f = rw (← e) (f ∙ step-of-cond (eqb (addressOf (phyAt d i p)) came) lost (moveBy d i p))
 
   pub subtractively-none : nowhere ≡ v → stepOf lost ≡ stepOf (subtractively d i came v)
   unfolding subtractively
@@ -85,7 +85,7 @@ module _ (d : Domain) (i came : ℕ) {v : Pick} where
 
   pub table-at : (after : Stepped) {p : ℕ} {r : Step} → at p ≡ v → r ≡ cond (eqb (addressOf (phyAt d i p)) came) (stepOf bad) (stepOf (moveBy d i p)) → r ≡ stepOf (byTable d i came v after)
   unfolding byTable
-  table-at after {p} e f = rw (← e) (f ∙ said (eqb (addressOf (phyAt d i p)) came) bad (moveBy d i p))
+  table-at after {p} e f = rw (← e) (f ∙ step-of-cond (eqb (addressOf (phyAt d i p)) came) bad (moveBy d i p))
 
   pub table-none : (after : Stepped) → nowhere ≡ v → stepOf after ≡ stepOf (byTable d i came v after)
   unfolding byTable

@@ -30,28 +30,28 @@ module _ (k i : ℕ) (bytes bytes₀ : List ℕ) (same : drop k bytes ≡ drop k
       ∙ ap (λ (x : List ℕ). (take k bytes ++ (i ∷ [])) ++ x) (kept h)
 
 -- the trace by the code's step is that by the definition's
-abbrev afterSaid : ℕ → (ℕ → ℕ → Traced) → Step → Traced
-afterSaid i go (Ended o p) = endingAt o i (p .0)
-afterSaid i go (Onward j q) = after (i ∷ []) (go (j .0) (q .0))
+abbrev afterCodeStep : ℕ → (ℕ → ℕ → Traced) → Step → Traced
+afterCodeStep i go (Ended o p) = endingAt o i (p .0)
+afterCodeStep i go (Onward j q) = after (i ∷ []) (go (j .0) (q .0))
 
-after-said : (i : ℕ) (go : ℕ → ℕ → Traced) (t : Stepped) → afterSaid i go (stepOf t) ≡ afterStep i go t
+after-code-step : (i : ℕ) (go : ℕ → ℕ → Traced) (t : Stepped) → afterCodeStep i go (stepOf t) ≡ afterStep i go t
 unfolding afterStep
-after-said i go here = refl
-after-said i go (endDevice p) = refl
-after-said i go bad = refl
-after-said i go lost = refl
-after-said i go (onward j q) = refl
+after-code-step i go here = refl
+after-code-step i go (endDevice p) = refl
+after-code-step i go bad = refl
+after-code-step i go lost = refl
+after-code-step i go (onward j q) = refl
 
 -- the walk after k steps, at expander i with arrival phy q; `inv` and `same` are the loop's invariant
 module _ (d : Domain) (words : List ℕ) (s n k i q : ℕ) (bytes bytes₀ : List ℕ) {v : Traced}
     (inv : after (take k bytes) (traceFrom (n - k) d words i q s) ≡ v) (same : drop k bytes ≡ drop k bytes₀) where
   turn : {t : Step} → t ≡ stepOf (step d words i q s) → k < n
-      → after (take k bytes) (afterSaid i (λ j p. traceFrom (n - (k + 1)) d words j p s) t) ≡ v
+      → after (take k bytes) (afterCodeStep i (λ j p. traceFrom (n - (k + 1)) d words j p s) t) ≡ v
   unfolding traceFrom
   turn e h =
       let m : n - k ≡ suc (n - (k + 1)) = omega arith in
       let go : ℕ → ℕ → Traced = λ j p. traceFrom (n - (k + 1)) d words j p s in
-      ap (after (take k bytes)) (ap (afterSaid i go) e ∙ after-said i go (step d words i q s))
+      ap (after (take k bytes)) (ap (afterCodeStep i go) e ∙ after-code-step i go (step d words i q s))
       ∙ ap (λ (x : ℕ). after (take k bytes) (traceFrom x d words i q s)) (sym m) ∙ inv
 
   -- on to another expander

@@ -92,6 +92,6 @@ unfoldable pub stepCall : Setting → List ℕ → Entries → Request → Resul
 stepCall setting file t q = then (judged setting file) (λ d. stepAsked d t q)
 
 -- how the code says what the call answers
-abbrev pub toldOf : Result StepTold → StepAnswer
-toldOf (refused r) = Refused r
-toldOf (good t) = Told (t .reason) (stepOf (t .step))
+abbrev pub stepAnswerOf : Result StepTold → StepAnswer
+stepAnswerOf (refused r) = Refused r
+stepAnswerOf (good t) = Told (t .reason) (stepOf (t .step))

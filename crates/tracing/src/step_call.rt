@@ -13,7 +13,7 @@ ghost use lib.ListN.{length};
 ghost use Rattle.tables.specs.WiringDefinitions.{domainIn, checkAnswer, IndexedFirst, FileRoom};
 ghost use Rattle.tables.specs.filling.Entries.{entries};
 ghost use Rattle.tracing.specs.Trace.{request};
-ghost use Rattle.tracing.specs.Reasons.{stepAllowed, stepRequested, stepAsked, stepIn, stepCall, toldOf};
+ghost use Rattle.tracing.specs.Reasons.{stepAllowed, stepRequested, stepAsked, stepIn, stepCall, stepAnswerOf};
 
 // Whether cause 15 does not hold: there is such an expander, and the arrival phy is 255 or attached.
 fn may_arrive(rows: &[u64], i: ExpanderNumber, arrival: PhyId) -> bool
@@ -66,7 +66,7 @@ fn step_rows(
     s: u64,
 ) -> StepAnswer
     requires { ⌜ IndexedFirst (domainIn (now rows)) (now first) ⌝ }
-    ensures { λ r. ⌜ r ≡ toldOf (stepAsked (domainIn (now (rows .entry))) (entries (now (words .entry)) (now (bits .entry))) (request (i .0) (arrival .0) s)) ⌝ }
+    ensures { λ r. ⌜ r ≡ stepAnswerOf (stepAsked (domainIn (now (rows .entry))) (entries (now (words .entry)) (now (bits .entry))) (request (i .0) (arrival .0) s)) ⌝ }
 {
     match check_step(rows, words.len(), bits.len(), i, arrival, s) {
         Check::Refused(r) => StepAnswer::Refused(r),
@@ -90,7 +90,7 @@ fn judged_step(
     s: u64,
     chain: u8,
 ) -> StepAnswer
-    ensures { λ r. ⌜ r ≡ toldOf (stepIn chain (length (now (first .entry))) (length (now (low .entry))) (domainIn (now (rows .entry))) (entries (now (words .entry)) (now (bits .entry))) (request (i .0) (arrival .0) s)) ⌝ }
+    ensures { λ r. ⌜ r ≡ stepAnswerOf (stepIn chain (length (now (first .entry))) (length (now (low .entry))) (domainIn (now (rows .entry))) (entries (now (words .entry)) (now (bits .entry))) (request (i .0) (arrival .0) s)) ⌝ }
 {
     let verdict = tables::judge_rows(rows, first, low, chain);
     match verdict {
@@ -113,7 +113,7 @@ fn step_in(
     s: u64,
 ) -> StepAnswer
     requires { ⌜ FileRoom setting (now file) (now rows) (now first) (now low) ⌝ }
-    ensures { λ r. ⌜ r ≡ toldOf (stepCall setting (now (file .entry)) (entries (now (words .entry)) (now (bits .entry))) (request (i .0) (arrival .0) s)) ⌝ }
+    ensures { λ r. ⌜ r ≡ stepAnswerOf (stepCall setting (now (file .entry)) (entries (now (words .entry)) (now (bits .entry))) (request (i .0) (arrival .0) s)) ⌝ }
 {
     let read = tables::read_domain(setting, file, rows);
     match read {
@@ -137,7 +137,7 @@ pub fn explain_step(
     arrival: PhyId,
     s: u64,
 ) -> StepAnswer
-    ensures { λ r. ⌜ r ≡ toldOf (stepCall setting (now (file .entry)) (entries (now (words .entry)) (now (bits .entry))) (request (i .0) (arrival .0) s)) ⌝ }
+    ensures { λ r. ⌜ r ≡ stepAnswerOf (stepCall setting (now (file .entry)) (entries (now (words .entry)) (now (bits .entry))) (request (i .0) (arrival .0) s)) ⌝ }
 {
     let mut rows = [0u64; files::ROWS_OF_64];
     let mut first = [0u16; wiring::SLOTS_OF_64];

@@ -7,29 +7,29 @@ use Rattle.tracing.specs.TableDefinitions.{Setting, Result, refused, good, Entr
 use Rattle.tracing.specs.Steps.{Step, here, endDevice, bad, lost, onward}
 use Rattle.tracing.specs.Trace.{Request}
 use Rattle.tracing.specs.Answers.{stepOf}
-use Rattle.tracing.specs.Reasons.{StepTold, stepCall, toldOf}
+use Rattle.tracing.specs.Reasons.{StepTold, stepCall, stepAnswerOf}
 use Rattle.tracing.specs.declared.Reason.{Reason}
 use Rattle.tracing.specs.declared.StepAnswer.{StepAnswer}
 use Rattle.tracing.specs.declared.StepAnswer.the-variants.{Refused, Told}
-use Rattle.exports.specs.Packing.{packRefusal, packed, stepSaid, stepPacked}
+use Rattle.exports.specs.Packing.{packRefusal, packed, stepToPack, stepPacked}
 use Rattle.exports.proofs.metzurgo_step.Statement.{statement}
 use Rattle.exports.proofs.metzurgo_step.Tie as tie
 
 abbrev saidPacked : StepAnswer → ℕ
 saidPacked (Refused r) = packRefusal r
-saidPacked (Told r s) = stepPacked (record { reason = r; step = stepSaid s })
+saidPacked (Told r s) = stepPacked (record { reason = r; step = stepToPack s })
 
-said-packed : (setting : Setting) (file : List ℕ) (t : Entries) (q : Request) → saidPacked (toldOf (stepCall setting file t q)) ≡ packed stepPacked (stepCall setting file t q)
+said-packed : (setting : Setting) (file : List ℕ) (t : Entries) (q : Request) → saidPacked (stepAnswerOf (stepCall setting file t q)) ≡ packed stepPacked (stepCall setting file t q)
 said-packed setting file t q = told (stepCall setting file t q)
   where
-    step : (r : Reason) (s : Step) → stepPacked (record { reason = r; step = stepSaid (stepOf s) }) ≡ stepPacked (record { reason = r; step = s })
+    step : (r : Reason) (s : Step) → stepPacked (record { reason = r; step = stepToPack (stepOf s) }) ≡ stepPacked (record { reason = r; step = s })
     step r here = refl
     step r (endDevice p) = refl
     step r bad = refl
     step r lost = refl
     step r (onward j q) = refl
 
-    told : (v : Result StepTold) → saidPacked (toldOf v) ≡ packed stepPacked v
+    told : (v : Result StepTold) → saidPacked (stepAnswerOf v) ≡ packed stepPacked v
     told (refused r) = refl
     told (good v) = step (v .reason) (v .step)
 

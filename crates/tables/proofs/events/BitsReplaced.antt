@@ -70,7 +70,7 @@ module _ (s words : List ℕ) (j : ℕ) (whole : length words % 8 ≡ 0) (room :
       ∙ bitsOf-append (take j s) (packed new ++ rest) ∙ ap₂ _++_ front (bitsOf-append (packed new) rest ∙ ap₂ _++_ middle back)
       ∙ sym (sets-parts (bitsOf s) (8 * j) new (omega (arith, same, length-bitsOf s)))
 
--- the same where they are lent as the part of the bytes from j on
+-- bits packed in the part of the bytes from j on, which is lent out
 pub marked-part : (s words r : List ℕ) (j : ℕ) → length words % 8 ≡ 0 → 8 * j + length words ≤ 8 * length s → r ≡ marked words (take (length s - j) (drop j s))
     → bitsOf (take j s ++ (r ++ drop (length s - j) (drop j s))) ≡ sets (bitsOf s) (8 * j) (zeroBits words)
 marked-part s words r j whole room e =

@@ -132,15 +132,15 @@ pub record PhyIndexed (d : Domain) (first : List ℕ) (i p : ℕ) (φ : Phy) : T
   pub index : AttachedExpandersKnown d first
   pub phy : φ ≡ phyAt d i p
 
--- the order of one phy: what is below each expander, and room for the numbers
+-- the order of one phy: what is downstream of each expander, and room for the numbers
 abbrev pub OrderReady : Domain → List ℕ → List ℕ → Type 0
 OrderReady d downstream order = DownstreamListsHeld d downstream × (mostDownstream * length d < length order)
 
--- the same, where the first n numbers are the order of φ
+-- what an order needs, where the first n numbers are the order of φ
 abbrev pub OrderKept : Domain → List ℕ → List ℕ → ℕ → Phy → Type 0
 OrderKept d downstream order n φ = DownstreamListsHeld d downstream × ((mostDownstream * length d < length order) × Grown order order n (orderOf d φ))
 
--- writing the tables of expander i from `at` on: which expanders its phys are attached to, own lists, what is below each, and room
+-- writing the tables of expander i from `at` on: which expanders its phys are attached to, own lists, what is downstream of each, and room
 abbrev pub TablesReady : Domain → List ℕ → List ℕ → List ℕ → List ℕ → ℕ → List ℕ → ℕ → Type 0
 TablesReady d first lists downstream order i words at =
     AttachedExpandersKnown d first × (OwnListsHeld d lists × (DownstreamListsHeld d downstream × ((mostDownstream * length d < length order) × (Fillable d × (at + sizes d (placesAt d i) ≤ length words)))))
@@ -168,7 +168,7 @@ abbrev pub OverlongReady : Domain → List ℕ → List ℕ → List ℕ → Lis
 OverlongReady d first counts downstream order =
     AttachedExpandersKnown d first × (OwnListCounts d counts × (DownstreamListsHeld d downstream × ((mostDownstream * length d < length order) × (length order ≤ orderBytes))))
 
--- the same with own lists in place of their lengths
+-- testing 14 with own lists in place of their lengths
 abbrev pub OverlongByLists : Domain → List ℕ → List ℕ → List ℕ → List ℕ → Type 0
 OverlongByLists d first lists downstream order =
     AttachedExpandersKnown d first × (OwnListsHeld d lists × (DownstreamListsHeld d downstream × ((mostDownstream * length d < length order) × (length order ≤ orderBytes))))

@@ -7,20 +7,20 @@ use Rattle.tracing.specs.declared.Outcome.{Outcome}
 use Rattle.tracing.specs.declared.Outcome.the-variants.{Arrived, NoDestination, BadDestination}
 use Rattle.tracing.specs.declared.Step.{Step}
 use Rattle.tracing.specs.declared.Step.the-variants.{Ended}
-use Rattle.exports.specs.Packing.{packNext, stepSaid}
+use Rattle.exports.specs.Packing.{packNext, stepToPack}
 use Rattle.exports.proofs.packing.next.Statement.{statement}
 use Rattle.exports.proofs.packing.next.Tie as tie
 
-no-further : {s : Step} (o : Outcome) {p : ℕ} → s ≡ Ended o (record { 0 = p }) → 65535 ≡ packNext (stepSaid s)
-no-further Arrived e = sym (ap (λ s. packNext (stepSaid s)) e)
-no-further NoDestination e = sym (ap (λ s. packNext (stepSaid s)) e)
-no-further BadDestination e = sym (ap (λ s. packNext (stepSaid s)) e)
+no-further : {s : Step} (o : Outcome) {p : ℕ} → s ≡ Ended o (record { 0 = p }) → 65535 ≡ packNext (stepToPack s)
+no-further Arrived e = sym (ap (λ s. packNext (stepToPack s)) e)
+no-further NoDestination e = sym (ap (λ s. packNext (stepToPack s)) e)
+no-further BadDestination e = sym (ap (λ s. packNext (stepToPack s)) e)
 
 returns : tie.Need-returns
 returns c = (no-further _ (c .enum-told .given .1), omega arith)
 
 returns-2 : tie.Need-returns-2
-returns-2 c = (sym (ap (λ s. packNext (stepSaid s)) (c .before .before .before .s .given .1)), omega arith)
+returns-2 c = (sym (ap (λ s. packNext (stepToPack s)) (c .before .before .before .s .given .1)), omega arith)
 
 enum-told : tie.Need-enum-told
 enum-told c = search needs

@@ -3,7 +3,7 @@ use mathlib.Core.Path.{sym, _∙_, ap}
 use borrow.Author.Needs.{needs}
 use Rattle.tables.specs.WiringDefinitions.{checkAnswer}
 use Rattle.tables.proofs.CallOutcomes.{judged-room}
-use Rattle.tracing.specs.Reasons.{toldOf}
+use Rattle.tracing.specs.Reasons.{stepAnswerOf}
 use Rattle.tracing.proofs.StepRules.{rows-no, rows-yes}
 use Rattle.tracing.proofs.step_call.judged_step.Statement.{statement}
 use Rattle.tracing.proofs.step_call.judged_step.Tie as tie
@@ -16,12 +16,12 @@ step-rows-requires c κs =
 returns : tie.Need-returns
 returns c =
     let at-judge-rows = c .before .before .before .before .before .before .before .judge-rows in
-    ap toldOf (rows-no _ _ _ _ _ _ _ (sym (at-judge-rows .ensures .0) ∙ ap (checkAnswer _) ((c .before .verdict) .given .1)))
+    ap stepAnswerOf (rows-no _ _ _ _ _ _ _ (sym (at-judge-rows .ensures .0) ∙ ap (checkAnswer _) ((c .before .verdict) .given .1)))
 
 returns-2 : tie.Need-returns-2
 returns-2 c =
     let at-judge-rows = c .before .before .before .before .before .before .before .before .judge-rows in
-    c .step-rows .ensures ∙ ap toldOf (rows-yes _ _ _ _ _ _ (sym (at-judge-rows .ensures .0) ∙ ap (checkAnswer _) ((c .before .before .enum-told) .given .1)))
+    c .step-rows .ensures ∙ ap stepAnswerOf (rows-yes _ _ _ _ _ _ (sym (at-judge-rows .ensures .0) ∙ ap (checkAnswer _) ((c .before .before .enum-told) .given .1)))
 
 judge-rows-requires : tie.Need-judge-rows-requires
 judge-rows-requires c κs = search needs

@@ -3,7 +3,7 @@ use mathlib.Core.Path.{sym, _∙_, ap}
 use lib.Seq.{length-take-le}
 use Rattle.tables.proofs.WiringLemmas.{opened-as, opened-fits}
 use Rattle.tables.proofs.lists.LevelListsByOwn.{judged-own}
-use Rattle.tracing.specs.Reasons.{toldOf}
+use Rattle.tracing.specs.Reasons.{stepAnswerOf}
 use Rattle.tracing.proofs.StepRules.{file-no, file-yes}
 use borrow.Author.Needs.{needs}
 use Rattle.tracing.proofs.step_call.step_in.Statement.{statement}
@@ -23,7 +23,7 @@ slice-aggregate-judged-step c =
 returns : tie.Need-returns
 returns c =
     let at-pre = c .before .before .before .before .before .before .before .before .before .before .before .before .before .pre in
-    ap toldOf (file-no _ _ _ _ _ (opened-as _ _ _ _ _ _ (at-pre .rows) ((c .before .before .before .before .before .read-domain) .ensures) ((c .before .read) .given .1)))
+    ap stepAnswerOf (file-no _ _ _ _ _ (opened-as _ _ _ _ _ _ (at-pre .rows) ((c .before .before .before .before .before .read-domain) .ensures) ((c .before .read) .given .1)))
 
 returns-2 : tie.Need-returns-2
 returns-2 c =
@@ -31,7 +31,7 @@ returns-2 c =
     let at-read-domain = c .before .before .before .before .before .before .before .before .before .before .before .before .before .read-domain in
     let at-read2 = c .before .before .before .before .before .before .before .before .before .read2 in
     let o = opened-as _ _ _ _ _ _ (at-pre .rows) (at-read-domain .ensures) (at-read2 .given .1) in
-    c .before .before .before .before .judged-step .ensures ∙ ap toldOf (file-yes _ _ _ _ _ _ _ (o .0) (judged-own _ _ _ _ _ (o .0) (at-pre .index _ (o .0))))
+    c .before .before .before .before .judged-step .ensures ∙ ap stepAnswerOf (file-yes _ _ _ _ _ _ _ (o .0) (judged-own _ _ _ _ _ (o .0) (at-pre .index _ (o .0))))
 
 read-domain-requires : tie.Need-read-domain-requires
 read-domain-requires c κs = search needs

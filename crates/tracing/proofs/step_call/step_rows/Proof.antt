@@ -5,7 +5,7 @@ use Rattle.tables.specs.WiringDefinitions.{Domain, domainIn, checkAnswer}
 use Rattle.tables.specs.filling.Entries.{entries}
 use Rattle.tracing.specs.declared.StepAnswer.the-variants.{Told}
 use Rattle.tracing.specs.Trace.{request}
-use Rattle.tracing.specs.Reasons.{toldOf}
+use Rattle.tracing.specs.Reasons.{stepAnswerOf}
 use Rattle.tracing.proofs.StepRules.{asked-no, asked-yes}
 use Rattle.tracing.proofs.step_call.step_rows.Statement.{statement}
 use Rattle.tracing.proofs.step_call.step_rows.Tie as tie
@@ -14,14 +14,14 @@ returns : tie.Need-returns
 returns c =
     let a = c .before .before .before .before .before .before .before .before .args in
     let d : Domain = domainIn (a .rows .now) in
-    ap toldOf (asked-no d (entries (a .words .now) (a .bits .now)) (request (a .i .0) (a .arrival .0) (a .s)) (ap (checkAnswer d) (sym (c .before .r .given .1)) ∙ c .before .before .before .check-step .ensures))
+    ap stepAnswerOf (asked-no d (entries (a .words .now) (a .bits .now)) (request (a .i .0) (a .arrival .0) (a .s)) (ap (checkAnswer d) (sym (c .before .r .given .1)) ∙ c .before .before .before .check-step .ensures))
 
 returns-2 : tie.Need-returns-2
 returns-2 c =
     let a = c .before .before .before .before .before .before .before .before .before .args in
     let d : Domain = domainIn (a .rows .now) in
     ap₂ Told (c .before .reason-for .ensures) (c .take-step .ensures)
-    ∙ ap toldOf (asked-yes d (entries (a .words .now) (a .bits .now)) (request (a .i .0) (a .arrival .0) (a .s)) (ap (checkAnswer d) (sym (c .before .before .enum-told .given .1)) ∙ c .before .before .before .before .check-step .ensures) refl)
+    ∙ ap stepAnswerOf (asked-yes d (entries (a .words .now) (a .bits .now)) (request (a .i .0) (a .arrival .0) (a .s)) (ap (checkAnswer d) (sym (c .before .before .enum-told .given .1)) ∙ c .before .before .before .before .check-step .ensures) refl)
 
 check-step-requires : tie.Need-check-step-requires
 check-step-requires c κs = search needs

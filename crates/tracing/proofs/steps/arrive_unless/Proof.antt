@@ -4,7 +4,7 @@ use lib.Dec.{eqb}
 use borrow.Author.Tests.{eq-eqb, ne-eqb}
 use Rattle.tables.specs.WiringDefinitions.{Domain, domainIn, Phy, phyAt, typeOf, addressOf}
 use Rattle.tracing.specs.Steps.{bad, moveBy}
-use Rattle.tracing.proofs.PhyPicks.{said, far-attached}
+use Rattle.tracing.proofs.PhyPicks.{step-of-cond, far-attached}
 use borrow.Author.Needs.{needs}
 use Rattle.tracing.proofs.steps.arrive_unless.Statement.{statement}
 use Rattle.tracing.proofs.steps.arrive_unless.Tie as tie
@@ -28,7 +28,7 @@ returns c =
     let e = c .before .before .phy-type .ensures ∙ ap typeOf (c .before .before .before .phy-at .ensures) in
     let d : Domain = domainIn (a .rows .now) in
     rw (ne-eqb (typeOf (phyAt d (a .i .0) (a .p .0))) 1 (λ u. c .before .if1 .taken (e ∙ u)))
-    (c .move-unless .ensures ∙ said (eqb (addressOf (phyAt d (a .i .0) (a .p .0))) (a .came)) bad (moveBy d (a .i .0) (a .p .0)))
+    (c .move-unless .ensures ∙ step-of-cond (eqb (addressOf (phyAt d (a .i .0) (a .p .0))) (a .came)) bad (moveBy d (a .i .0) (a .p .0)))
 
 phy-address-requires : tie.Need-phy-address-requires
 phy-address-requires c κs = search needs
