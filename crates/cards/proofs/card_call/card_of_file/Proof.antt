@@ -61,5 +61,4 @@ returns-2 c =
     card-made _ _ _ _ _ _ (o .0) (c .before .before .card-of-rows .ensures)
 
 pub card-of-file-spec : {M : Type 1} → statement M
-card-of-file-spec =
-    tie.close (tie.spec slice-aggregate-read-domain read-domain-requires enum-known-read enum-known-read-2 cast-e mul-e array-share-prefix-rows slice-aggregate-card-of-rows card-of-rows-requires returns same-length returns-2)
+card-of-file-spec = tie.close (tie.spec slice-aggregate-read-domain read-domain-requires enum-known-read enum-known-read-2 cast-e mul-e array-share-prefix-rows slice-aggregate-card-of-rows card-of-rows-requires returns same-length returns-2)

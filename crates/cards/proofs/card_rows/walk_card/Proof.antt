@@ -104,5 +104,4 @@ returns c =
     walk-ends (a .most) (bitsOf (a .card .now)) (a .rows .now) (domainOn (bitsOf (a .card .now))) (a .n) (l .i) (l .at) (l .rows) (l .used) (l .fine) (l .check) (l .inv .1) (c .loop-test .left) (omega arith)
 
 pub walk-card-spec : {M : Type 1} → statement M
-walk-card-spec =
-    tie.close (tie.spec Inv-loop μ-loop loop-holds cast-k mul-a add-e unit-from-requires mul-put-row sub-put-row part-put-row-start part-put-row-end put-row-requires array-share-prefix-used slice-aggregate-check-unit check-unit-requires first-requires mul-used array-write-used add-i loop-less loop-again same-length returns)
+walk-card-spec = tie.close (tie.spec Inv-loop μ-loop loop-holds cast-k mul-a add-e unit-from-requires mul-put-row sub-put-row part-put-row-start part-put-row-end put-row-requires array-share-prefix-used slice-aggregate-check-unit check-unit-requires first-requires mul-used array-write-used add-i loop-less loop-again same-length returns)

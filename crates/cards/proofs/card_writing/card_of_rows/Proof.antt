@@ -43,5 +43,4 @@ returns-2 c =
     fitted (cardOf d) (at-args .card .now) _ _ (omega arith) (omega arith) (c .before .before .put-card .ensures ∙ ap (λ (n : ℕ). cardOf d ++ drop (bytesFor n) (at-args .card .now)) (sym s))
 
 pub card-of-rows-spec : {M : Type 1} → statement M
-card-of-rows-spec =
-    tie.close (tie.spec card-size-requires add-n made-refused-requires returns put-card-requires same-length returns-2)
+card-of-rows-spec = tie.close (tie.spec card-size-requires add-n made-refused-requires returns put-card-requires same-length returns-2)

@@ -56,5 +56,4 @@ returns c =
     (at-put-bits .ensures) (at-put-bits2 .ensures) (at-put-bits3 .ensures) (at-put-expanders .ensures .0) (c .before .before .put-bits4 .ensures)
 
 pub put-card-spec : {M : Type 1} → statement M
-put-card-spec =
-    tie.close (tie.spec put-bits-requires expander-count-requires less-one-requires put-bits-requires-2 put-bits-requires-3 put-expanders-requires sub-put-bits put-bits-requires-4 same-length returns)
+put-card-spec = tie.close (tie.spec put-bits-requires expander-count-requires less-one-requires put-bits-requires-2 put-bits-requires-3 put-expanders-requires sub-put-bits put-bits-requires-4 same-length returns)

@@ -83,5 +83,4 @@ returns c =
     (expanders-end d (l .i) (l .at) _ _ (omega arith) (l .inv .1 .1 .1 .1 .1 .1), (omega arith, omega arith))
 
 pub put-expanders-spec : {M : Type 1} → statement M
-put-expanders-spec =
-    tie.close (tie.spec Inv-loop μ-loop expander-count-requires loop-holds put-head-requires add-put-phys put-phys-requires add-i loop-less loop-again same-length returns)
+put-expanders-spec = tie.close (tie.spec Inv-loop μ-loop expander-count-requires loop-holds put-head-requires add-put-phys put-phys-requires add-i loop-less loop-again same-length returns)

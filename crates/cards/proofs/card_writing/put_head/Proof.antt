@@ -68,5 +68,4 @@ returns c =
     (at-put-bits .ensures) (at-put-bits2 .ensures) (at-put-bits3 .ensures) (c .before .before .put-bits4 .ensures)
 
 pub put-head-spec : {M : Type 1} → statement M
-put-head-spec =
-    tie.close (tie.spec expander-address-requires put-bits-requires add-put-bits route-indexes-requires cast-put-bits put-bits-requires-2 add-put-bits-2 configurable-bit-requires cast-put-bits-2 put-bits-requires-3 add-put-bits-3 phy-count-requires less-one-requires put-bits-requires-4 same-length returns)
+put-head-spec = tie.close (tie.spec expander-address-requires put-bits-requires add-put-bits route-indexes-requires cast-put-bits put-bits-requires-2 add-put-bits-2 configurable-bit-requires cast-put-bits-2 put-bits-requires-3 add-put-bits-3 phy-count-requires less-one-requires put-bits-requires-4 same-length returns)

@@ -49,5 +49,4 @@ returns-2 c =
     c .before .before .put-present .ensures ∙ ap (λ (φ : Phy). sets (bitsOf (at-args .card .now)) (at-args .at) (phyBits φ)) (sym (c .before .before .before .before .before .f2 .given .1))
 
 pub put-phy-spec : {M : Type 1} → statement M
-put-phy-spec =
-    tie.close (tie.spec enum-known-f put-bits-requires add-put-bits cast-put-bits put-bits-requires-2 enum-known-f-2 put-present-requires same-length returns same-length-2 returns-2)
+put-phy-spec = tie.close (tie.spec enum-known-f put-bits-requires add-put-bits cast-put-bits put-bits-requires-2 enum-known-f-2 put-present-requires same-length returns same-length-2 returns-2)

@@ -72,5 +72,4 @@ returns c =
     (phys-end φs (l .p) (l .next) _ _ (omega arith) (l .inv .1 .1 .1 .1 .1 .1), (omega arith, omega arith))
 
 pub put-phys-spec : {M : Type 1} → statement M
-put-phys-spec =
-    tie.close (tie.spec Inv-loop μ-loop phy-count-requires loop-holds phy-at-requires put-phy-requires phy-size-requires add-next add-p loop-less loop-again same-length returns)
+put-phys-spec = tie.close (tie.spec Inv-loop μ-loop phy-count-requires loop-holds phy-at-requires put-phy-requires phy-size-requires add-next add-p loop-less loop-again same-length returns)

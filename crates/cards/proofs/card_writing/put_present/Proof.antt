@@ -64,5 +64,4 @@ returns-2 c =
     present-all (at-args .x) (at-args .at) _ _ _ _ (at-put-bits .ensures) (at-put-bits2 .ensures) (at-put-bits3 .ensures) (at-if1 .left) _ _ (at-put-bits4 .ensures) (c .before .before .put-bits5 .ensures)
 
 pub put-present-spec : {M : Type 1} → statement M
-put-present-spec =
-    tie.close (tie.spec put-bits-requires add-put-bits cast-put-bits put-bits-requires-2 add-put-bits-2 cast-put-bits-2 put-bits-requires-3 same-length returns add-put-bits-3 put-bits-requires-4 add-put-bits-4 cast-put-bits-3 put-bits-requires-5 same-length-2 returns-2)
+put-present-spec = tie.close (tie.spec put-bits-requires add-put-bits cast-put-bits put-bits-requires-2 add-put-bits-2 cast-put-bits-2 put-bits-requires-3 same-length returns add-put-bits-3 put-bits-requires-4 add-put-bits-4 cast-put-bits-3 put-bits-requires-5 same-length-2 returns-2)

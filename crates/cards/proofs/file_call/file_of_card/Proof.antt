@@ -131,5 +131,4 @@ returns-5 c =
     file-made (a .setting) (a .card .now) (a .file .now) o _ q k w (at-walk-card .result .check) f g s _ _ _ z (c .before .before .file-of-rows .ensures)
 
 pub file-of-card-spec : {M : Type 1} → statement M
-file-of-card-spec =
-    tie.close (tie.spec is-in-range-requires made-refused-requires returns expanders-from-requires slice-aggregate-walk-card walk-card-requires is-formed-requires made-refused-requires-2 returns-2 is-within-requires made-refused-requires-3 returns-3 enum-known-check enum-told cast-e mul-e array-share-prefix-rows slice-aggregate-file-of-rows file-of-rows-requires returns-4 same-length returns-5)
+file-of-card-spec = tie.close (tie.spec is-in-range-requires made-refused-requires returns expanders-from-requires slice-aggregate-walk-card walk-card-requires is-formed-requires made-refused-requires-2 returns-2 is-within-requires made-refused-requires-3 returns-3 enum-known-check enum-told cast-e mul-e array-share-prefix-rows slice-aggregate-file-of-rows file-of-rows-requires returns-4 same-length returns-5)

@@ -59,5 +59,4 @@ returns-3 c =
     bound-from (bitsOf (a .card .now)) (a .at) _ _ _ _ (h .present (c .before .before .before .if1 .left)) (h .deviceType) (h .attribute) (c .before .word-from .ensures) (c .byte-from3 .ensures .0) (c .before .before .if2 .left)
 
 pub phy-from-spec : {M : Type 1} → statement M
-phy-from-spec =
-    tie.close (tie.spec byte-from-requires add-byte-from byte-from-requires-2 cast-t11 returns cast-device-type cast-attribute returns-2 add-word-from word-from-requires add-byte-from-2 byte-from-requires-3 cast-attached-phy returns-3)
+phy-from-spec = tie.close (tie.spec byte-from-requires add-byte-from byte-from-requires-2 cast-t11 returns cast-device-type cast-attribute returns-2 add-word-from word-from-requires add-byte-from-2 byte-from-requires-3 cast-attached-phy returns-3)

@@ -53,5 +53,4 @@ returns c =
     (omega arith, omega arith)
 
 pub card-size-spec : {M : Type 1} → statement M
-card-size-spec =
-    tie.close (tie.spec Inv-loop μ-loop expander-count-requires loop-holds phys-size-requires add-sum add-sum-2 add-i loop-less loop-again returns)
+card-size-spec = tie.close (tie.spec Inv-loop μ-loop expander-count-requires loop-holds phys-size-requires add-sum add-sum-2 add-i loop-less loop-again returns)

@@ -58,5 +58,4 @@ returns c =
     (omega arith, omega arith)
 
 pub phys-size-spec : {M : Type 1} → statement M
-phys-size-spec =
-    tie.close (tie.spec Inv-loop μ-loop phy-count-requires loop-holds phy-at-requires phy-size-requires add-sum add-p loop-less loop-again returns)
+phys-size-spec = tie.close (tie.spec Inv-loop μ-loop phy-count-requires loop-holds phy-at-requires phy-size-requires add-sum add-p loop-less loop-again returns)

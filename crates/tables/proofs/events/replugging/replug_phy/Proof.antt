@@ -30,5 +30,4 @@ returns-2 c =
     ∙ sym (ap (replug (c .before .before .before .before .args .a)) (c .before .before .f2 .given .1))
 
 pub replug-phy-spec : {M : Type 1} → statement M
-replug-phy-spec =
-    tie.close (tie.spec enum-known-f enum-known-f-2 drive-type-requires returns returns-2)
+replug-phy-spec = tie.close (tie.spec enum-known-f enum-known-f-2 drive-type-requires returns returns-2)
