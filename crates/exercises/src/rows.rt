@@ -89,6 +89,11 @@ pub(crate) fn put_rig(rows: &mut [u64], a: u64, b: u64, routeIndexes: u16, words
         phys: words.len() as u8 + 1,
         configurable: 0,
     };
-    put_row(&mut rows[..258], first, toward(b, 2), &words[..0]);
-    put_row(&mut rows[258..], second, toward(a, 1), words);
+    put_row(
+        &mut rows[..files::ROW_WORDS],
+        first,
+        toward(b, 2),
+        &words[..0],
+    );
+    put_row(&mut rows[files::ROW_WORDS..], second, toward(a, 1), words);
 }

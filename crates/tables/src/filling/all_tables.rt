@@ -219,7 +219,7 @@ pub(crate) fn put_all(rows: &[u64], first: &[u16], low: &[u8], words: &mut [u64]
     ensures { λ _. ⌜ now (words .exit) ≡ ownTables (domainIn (now (rows .entry))) ++ drop (needed (domainIn (now (rows .entry)))) (now (words .entry)) ⌝ }
 {
     if rows.len() > files::ROWS_OF_64 {
-        put_all(&rows[..16512], first, low, words);
+        put_all(&rows[..files::ROWS_OF_64], first, low, words);
         return;
     }
     if wiring::expander_count(rows) <= 8 {

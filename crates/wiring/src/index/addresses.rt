@@ -232,7 +232,7 @@ pub(crate) fn put_index(rows: &[u64], first: &mut [u16], low: &mut [u8])
     ensures { λ _. ⌜ IndexPut (domainIn (now (rows .entry))) (now (first .entry)) (now (low .entry)) (now (first .exit)) (now (low .exit)) ⌝ }
 {
     if rows.len() > files::ROWS_OF_64 {
-        put_index(&rows[..16512], first, low);
+        put_index(&rows[..files::ROWS_OF_64], first, low);
         return;
     }
     if files::expander_count(rows) <= 8 {
