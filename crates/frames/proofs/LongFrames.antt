@@ -45,15 +45,15 @@ size-least kind s n e =
     ⊎-elim {C = shortSize kind ≤ n} (λ h. let k = h .1 in omega arith) (λ h. let k = h .1 in omega arith) (sized kind s n e .1)
 
 -- what was read has at least the bytes of a short frame
-pub general-least : (s : List ℕ) (g : General) → generalRead s ≡ good g → 28 ≤ length s
+pub general-least : (s : List ℕ) (g : General) → generalRead s ≡ good g → shortSize ReportGeneral ≤ length s
 unfolding generalRead
 general-least s g e = found (frameSize ReportGeneral s) refl e
   where
-    exact : (n : ℕ) (b : Bool) (x : Result General) → 28 ≤ n → eqb (length s) n ≡ b → unless b (refusal 1 0 0) x ≡ good g → 28 ≤ length s
+    exact : (n : ℕ) (b : Bool) (x : Result General) → shortSize ReportGeneral ≤ n → eqb (length s) n ≡ b → unless b (refusal 1 0 0) x ≡ good g → shortSize ReportGeneral ≤ length s
     exact n true x h q e = let l = eqb-true (length s) n q in omega arith
     exact n false x h q e = let z : _≡_ {A = ℕ} 0 1 = cc in absurd (omega arith)
 
-    found : (y : Result ℕ) → frameSize ReportGeneral s ≡ y → then y (λ n. unless (eqb (length s) n) (refusal 1 0 0) (generalIn s)) ≡ good g → 28 ≤ length s
+    found : (y : Result ℕ) → frameSize ReportGeneral s ≡ y → then y (λ n. unless (eqb (length s) n) (refusal 1 0 0) (generalIn s)) ≡ good g → shortSize ReportGeneral ≤ length s
     found (refused r) q e = let z : _≡_ {A = ℕ} 0 1 = cc in absurd (omega arith)
     found (good n) q e = exact n (eqb (length s) n) _ (size-least ReportGeneral s n q) refl e
 
@@ -73,10 +73,10 @@ number-alike s t i i′ (suc k) h =
     let e = number-alike s t i i′ k (λ j l. h j (omega arith)) in
     rw (e, h k (omega arith))
 
-general-alike : (s t : List ℕ) → Alike 28 s t → generalIn s ≡ generalIn t
+general-alike : (s t : List ℕ) → Alike (shortSize ReportGeneral) s t → generalIn s ≡ generalIn t
 unfolding generalFixed
 general-alike s t h =
-    let a : (k : ℕ) → k < 28 → 4 ≤ k → byte s k ≡ byte t k = λ k l m. h k l (λ e. omega arith) in
+    let a : (k : ℕ) → k < shortSize ReportGeneral → 4 ≤ k → byte s k ≡ byte t k = λ k l m. h k l (λ e. omega arith) in
     let r = number-alike s t 6 6 2 (λ j l. a (6 + j) (omega arith) (omega arith)) in
     rw (
       h 0 (omega arith) (λ e. omega arith),
@@ -87,10 +87,10 @@ general-alike s t h =
       a 10 (omega arith) (omega arith),
     )
 
-discover-alike : (s t : List ℕ) → Alike 52 s t → discoverIn s ≡ discoverIn t
+discover-alike : (s t : List ℕ) → Alike (shortSize Discover) s t → discoverIn s ≡ discoverIn t
 unfolding discoverFixed
 discover-alike s t h =
-    let a : (k : ℕ) → k < 52 → 4 ≤ k → byte s k ≡ byte t k = λ k l m. h k l (λ e. omega arith) in
+    let a : (k : ℕ) → k < shortSize Discover → 4 ≤ k → byte s k ≡ byte t k = λ k l m. h k l (λ e. omega arith) in
     let ownAddress = number-alike s t 16 16 8 (λ j l. a (16 + j) (omega arith) (omega arith)) in
     let attachedAddress = number-alike s t 24 24 8 (λ j l. a (24 + j) (omega arith) (omega arith)) in
     rw (
@@ -161,8 +161,8 @@ long-size : (kind : Response) (s : List ℕ) → length s ≡ longSize kind → 
 long-size ReportGeneral s l b = size-of ReportGeneral s (omega arith) ∙ ap (sizeStated ReportGeneral) b
 long-size Discover s l b = size-of Discover s (omega arith) ∙ ap (sizeStated Discover) b
 
-pub long-general : (s : List ℕ) → length s ≡ 68 → byte s 3 ≡ 0x10 → generalRead s ≡ generalRead (shortFrame ReportGeneral s)
-long-general s l b = sym (ap generalRead (take-all 68 s (omega arith))) ∙ short-general s 68 (long-size ReportGeneral s l b) (omega arith)
+pub long-general : (s : List ℕ) → length s ≡ longSize ReportGeneral → byte s 3 ≡ 0x10 → generalRead s ≡ generalRead (shortFrame ReportGeneral s)
+long-general s l b = sym (ap generalRead (take-all (longSize ReportGeneral) s (omega arith))) ∙ short-general s (longSize ReportGeneral) (long-size ReportGeneral s l b) (omega arith)
 
-pub long-discover : (s : List ℕ) → length s ≡ 64 → byte s 3 ≡ 0x0f → discoverRead s ≡ discoverRead (shortFrame Discover s)
-long-discover s l b = sym (ap discoverRead (take-all 64 s (omega arith))) ∙ short-discover s 64 (long-size Discover s l b) (omega arith)
+pub long-discover : (s : List ℕ) → length s ≡ longSize Discover → byte s 3 ≡ 0x0f → discoverRead s ≡ discoverRead (shortFrame Discover s)
+long-discover s l b = sym (ap discoverRead (take-all (longSize Discover) s (omega arith))) ∙ short-discover s (longSize Discover) (long-size Discover s l b) (omega arith)
