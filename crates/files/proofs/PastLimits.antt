@@ -13,7 +13,7 @@ use Rattle.frames.specs.Refusals.{refused, refusal}
 use Rattle.files.specs.declared.Setting.{Setting}
 use Rattle.files.specs.Settings.{inRange}
 use Rattle.files.specs.File.{headerUnit, domainRead}
-use Rattle.files.specs.Rows.{physIn, rowIn, rowsIn, domainIn}
+use Rattle.files.specs.Rows.{physIn, rowIn, rowsIn, domainIn, rowWords, mostRowWords}
 use Rattle.files.proofs.ListMembers.{was-true}
 use Rattle.files.proofs.SettingRanges.{range-iff}
 
@@ -46,21 +46,21 @@ unfolding physIn
 phys-alike zero u v h = refl
 phys-alike (suc n) u v h = rw (h 0 (omega arith), h 1 (omega arith), phys-alike n (drop 2 u) (drop 2 v) (alike-drop (2 * n) 2 u v (λ k l. h k (omega arith)))) refl
 
-row-alike : (u v : List ℕ) → Alike 258 u v → rowIn u ≡ rowIn v
+row-alike : (u v : List ℕ) → Alike rowWords u v → rowIn u ≡ rowIn v
 unfolding rowIn
 row-alike u v h =
     let w = getD v 1 0 in
     rw (h 0 (omega arith), h 1 (omega arith), phys-alike (min 128 (w / 65536 % 256)) (drop 2 u) (drop 2 v) (alike-drop _ 2 u v (λ k l. h k (omega arith)))) refl
 
-rows-alike : (n : ℕ) (u v : List ℕ) → Alike (258 * n) u v → rowsIn n u ≡ rowsIn n v
+rows-alike : (n : ℕ) (u v : List ℕ) → Alike (rowWords * n) u v → rowsIn n u ≡ rowsIn n v
 unfolding rowsIn
 rows-alike zero u v h = refl
-rows-alike (suc n) u v h = rw (row-alike u v (λ k l. h k (omega arith)), rows-alike n (drop 258 u) (drop 258 v) (alike-drop (258 * n) 258 u v (λ k l. h k (omega arith)))) refl
+rows-alike (suc n) u v h = rw (row-alike u v (λ k l. h k (omega arith)), rows-alike n (drop rowWords u) (drop rowWords v) (alike-drop (rowWords * n) rowWords u v (λ k l. h k (omega arith)))) refl
 
 -- words are read as their first 64 rows are
-pub rows-cut : (ws : List ℕ) → 16512 < length ws → domainIn (take 16512 ws) ≡ domainIn ws
+pub rows-cut : (ws : List ℕ) → mostRowWords < length ws → domainIn (take mostRowWords ws) ≡ domainIn ws
 unfolding domainIn
 rows-cut ws h =
-    let n = length-take-le 16512 ws (omega arith) in
-    let m : min 64 (length (take 16512 ws) / 258) ≡ min 64 (length ws / 258) = omega (arith, n) in
-    ap (λ k. rowsIn k (take 16512 ws)) m ∙ rows-alike (min 64 (length ws / 258)) (take 16512 ws) ws (λ k l. getD-take 16512 ws k 0 (omega arith))
+    let n = length-take-le mostRowWords ws (omega arith) in
+    let m : min 64 (length (take mostRowWords ws) / rowWords) ≡ min 64 (length ws / rowWords) = omega (arith, n) in
+    ap (λ k. rowsIn k (take mostRowWords ws)) m ∙ rows-alike (min 64 (length ws / rowWords)) (take mostRowWords ws) ws (λ k l. getD-take mostRowWords ws k 0 (omega arith))

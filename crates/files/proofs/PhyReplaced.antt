@@ -11,7 +11,7 @@ use borrow.Author.Tests.{lt-ltb, le-ltb}
 use Rattle.files.specs.declared.Phy.{Phy}
 use Rattle.files.specs.declared.Phy.the-variants.{Vacant}
 use Rattle.files.specs.Domain.{Expander, Domain, noExpander, expanderAt, addressOf}
-use Rattle.files.specs.Rows.{phyWord, phyIn, physIn, rowIn, domainIn}
+use Rattle.files.specs.Rows.{phyWord, phyIn, physIn, rowIn, domainIn, rowWords}
 use Rattle.files.specs.PhyReplaced.{withPhy, setPhy, phyFromWords, withWords, PhySet}
 use Rattle.files.proofs.RowsAsDomain.{length-physIn, phy-in, row-at, count-of, head-in, no-expander}
 use Rattle.files.proofs.Domains.{expander-range}
@@ -39,7 +39,7 @@ phys-same n u v h =
     let m : q < n = rw (length-physIn n u) at l in
     phy-in n u q m ∙ ap₂ phyIn (h (2 * q) (omega arith)) (h (2 * q + 1) (omega arith)) ∙ sym (phy-in n v q m))
 
-row-same : (u v : List ℕ) → ((k : ℕ) → k < 258 → getD u k 0 ≡ getD v k 0) → rowIn u ≡ rowIn v
+row-same : (u v : List ℕ) → ((k : ℕ) → k < rowWords → getD u k 0 ≡ getD v k 0) → rowIn u ≡ rowIn v
 row-same u v h =
     row-by u v (λ n. physIn n (drop 2 v)) (h 0 (omega arith)) (h 1 (omega arith)) (λ n l.
     phys-same n (drop 2 u) (drop 2 v) (λ k m. getD-drop 2 u k 0 ∙ h (2 + k) (omega arith) ∙ sym (getD-drop 2 v k 0)))
@@ -67,8 +67,8 @@ module _ (u v : List ℕ) (p a w : ℕ) (first : getD u (2 + 2 * p) 0 ≡ a) (se
   row-set = row-by u v (λ n. set (physIn n (drop 2 v)) p (phyIn a w)) (others 0 (λ z. omega arith) (λ z. omega arith)) (others 1 (λ z. omega arith) (λ z. omega arith)) (λ n l. phys-set n)
 
 -- ws′ is ws with the two words of phy p of expander i replaced
-module _ (ws ws′ : List ℕ) (i p a w : ℕ) (size : length ws′ ≡ length ws) (first : getD ws′ (258 * i + 2 + 2 * p) 0 ≡ a) (second : getD ws′ (258 * i + 2 + 2 * p + 1) 0 ≡ w)
-    (others : (k : ℕ) → k ≢ 258 * i + 2 + 2 * p → k ≢ 258 * i + 2 + 2 * p + 1 → getD ws′ k 0 ≡ getD ws k 0) (there : p < length (expanderAt (domainIn ws) i .phys)) where
+module _ (ws ws′ : List ℕ) (i p a w : ℕ) (size : length ws′ ≡ length ws) (first : getD ws′ (rowWords * i + 2 + 2 * p) 0 ≡ a) (second : getD ws′ (rowWords * i + 2 + 2 * p + 1) 0 ≡ w)
+    (others : (k : ℕ) → k ≢ rowWords * i + 2 + 2 * p → k ≢ rowWords * i + 2 + 2 * p + 1 → getD ws′ k 0 ≡ getD ws k 0) (there : p < length (expanderAt (domainIn ws) i .phys)) where
   rows-set : domainIn ws′ ≡ setPhy (domainIn ws) i p (phyIn a w)
   unfolding setPhy
   rows-set =
@@ -78,23 +78,23 @@ module _ (ws ws′ : List ℕ) (i p a w : ℕ) (size : length ws′ ≡ length w
       let m = head-in ws i l .phys in
       let c′ = count-of ws′ in
       let c = count-of ws in
-      let n : length (domainIn ws′) ≡ length d = c′ ∙ ap (λ (k : ℕ). min 64 (k / 258)) size ∙ sym c in
+      let n : length (domainIn ws′) ≡ length d = c′ ∙ ap (λ (k : ℕ). min 64 (k / rowWords)) size ∙ sym c in
       ext-getD noExpander (domainIn ws′) (set d i x) (n ∙ sym (length-set d i x)) (λ j h.
       by-cases (ℕ-discrete j i)
-      (λ e. subst (λ (z : ℕ). expanderAt (domainIn ws′) z ≡ getD (set d i x) z noExpander) (sym e) (row-at ws′ i (omega arith) ∙ row-set (drop (258 * i) ws′) (drop (258 * i) ws) p a w (place (2 + 2 * p) (omega arith) ∙ first) (place (2 + (2 * p + 1)) (omega arith) ∙ second) (λ k f g. getD-drop (258 * i) ws′ k 0 ∙ others (258 * i + k) (λ z. f (omega arith)) (λ z. g (omega arith)) ∙ sym (getD-drop (258 * i) ws k 0))
+      (λ e. subst (λ (z : ℕ). expanderAt (domainIn ws′) z ≡ getD (set d i x) z noExpander) (sym e) (row-at ws′ i (omega arith) ∙ row-set (drop (rowWords * i) ws′) (drop (rowWords * i) ws) p a w (place (2 + 2 * p) (omega arith) ∙ first) (place (2 + (2 * p + 1)) (omega arith) ∙ second) (λ k f g. getD-drop (rowWords * i) ws′ k 0 ∙ others (rowWords * i + k) (λ z. f (omega arith)) (λ z. g (omega arith)) ∙ sym (getD-drop (rowWords * i) ws k 0))
       ∙ ap (λ (y : Expander). withPhy y p (phyIn a w)) (sym (row-at ws i l)) ∙ sym (getD-set-same d i x noExpander l)))
-      (λ e. row-at ws′ j h ∙ row-same (drop (258 * j) ws′) (drop (258 * j) ws) (λ k o. getD-drop (258 * j) ws′ k 0 ∙ others (258 * j + k) (λ z. e (omega arith)) (λ z. e (omega arith)) ∙ sym (getD-drop (258 * j) ws k 0))
+      (λ e. row-at ws′ j h ∙ row-same (drop (rowWords * j) ws′) (drop (rowWords * j) ws) (λ k o. getD-drop (rowWords * j) ws′ k 0 ∙ others (rowWords * j + k) (λ z. e (omega arith)) (λ z. e (omega arith)) ∙ sym (getD-drop (rowWords * j) ws k 0))
       ∙ sym (row-at ws j (omega arith)) ∙ sym (getD-set-other d i j x noExpander e)))
     where
-      place : {t : ℕ} (k : ℕ) → 258 * i + k ≡ t → getD (drop (258 * i) ws′) k 0 ≡ getD ws′ t 0
-      place k e = getD-drop (258 * i) ws′ k 0 ∙ ap (λ (x : ℕ). getD ws′ x 0) e
+      place : {t : ℕ} (k : ℕ) → rowWords * i + k ≡ t → getD (drop (rowWords * i) ws′) k 0 ≡ getD ws′ t 0
+      place k e = getD-drop (rowWords * i) ws′ k 0 ∙ ap (λ (x : ℕ). getD ws′ x 0) e
 
 -- where there is such a phy, its two words are set
-pub phy-set : (ws : List ℕ) (i p : ℕ) (φ : Phy) → p < length (expanderAt (domainIn ws) i .phys) → 258 * i + 2 + 2 * p + 1 < length ws
-    → PhySet ws (set (set ws (258 * i + 2 + 2 * p) (addressOf φ)) (258 * i + 2 + 2 * p + 1) (phyWord φ)) i p φ
+pub phy-set : (ws : List ℕ) (i p : ℕ) (φ : Phy) → p < length (expanderAt (domainIn ws) i .phys) → rowWords * i + 2 + 2 * p + 1 < length ws
+    → PhySet ws (set (set ws (rowWords * i + 2 + 2 * p) (addressOf φ)) (rowWords * i + 2 + 2 * p + 1) (phyWord φ)) i p φ
 unfolding withWords
 phy-set ws i p φ h l =
-    let k : ℕ = 258 * i + 2 + 2 * p in
+    let k : ℕ = rowWords * i + 2 + 2 * p in
     let one : List ℕ = set ws k (addressOf φ) in
     let m = length-set ws k (addressOf φ) in
     record {
@@ -121,7 +121,7 @@ pub held-same : (φ : Phy) → ReadPhy φ → FitsPhy φ → phyFromWords φ ≡
 held-same = phy-back
 
 -- the words of a phy are there
-pub in-rows : (ws : List ℕ) (i p : ℕ) → p < length (expanderAt (domainIn ws) i .phys) → 258 * i + 2 + 2 * p + 1 < length ws
+pub in-rows : (ws : List ℕ) (i p : ℕ) → p < length (expanderAt (domainIn ws) i .phys) → rowWords * i + 2 + 2 * p + 1 < length ws
 in-rows ws i p h =
     let l = expander-range (domainIn ws) i p h in
     let m = head-in ws i l .phys in
@@ -129,7 +129,7 @@ in-rows ws i p h =
     omega arith
 
 pub phy-set-by : (ws : List ℕ) (i p : ℕ) (φ : Phy) (s w : ℕ) → s ≡ addressOf φ → w ≡ phyWord φ → p < length (expanderAt (domainIn ws) i .phys)
-    → PhySet ws (set (set ws (258 * i + 2 + 2 * p) s) (258 * i + 2 + 2 * p + 1) w) i p φ
+    → PhySet ws (set (set ws (rowWords * i + 2 + 2 * p) s) (rowWords * i + 2 + 2 * p + 1) w) i p φ
 phy-set-by ws i p φ s w a b h =
-    subst (λ x. PhySet ws (set (set ws (258 * i + 2 + 2 * p) s) (258 * i + 2 + 2 * p + 1) x) i p φ) (sym b)
-    (subst (λ x. PhySet ws (set (set ws (258 * i + 2 + 2 * p) x) (258 * i + 2 + 2 * p + 1) (phyWord φ)) i p φ) (sym a) (phy-set ws i p φ h (in-rows ws i p h)))
+    subst (λ x. PhySet ws (set (set ws (rowWords * i + 2 + 2 * p) s) (rowWords * i + 2 + 2 * p + 1) x) i p φ) (sym b)
+    (subst (λ x. PhySet ws (set (set ws (rowWords * i + 2 + 2 * p) x) (rowWords * i + 2 + 2 * p + 1) (phyWord φ)) i p φ) (sym a) (phy-set ws i p φ h (in-rows ws i p h)))

@@ -13,7 +13,7 @@ use Rattle.files.specs.declared.ExpanderUnit.{ExpanderUnit}
 use Rattle.files.specs.declared.Phy.{Phy}
 use Rattle.files.specs.Domain.{Expander, Domain, addressOf}
 use Rattle.files.specs.File.{Parsed, parsed, phyUnit, expanderUnit, expanderOf}
-use Rattle.files.specs.Rows.{phyWord, phyWords, headWord, rowOf, rowsOf}
+use Rattle.files.specs.Rows.{phyWord, phyWords, headWord, rowOf, rowsOf, rowWords}
 use Rattle.files.specs.SecondReading.{phyGot, nextGot, andPhys, physGot, physAfter, thenGot, domainGot}
 
 pub cleared : (k : ℕ) (row : List ℕ) → k ≡ length row → replicate k 0 ++ drop k row ≡ replicate (length row) 0
@@ -62,14 +62,14 @@ pub length-phyWords : (φs : List Phy) → length (phyWords φs) ≡ 2 * length 
 length-phyWords [] = refl
 length-phyWords (φ ∷ φs) = let e = length-phyWords φs in omega arith
 
-pub length-rowOf : (e : Expander) → length (e .phys) ≤ 128 → length (rowOf e) ≡ 258
+pub length-rowOf : (e : Expander) → length (e .phys) ≤ 128 → length (rowOf e) ≡ rowWords
 unfolding rowOf
 length-rowOf e h =
     let k : length (phyWords (e .phys)) ≡ 2 * length (e .phys) = length-phyWords (e .phys) in
     rw (length-append, length-replicate) (omega arith)
 
 -- a row whose words after the phys are zeros, with its words stored
-stored : (l : List ℕ) (a w : ℕ) (ws : List ℕ) → length l ≡ 258 → length ws ≤ 256 → drop (2 + length ws) l ≡ replicate (256 - length ws) 0
+stored : (l : List ℕ) (a w : ℕ) (ws : List ℕ) → length l ≡ rowWords → length ws ≤ 256 → drop (2 + length ws) l ≡ replicate (256 - length ws) 0
     → sets (set (set l 0 a) 1 w) 2 ws ≡ a ∷ w ∷ (ws ++ replicate (256 - length ws) 0)
 stored l a w ws n h z =
     let e : 2 + length ws ≡ suc (suc (length ws)) = omega arith in
@@ -81,14 +81,14 @@ drop-zeros zero n = let e : n - 0 ≡ n = omega arith in rw e
 drop-zeros (suc k) zero = let e : 0 - suc k ≡ 0 = omega arith in rw e
 drop-zeros (suc k) (suc n) = let e : suc n - suc k ≡ n - k = omega arith in rw e (drop-zeros k n)
 
-pub stored-in-zeros : (l : List ℕ) (a w : ℕ) (ws : List ℕ) → l ≡ replicate 258 0 → length ws ≤ 256
+pub stored-in-zeros : (l : List ℕ) (a w : ℕ) (ws : List ℕ) → l ≡ replicate rowWords 0 → length ws ≤ 256
     → sets (set (set l 0 a) 1 w) 2 ws ≡ a ∷ w ∷ (ws ++ replicate (256 - length ws) 0)
 stored-in-zeros l a w ws q h =
-    let n : length l ≡ 258 = ap length q ∙ length-replicate {A = ℕ} 258 0 in
-    let e : 258 - (2 + length ws) ≡ 256 - length ws = omega arith in
-    stored l a w ws n h (ap (drop (2 + length ws)) q ∙ drop-zeros (2 + length ws) 258 ∙ ap (λ (k : ℕ). replicate k 0) e)
+    let n : length l ≡ rowWords = ap length q ∙ length-replicate {A = ℕ} rowWords 0 in
+    let e : rowWords - (2 + length ws) ≡ 256 - length ws = omega arith in
+    stored l a w ws n h (ap (drop (2 + length ws)) q ∙ drop-zeros (2 + length ws) rowWords ∙ ap (λ (k : ℕ). replicate k 0) e)
 
-pub row-made : (u : ExpanderUnit) (l : List ℕ) (w : ℕ) (file : List ℕ) (i at : ℕ) → length l ≡ 258 → drop (2 + 2 * u .phys) l ≡ replicate (256 - 2 * u .phys) 0
+pub row-made : (u : ExpanderUnit) (l : List ℕ) (w : ℕ) (file : List ℕ) (i at : ℕ) → length l ≡ rowWords → drop (2 + 2 * u .phys) l ≡ replicate (256 - 2 * u .phys) 0
     → w ≡ headWord (u .routeIndexes) (u .phys) (u .configurable) → u .phys ≤ 128
     → sets (set (set l 0 (u .address)) 1 w) 2 (phyWords (physGot file (u .address) i (u .phys) 0 at .value))
     ≡ rowOf (expanderOf u (physGot file (u .address) i (u .phys) 0 at .value))
@@ -100,12 +100,12 @@ row-made u l w file i at n z ew b =
     stored l (u .address) w (phyWords φs) n (omega arith) (rw q z) ∙ rw (ew, k)
 
 -- the words from k on were cleared
-pub tail-cleared : (k m : ℕ) (row part : List ℕ) → length row ≡ 258 → k ≤ 258 → m ≡ 258 - k → part ≡ replicate (length (take m (drop k row))) 0
-    → drop k (take k row ++ (part ++ drop m (drop k row))) ≡ replicate (258 - k) 0
+pub tail-cleared : (k m : ℕ) (row part : List ℕ) → length row ≡ rowWords → k ≤ rowWords → m ≡ rowWords - k → part ≡ replicate (length (take m (drop k row))) 0
+    → drop k (take k row ++ (part ++ drop m (drop k row))) ≡ replicate (rowWords - k) 0
 tail-cleared k m row part n h e z =
     let a : length (take k row) ≡ k = length-take-le k row (omega arith) in
     let b = length-drop k row in
-    let c : length (take m (drop k row)) ≡ 258 - k = length-take-le m (drop k row) (omega arith) ∙ e in
+    let c : length (take m (drop k row)) ≡ rowWords - k = length-take-le m (drop k row) (omega arith) ∙ e in
     let p : drop m (drop k row) ≡ [] = let q : length (drop k row) ≤ m = omega arith in drop-of-length-le (drop k row) q in
     drop-at (take k row) (part ++ drop m (drop k row)) k a ∙ rw (z, c, p, append-nil)
 
@@ -122,21 +122,21 @@ module _ (most : Setting) (file : List ℕ) (n i at : ℕ) where
   got-end l = let e : n - i ≡ 0 = omega arith in rw e
 
   -- a turn that stops, one that goes on, and the end
-  module _ (ws : List ℕ) {v : List ℕ} (inv : sets ws (258 * i) (rowsOf (domainGot most file (n - i) i at)) ≡ v) where
+  module _ (ws : List ℕ) {v : List ℕ} (inv : sets ws (rowWords * i) (rowsOf (domainGot most file (n - i) i at)) ≡ v) where
     pub rows-stop : {r : Refusal} → expanderUnit most file [] i at ≡ refused r → i < n → ws ≡ v
     unfolding rowsOf
-    rows-stop q l = sym (ap (λ (d : Domain). sets ws (258 * i) (rowsOf d)) (got-next _ q l)) ∙ inv
+    rows-stop q l = sym (ap (λ (d : Domain). sets ws (rowWords * i) (rowsOf d)) (got-next _ q l)) ∙ inv
 
     pub rows-end : n ≤ i → ws ≡ v
     unfolding rowsOf
-    rows-end l = sym (ap (λ (d : Domain). sets ws (258 * i) (rowsOf d)) (got-end l)) ∙ inv
+    rows-end l = sym (ap (λ (d : Domain). sets ws (rowWords * i) (rowsOf d)) (got-end l)) ∙ inv
 
     pub rows-go : (u : Parsed ExpanderUnit) (a k next : ℕ) (r : List ℕ) → expanderUnit most file [] i at ≡ good u
         → r ≡ rowOf (expanderOf (u .value) (physAfter file i u .value)) → next ≡ physAfter file i u .next
-        → a ≡ 258 * i → k ≡ 258 → length r ≡ 258 → 258 * (i + 1) ≤ length ws → i < n
-        → sets (take a ws ++ (r ++ drop k (drop a ws))) (258 * (i + 1)) (rowsOf (domainGot most file (n - (i + 1)) (i + 1) next)) ≡ v
+        → a ≡ rowWords * i → k ≡ rowWords → length r ≡ rowWords → rowWords * (i + 1) ≤ length ws → i < n
+        → sets (take a ws ++ (r ++ drop k (drop a ws))) (rowWords * (i + 1)) (rowsOf (domainGot most file (n - (i + 1)) (i + 1) next)) ≡ v
     unfolding rowsOf
     rows-go u a k next r q qr qn qa qk l t s =
-        sets-mid-then ws r (rowsOf (domainGot most file (n - (i + 1)) (i + 1) next)) (258 * i) (258 * (i + 1)) a k qa (omega arith) (omega arith) t
-        ∙ ap₂ (λ (x : List ℕ) (m : ℕ). sets ws (258 * i) (x ++ rowsOf (domainGot most file (n - (i + 1)) (i + 1) m))) qr qn
-        ∙ sym (ap (λ (d : Domain). sets ws (258 * i) (rowsOf d)) (got-next _ q s)) ∙ inv
+        sets-mid-then ws r (rowsOf (domainGot most file (n - (i + 1)) (i + 1) next)) (rowWords * i) (rowWords * (i + 1)) a k qa (omega arith) (omega arith) t
+        ∙ ap₂ (λ (x : List ℕ) (m : ℕ). sets ws (rowWords * i) (x ++ rowsOf (domainGot most file (n - (i + 1)) (i + 1) m))) qr qn
+        ∙ sym (ap (λ (d : Domain). sets ws (rowWords * i) (rowsOf d)) (got-next _ q s)) ∙ inv

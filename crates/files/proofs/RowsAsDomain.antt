@@ -8,26 +8,26 @@ use lib.ListN.{length, getD, drop, List·getD-eq-default}
 use lib.Seq.{getD-drop, drop-drop}
 use Rattle.files.specs.declared.Phy.the-variants.{Vacant}
 use Rattle.files.specs.Domain.{Expander, noExpander, expanderAt, phyAt}
-use Rattle.files.specs.Rows.{phyIn, phyInRow, physIn, rowIn, rowsIn, domainIn, HeadIn}
+use Rattle.files.specs.Rows.{phyIn, phyInRow, physIn, rowIn, rowsIn, domainIn, HeadIn, rowWords}
 use Rattle.files.proofs.Domains.{expander-range}
 
 pub length-rowsIn : (k : ℕ) (ws : List ℕ) → length (rowsIn k ws) ≡ k
 unfolding rowsIn
 length-rowsIn zero ws = refl
-length-rowsIn (suc k) ws = ap suc (length-rowsIn k (drop 258 ws))
+length-rowsIn (suc k) ws = ap suc (length-rowsIn k (drop rowWords ws))
 
 pub length-physIn : (k : ℕ) (ws : List ℕ) → length (physIn k ws) ≡ k
 unfolding physIn
 length-physIn zero ws = refl
 length-physIn (suc k) ws = ap suc (length-physIn k (drop 2 ws))
 
-expander-in : (k : ℕ) (ws : List ℕ) (i : ℕ) → i < k → getD (rowsIn k ws) i noExpander ≡ rowIn (drop (258 * i) ws)
+expander-in : (k : ℕ) (ws : List ℕ) (i : ℕ) → i < k → getD (rowsIn k ws) i noExpander ≡ rowIn (drop (rowWords * i) ws)
 unfolding rowsIn
 expander-in zero ws i h = absurd (omega arith)
 expander-in (suc k) ws zero h = refl
 expander-in (suc k) ws (suc i) h =
-    let e : 258 + 258 * i ≡ 258 * suc i = omega arith in
-    expander-in k (drop 258 ws) i (omega arith) ∙ ap rowIn (drop-drop (258 * i) 258 ws ∙ ap (λ (x : ℕ). drop x ws) e)
+    let e : rowWords + rowWords * i ≡ rowWords * suc i = omega arith in
+    expander-in k (drop rowWords ws) i (omega arith) ∙ ap rowIn (drop-drop (rowWords * i) rowWords ws ∙ ap (λ (x : ℕ). drop x ws) e)
 
 pub phy-in : (k : ℕ) (ws : List ℕ) (p : ℕ) → p < k → getD (physIn k ws) p (Vacant 0) ≡ phyIn (getD ws (2 * p) 0) (getD ws (2 * p + 1) 0)
 unfolding physIn
@@ -38,32 +38,32 @@ phy-in (suc k) ws (suc p) h =
     let b : 2 + (2 * p + 1) ≡ 2 * suc p + 1 = omega arith in
     phy-in k (drop 2 ws) p (omega arith) ∙ rw (getD-drop 2 ws (2 * p) 0, getD-drop 2 ws (2 * p + 1) 0, a, b)
 
-pub count-of : (ws : List ℕ) → length (domainIn ws) ≡ min 64 (length ws / 258)
+pub count-of : (ws : List ℕ) → length (domainIn ws) ≡ min 64 (length ws / rowWords)
 unfolding domainIn
-count-of ws = length-rowsIn (min 64 (length ws / 258)) ws
+count-of ws = length-rowsIn (min 64 (length ws / rowWords)) ws
 
 module _ (ws : List ℕ) (i : ℕ) where
   pub no-expander : length (domainIn ws) ≤ i → expanderAt (domainIn ws) i ≡ noExpander
   no-expander h = List·getD-eq-default (domainIn ws) noExpander h
 
-  pub row-at : i < length (domainIn ws) → expanderAt (domainIn ws) i ≡ rowIn (drop (258 * i) ws)
+  pub row-at : i < length (domainIn ws) → expanderAt (domainIn ws) i ≡ rowIn (drop (rowWords * i) ws)
   unfolding domainIn
-  row-at h = expander-in (min 64 (length ws / 258)) ws i (subst (λ (n : ℕ). i < n) (count-of ws) h)
+  row-at h = expander-in (min 64 (length ws / rowWords)) ws i (subst (λ (n : ℕ). i < n) (count-of ws) h)
 
-  second : getD (drop (258 * i) ws) 1 0 ≡ getD ws (258 * i + 1) 0
-  second = getD-drop (258 * i) ws 1 0
+  second : getD (drop (rowWords * i) ws) 1 0 ≡ getD ws (rowWords * i + 1) 0
+  second = getD-drop (rowWords * i) ws 1 0
 
-  pub address-in : i < length (domainIn ws) → expanderAt (domainIn ws) i .address ≡ getD ws (258 * i) 0
+  pub address-in : i < length (domainIn ws) → expanderAt (domainIn ws) i .address ≡ getD ws (rowWords * i) 0
   unfolding rowIn
-  address-in h = ap (λ (e : Expander). e .address) (row-at h) ∙ getD-drop (258 * i) ws 0 0 ∙ rw add-zero
+  address-in h = ap (λ (e : Expander). e .address) (row-at h) ∙ getD-drop (rowWords * i) ws 0 0 ∙ rw add-zero
 
-  pub head-in : i < length (domainIn ws) → HeadIn (domainIn ws) i (getD ws (258 * i + 1) 0)
+  pub head-in : i < length (domainIn ws) → HeadIn (domainIn ws) i (getD ws (rowWords * i + 1) 0)
   unfolding rowIn
   head-in h =
       let e = row-at h in
       record {
         routeIndexes = sym (ap (λ (x : Expander). x .routeIndexes) e ∙ rw second);
-        phys = sym (ap (λ (x : Expander). length (x .phys)) e ∙ length-physIn _ (drop 2 (drop (258 * i) ws)) ∙ rw second);
+        phys = sym (ap (λ (x : Expander). length (x .phys)) e ∙ length-physIn _ (drop 2 (drop (rowWords * i) ws)) ∙ rw second);
         configurable = sym (ap (λ (x : Expander). x .configurable) e ∙ rw second);
       }
 
@@ -80,19 +80,19 @@ module _ (ws : List ℕ) (i : ℕ) where
   no-phy p h = List·getD-eq-default (expanderAt (domainIn ws) i .phys) (Vacant 0) h
 
   phy-of-row : (p : ℕ) → i < length (domainIn ws) → p < length (expanderAt (domainIn ws) i .phys)
-      → phyAt (domainIn ws) i p ≡ phyIn (getD ws (258 * i + 2 + 2 * p) 0) (getD ws (258 * i + 2 + 2 * p + 1) 0)
+      → phyAt (domainIn ws) i p ≡ phyIn (getD ws (rowWords * i + 2 + 2 * p) 0) (getD ws (rowWords * i + 2 + 2 * p + 1) 0)
   unfolding rowIn
   phy-of-row p h l =
-      let r : List ℕ = drop (258 * i) ws in
-      let m : p < min 128 (getD ws (258 * i + 1) 0 / 65536 % 256) = subst (λ (n : ℕ). p < n) (sym (head-in h .phys)) l in
-      let a : 258 * i + (2 + 2 * p) ≡ 258 * i + 2 + 2 * p = omega arith in
-      let b : 258 * i + (2 + (2 * p + 1)) ≡ 258 * i + 2 + 2 * p + 1 = omega arith in
+      let r : List ℕ = drop (rowWords * i) ws in
+      let m : p < min 128 (getD ws (rowWords * i + 1) 0 / 65536 % 256) = subst (λ (n : ℕ). p < n) (sym (head-in h .phys)) l in
+      let a : rowWords * i + (2 + 2 * p) ≡ rowWords * i + 2 + 2 * p = omega arith in
+      let b : rowWords * i + (2 + (2 * p + 1)) ≡ rowWords * i + 2 + 2 * p + 1 = omega arith in
       ap (λ (e : Expander). getD (e .phys) p (Vacant 0)) (row-at h)
       ∙ phy-in (min 128 (getD r 1 0 / 65536 % 256)) (drop 2 r) p (rw second m)
-      ∙ rw (getD-drop 2 r (2 * p) 0, getD-drop 2 r (2 * p + 1) 0, getD-drop (258 * i) ws (2 + 2 * p) 0, getD-drop (258 * i) ws (2 + (2 * p + 1)) 0, a, b)
+      ∙ rw (getD-drop 2 r (2 * p) 0, getD-drop 2 r (2 * p + 1) 0, getD-drop (rowWords * i) ws (2 + 2 * p) 0, getD-drop (rowWords * i) ws (2 + (2 * p + 1)) 0, a, b)
 
 pub phy-at-in : (ws : List ℕ) (i p : ℕ) → p < length (expanderAt (domainIn ws) i .phys)
-    → phyAt (domainIn ws) i p ≡ phyIn (getD ws (258 * i + 2 + 2 * p) 0) (getD ws (258 * i + 2 + 2 * p + 1) 0)
+    → phyAt (domainIn ws) i p ≡ phyIn (getD ws (rowWords * i + 2 + 2 * p) 0) (getD ws (rowWords * i + 2 + 2 * p + 1) 0)
 phy-at-in ws i p h = phy-of-row ws i p (expander-range (domainIn ws) i p h) h
 
 pub phy-held : (ws : List ℕ) (i p : ℕ) → p < length (expanderAt (domainIn ws) i .phys) → phyInRow ws i p ≡ phyAt (domainIn ws) i p

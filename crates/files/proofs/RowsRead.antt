@@ -15,7 +15,7 @@ use Rattle.files.specs.declared.DomainRead.the-variants.{Refused, Expand
 use Rattle.files.specs.Domain.{Domain}
 use Rattle.files.specs.ReadDomain.{Bytes}
 use Rattle.files.specs.File.{domainRead}
-use Rattle.files.specs.Rows.{rowsOf, readAnswer, rowsFor, rowsRead, countOf, rowsAfter, rowsHold, RowsRead}
+use Rattle.files.specs.Rows.{rowsOf, readAnswer, rowsFor, rowsRead, countOf, rowsAfter, rowsHold, RowsRead, rowWords}
 use Rattle.files.specs.SecondReading.{domainGot}
 use Rattle.files.proofs.CallResults.{never}
 use Rattle.files.proofs.ReadDomain.{read-good, read-fits, read-again}
@@ -48,25 +48,25 @@ module _ (setting : Setting) (file ws : List ℕ) where
   rows-refused r q = promise setting file (Refused r) ws ws (refused r) (rows-by setting file (length ws) _ (not-counted (domainRead setting file) r q)) refl refl tt
 
   pub rows-short : (answer : DomainRead) (n : ℕ) → readAnswer answer ≡ refused (refusal 16 0 0) → then (domainRead setting file) countOf ≡ good n
-      → length ws < 258 * n → RowsRead setting file answer ws ws
+      → length ws < rowWords * n → RowsRead setting file answer ws ws
   rows-short answer n a q h =
       let c = counted (domainRead setting file) n q in
       let k = c .count in
-      let e : rowsFor (length ws) (c .domain) ≡ refused (refusal 16 0 0) = rw (lt-leb (258 * length (c .domain)) (length ws) (omega arith)) in
+      let e : rowsFor (length ws) (c .domain) ≡ refused (refusal 16 0 0) = rw (lt-leb (rowWords * length (c .domain)) (length ws) (omega arith)) in
       promise setting file answer ws ws (refused (refusal 16 0 0)) (rows-by setting file (length ws) _ (c .is) ∙ e) a refl tt
 
-  pub rows-full : (ws′ : List ℕ) (n : ℕ) → Bytes file → then (domainRead setting file) countOf ≡ good n → 258 * n ≤ length ws
+  pub rows-full : (ws′ : List ℕ) (n : ℕ) → Bytes file → then (domainRead setting file) countOf ≡ good n → rowWords * n ≤ length ws
       → ws′ ≡ sets ws 0 (rowsOf (domainGot setting file n 0 2)) → RowsRead setting file (Expanders n) ws ws′
   rows-full ws′ n b q h w =
       let c = counted (domainRead setting file) n q in
       let d = c .domain in
       let g = read-good setting file d (c .is) in
-      let e : rowsFor (length ws) d ≡ good d = rw (le-leb (258 * length d) (length ws) (omega (arith, c .count))) in
+      let e : rowsFor (length ws) d ≡ good d = rw (le-leb (rowWords * length d) (length ws) (omega (arith, c .count))) in
       let r : domainGot setting file n 0 2 ≡ d = ap (λ (k : ℕ). domainGot setting file k 0 2) (c .count) ∙ read-again setting file d (c .is) in
-      let l : length (rowsOf d) ≡ 258 * length d = length-rowsOf setting d g in
-      let v : ws′ ≡ rowsOf d ++ drop (258 * length d) ws =
+      let l : length (rowsOf d) ≡ rowWords * length d = length-rowsOf setting d g in
+      let v : ws′ ≡ rowsOf d ++ drop (rowWords * length d) ws =
       w ∙ ap (λ (x : Domain). sets ws 0 (rowsOf x)) r ∙ sets-front (rowsOf d) ws (omega (arith, c .count)) ∙ ap (λ (k : ℕ). rowsOf d ++ drop k ws) l in
-      let t : take (258 * length d) ws′ ≡ rowsOf d = ap (take (258 * length d)) v ∙ take-at (rowsOf d) _ (258 * length d) l in
+      let t : take (rowWords * length d) ws′ ≡ rowsOf d = ap (take (rowWords * length d)) v ∙ take-at (rowsOf d) _ (rowWords * length d) l in
       promise setting file (Expanders n) ws ws′ (good d) (rows-by setting file (length ws) _ (c .is) ∙ e) (ap good (c .count)) v (rw t (domain-back setting d g (read-fits setting file d b (c .is))))
 
   -- rows have place for all phys that the setting allows

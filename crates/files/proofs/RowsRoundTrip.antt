@@ -14,7 +14,7 @@ use Rattle.files.specs.declared.Phy.the-variants.{Vacant, Present}
 use Rattle.files.specs.Lists.{In}
 use Rattle.files.specs.Domain.{Domain, Expander, addressOf}
 use Rattle.files.specs.ReadDomain.{ReadPhy, ReadExpander, Read, FitsPhy, FitsExpander, FitsDomain}
-use Rattle.files.specs.Rows.{phyWord, phyWords, headWord, rowOf, rowsOf, phyIn, physIn, rowIn, rowsIn, domainIn}
+use Rattle.files.specs.Rows.{phyWord, phyWords, headWord, rowOf, rowsOf, phyIn, physIn, rowIn, rowsIn, domainIn, rowWords}
 use Rattle.files.proofs.RowFilling.{length-rowOf}
 
 -- the lowest digit of a number
@@ -72,9 +72,9 @@ module _ (most : Setting) (fit : most .phys ≤ 128) where
   rows-back (e ∷ d) rest g h =
       let x = g e (inl refl) in
       let r = rows-back d rest (λ f k. g f (inr k)) (λ f k. h f (inr k)) in
-      rw (append-assoc (rowOf e) (rowsOf d) rest, row-back e (rowsOf d ++ rest) x (h e (inl refl)), drop-at (rowOf e) (rowsOf d ++ rest) 258 (length-rowOf e (omega (arith, x .few))), r)
+      rw (append-assoc (rowOf e) (rowsOf d) rest, row-back e (rowsOf d ++ rest) x (h e (inl refl)), drop-at (rowOf e) (rowsOf d ++ rest) rowWords (length-rowOf e (omega (arith, x .few))), r)
 
-  rows-length : (d : Domain) → Each (ReadExpander most) d → length (rowsOf d) ≡ 258 * length d
+  rows-length : (d : Domain) → Each (ReadExpander most) d → length (rowsOf d) ≡ rowWords * length d
   unfolding rowsOf
   rows-length [] g = refl
   rows-length (e ∷ d) g =
@@ -84,7 +84,7 @@ module _ (most : Setting) (fit : most .phys ≤ 128) where
 
 -- a domain that is read, and fits
 module _ (most : Setting) (d : Domain) (g : Read most d) where
-  pub length-rowsOf : length (rowsOf d) ≡ 258 * length d
+  pub length-rowsOf : length (rowsOf d) ≡ rowWords * length d
   length-rowsOf = rows-length most (g .range .phys .1) d (g .each)
 
   pub domain-back : FitsDomain d → domainIn (rowsOf d) ≡ d
@@ -93,5 +93,5 @@ module _ (most : Setting) (d : Domain) (g : Read most d) where
       let l = length-rowsOf in
       let k = g .few in
       let m = g .range .expanders .1 in
-      let n : min 64 (length (rowsOf d) / 258) ≡ length d = omega arith in
+      let n : min 64 (length (rowsOf d) / rowWords) ≡ length d = omega arith in
       rw n (ap (rowsIn (length d)) (sym (append-nil (rowsOf d))) ∙ rows-back most (g .range .phys .1) d [] (g .each) (h .each))

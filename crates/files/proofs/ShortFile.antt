@@ -158,8 +158,8 @@ module _ (file other : List ℕ) (ownAddress i : ℕ) (rest : ℕ → List ℕ) 
   phys-step count p a b more (good u) e d =
       let c = unit-shortened Discover discoverRead (phyOf ownAddress i p) i p file other a b u (shortPhys file ownAddress i count (p + 1) (u .next) rest) short-discover d e in
       rw (c .value)
-      (one-more (u .value) (phyUnits file ownAddress i count (p + 1) (u .next)) (phyUnits other ownAddress i count (p + 1) (b + 52))
-      (more (u .next) (b + 52) (c .before) (c .within) (c .rest)))
+      (one-more (u .value) (phyUnits file ownAddress i count (p + 1) (u .next)) (phyUnits other ownAddress i count (p + 1) (b + shortSize Discover))
+      (more (u .next) (b + shortSize Discover) (c .before) (c .within) (c .rest)))
 
   phys-read : (count p a b : ℕ) → PhysRead count p a b
   unfolding phyUnits shortPhys
@@ -242,8 +242,8 @@ module _ (most : Setting) (file other : List ℕ) where
       let rest : ℕ → List ℕ = λ next. shortExpanders most file count (i + 1) next (used ++ (ownAddress ∷ [])) in
       let c = expander-shortened used i a b u (shortPhys file ownAddress i (u .value .phys) 0 (u .next) rest) d e in
       rw (c .value)
-      (after-phys file other ownAddress i rest (phyUnits file ownAddress i (u .value .phys) 0 (u .next)) (phyUnits other ownAddress i (u .value .phys) 0 (b + 8 + 28)) _ _
-      (phys-read file other ownAddress i rest (u .value .phys) 0 (u .next) (b + 8 + 28) (c .before) (c .within) (c .rest))
+      (after-phys file other ownAddress i rest (phyUnits file ownAddress i (u .value .phys) 0 (u .next)) (phyUnits other ownAddress i (u .value .phys) 0 (b + 8 + shortSize ReportGeneral)) _ _
+      (phys-read file other ownAddress i rest (u .value .phys) 0 (u .next) (b + 8 + shortSize ReportGeneral) (c .before) (c .within) (c .rest))
       (λ us n left within before. ap (λ x. then x (λ d. good (expanderOf (u .value) (us .value) ∷ d))) (more (us .next) n (used ++ (ownAddress ∷ [])) before within left)))
 
   rest-read : (count i a b : ℕ) (used : List ℕ) → RestRead count i a b used
@@ -286,7 +286,7 @@ short-file most file = ap (unless (inRange most) (refusal 22 0 0)) (go (headerUn
 -- every frame of a short file is short: it ends with the bytes of its short units
 abbrev pub shortBytes : Domain → ℕ
 shortBytes [] = 0
-shortBytes (e ∷ d) = 36 + 52 * length (e .phys) + shortBytes d
+shortBytes (e ∷ d) = 8 + shortSize ReportGeneral + shortSize Discover * length (e .phys) + shortBytes d
 
 module _ {A B : Type 0} (kind : Response) (read : List ℕ → Result A) (test : A → Result B) (i p : ℕ) (file : List ℕ) (a : ℕ) where
   frame-short : (u : Parsed B) → unitAt kind read test i p file a ≡ good u → length (shortFrame kind (drop a file)) ≡ shortSize kind
@@ -297,7 +297,7 @@ module _ {A B : Type 0} (kind : Response) (read : List ℕ → Result A) (test :
       go (good n) f = let w = size-whole kind file a n f in short-length kind (drop a file) n (w .size) (w .bytes)
 
 phys-bytes : (file : List ℕ) (ownAddress i : ℕ) (rest : ℕ → List ℕ) (count p a : ℕ) (us : Parsed (List Phy)) → phyUnits file ownAddress i count p a ≡ good us
-    → length (shortPhys file ownAddress i count p a rest) ≡ 52 * length (us .value) + length (rest (us .next))
+    → length (shortPhys file ownAddress i count p a rest) ≡ shortSize Discover * length (us .value) + length (rest (us .next))
 unfolding phyUnits shortPhys phyUnit
 phys-bytes file ownAddress i rest zero p a us e = rw (← good-one (parsed [] a) us e) (omega arith)
 phys-bytes file ownAddress i rest (suc count) p a us e =
@@ -338,7 +338,7 @@ rest-bytes most file (suc count) i a used d e =
     let b = address-there most file [] used i a 0 u (one .1) in
     let n = length-drop a file in
     let m : length (take 8 (drop a file)) ≡ 8 = length-take-le 8 (drop a file) (omega arith) in
-    let v : shortBytes d ≡ 36 + 52 * length (φs .value) + shortBytes tail = sym (ap shortBytes q) in
+    let v : shortBytes d ≡ 8 + shortSize ReportGeneral + shortSize Discover * length (φs .value) + shortBytes tail = sym (ap shortBytes q) in
     let frame = shortFrame ReportGeneral (drop (a + 8) file) in
     let after = shortPhys file s i (u .value .phys) 0 (u .next) rest in
     ap (λ x. length (orStay (drop a file) x (λ w. take 8 (drop a file) ++ (frame

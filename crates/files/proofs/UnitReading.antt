@@ -205,7 +205,7 @@ module _ (kind : Response) (file : List ℕ) (from : ℕ) where
       let k = good-one (a .0) n (b .1) in
       record { size = a .1 ∙ ap good k; bytes = omega (arith, leb→le (a .0) (length (drop from file)) (b .0)) }
 
-  pub size-within : (n : ℕ) → sizeAt kind file from ≡ good n → (28 ≤ n) × (from + n ≤ length file)
+  pub size-within : (n : ℕ) → sizeAt kind file from ≡ good n → (shortSize ReportGeneral ≤ n) × (from + n ≤ length file)
   size-within n e =
       let w = size-whole n e in
       let l = length-drop from file in
@@ -213,7 +213,7 @@ module _ (kind : Response) (file : List ℕ) (from : ℕ) where
       let k = shortest kind in
       (omega arith, omega (arith, w .bytes))
     where
-      shortest : (kind : Response) → 28 ≤ shortSize kind
+      shortest : (kind : Response) → shortSize ReportGeneral ≤ shortSize kind
       shortest ReportGeneral = omega arith
       shortest DiscoverResponse = omega arith
 

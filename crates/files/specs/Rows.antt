@@ -20,6 +20,10 @@ use Rattle.files.specs.Settings.{mostPhys, mostExpanders}
 abbrev pub rowWords : ℕ
 rowWords = 258
 
+-- the words of rows for the most expanders
+abbrev pub mostRowWords : ℕ
+mostRowWords = mostExpanders * rowWords
+
 -- a phy's second word: bit 0 is 0 where it is vacant, and the result follows; else it is 1, and type, attribute and attached phy follow
 abbrev pub phyWord : Phy → ℕ
 phyWord (Vacant result) = 2 * result

@@ -10,7 +10,7 @@ use borrow.Rule.Slice.PartMut.{same-len-mid}
 use Rattle.files.proofs.RowFilling.{rows-stop, rows-end, rows-go}
 use Rattle.files.proofs.ReadDomain.{few-phys}
 use Rattle.files.specs.SecondReading.{domainGot}
-use Rattle.files.specs.Rows.{rowsOf}
+use Rattle.files.specs.Rows.{rowsOf, rowWords}
 use Rattle.files.specs.UnitAnswers.{expanderAnswer}
 use Rattle.files.proofs.rows.fill_rows.Statement.{statement}
 use Rattle.files.proofs.rows.fill_rows.Tie as tie
@@ -19,7 +19,7 @@ abbrev Inv-loop : tie.InvT-loop
 Inv-loop rows₀ most file n none i₀ at₀ rows i at =
     (i ≤ n)
     × ((length rows ≡ length rows₀)
-    × (sets rows (258 * i) (rowsOf (domainGot most file (n - i) i at)) ≡ sets rows₀ 0 (rowsOf (domainGot most file n 0 2))))
+    × (sets rows (rowWords * i) (rowsOf (domainGot most file (n - i) i at)) ≡ sets rows₀ 0 (rowsOf (domainGot most file n 0 2))))
 
 abbrev μ-loop : tie.MeasureT-loop
 μ-loop rows₀ most file n none i₀ at₀ rows i at = n - i
@@ -92,12 +92,12 @@ loop-again c =
     let f = u .before .before in
     let l = f .before .before .before .loop in
     let a = f .before .before .before .before .before .before .args in
-    let s : length (r .last .0) ≡ 258 = r .kept .0 ∙ simp (length-take, length-drop) (omega arith) in
+    let s : length (r .last .0) ≡ rowWords = r .kept .0 ∙ simp (length-take, length-drop) (omega arith) in
     let e = sym (f .expander-unit .ensures) ∙ ap expanderAnswer (u .unit .given .1) in (
       omega arith,
       (
-        same-len-mid (258 * l .i) (258 * l .i + 258 - 258 * l .i) (l .rows) (r .last .0) (r .kept .0) ∙ l .inv .1 .0,
-        rows-go (a .most) (a .file .now) (a .n) (l .i) (l .at) (l .rows) (l .inv .1 .1) _ (258 * l .i) (258 * l .i + 258 - 258 * l .i) _ (r .last .0)
+        same-len-mid (rowWords * l .i) (rowWords * l .i + rowWords - rowWords * l .i) (l .rows) (r .last .0) (r .kept .0) ∙ l .inv .1 .0,
+        rows-go (a .most) (a .file .now) (a .n) (l .i) (l .at) (l .rows) (l .inv .1 .1) _ (rowWords * l .i) (rowWords * l .i + rowWords - rowWords * l .i) _ (r .last .0)
             e (r .ensures .words) (r .ensures .place) refl (omega arith) s (omega arith) (omega arith),
       ),
     )

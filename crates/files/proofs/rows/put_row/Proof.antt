@@ -8,6 +8,7 @@ use borrow.Rule.Slice.PartMut.{putMid, same-len-mid}
 use Rattle.files.proofs.RowFilling.{row-made, tail-cleared}
 use Rattle.files.proofs.rows.put_row.Statement.{statement}
 use Rattle.files.proofs.rows.put_row.Tie as tie
+use Rattle.files.specs.Rows.{rowWords}
 
 head-word-requires : tie.Need-head-word-requires
 head-word-requires c κs = search needs
@@ -68,9 +69,9 @@ returns c =
     let a = c .before .before .before .before .before .before .before .before .before .before .before .before .args in
     let k = 2 + 2 * a .u .phys in
     let l = same-len-mid k (length (a .row .now) - k) (a .row .now) (at-clear .last .0) (at-clear .kept .0) in
-    let n : length (a .row .now) ≡ 258 = omega arith in
-    let e : 258 - k ≡ 256 - 2 * a .u .phys = omega arith in
-    let m : length (putMid k (length (a .row .now) - k) (a .row .now) (at-clear .last .0)) ≡ 258 = l ∙ n in
+    let n : length (a .row .now) ≡ rowWords = omega arith in
+    let e : rowWords - k ≡ 256 - 2 * a .u .phys = omega arith in
+    let m : length (putMid k (length (a .row .now) - k) (a .row .now) (at-clear .last .0)) ≡ rowWords = l ∙ n in
     let z = tail-cleared k (length (a .row .now) - k) (a .row .now) (at-clear .last .0) n (omega arith) (omega arith) (at-clear .ensures) in
     record {
       words = c .before .before .put-phys .ensures .words ∙ row-made (a .u) (putMid k (length (a .row .now) - k) (a .row .now) (at-clear .last .0)) _ (a .file .now) (a .i .0) (a .at) m (rw e at z) (at-head-word .ensures) (omega arith);
