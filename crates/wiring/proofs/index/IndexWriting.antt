@@ -13,13 +13,24 @@ use borrow.Author.Tests.{lt-ltb, le-ltb, eq-eqb, ne-eqb}
 use Rattle.files.specs.declared.Phy.{Phy}
 use Rattle.files.specs.Domain.{Domain, expanderAt, phyAt, typeOf, addressOf, attached, toEnd, toExpander, numberOf}
 use Rattle.wiring.specs.index.SearchTree.{WalkTo}
-use Rattle.wiring.specs.index.AddressIndex.{slotsBefore, slotOf, slotPhy, slotAddress, listedFrom, addressFrom, TreeFrom, LowestFrom, numberIn, tells, LowestBelow, found, nobody, LowestDevice, LowestPhy, LowestDevices, Searchable, Addable, AddedTo, FirstsTo, LowsBefore, LowsTo, Indexed}
+use Rattle.wiring.specs.index.AddressIndex.{slotsBefore, slotOf, slotPhy, slotAddress, listedFrom, addressFrom, TreeFrom, LowestFrom, numberIn, tells, LowestBelow, found, nobody, LowestDevice, LowestPhy, LowestDevices, Searchable, Addable, AddedTo, FirstsTo, LowsBefore, LowsTo, Indexed, mostSlots, phyTreeCells}
 use Rattle.files.proofs.ListMembers.{eq→eqb}
 use Rattle.files.proofs.RowsAsDomain.{domain-few}
 use Rattle.files.specs.Rows.{domainIn}
 use Rattle.files.proofs.Domains.{phy-range, expander-range, end-attached, expander-attached, end-no-expander, type-attached, type-none}
 use Rattle.wiring.proofs.index.SearchTrees.{none-has, lowest-has, tree-skip, tree-same, tree-put, tree-none}
 use Rattle.wiring.proofs.index.SlotDevices.{short-in, slot-expander, slot-is, slot-address, device-expander, device-phy, attached-at, lowest-number, no-number, taken-by, lowest-phy, each-set}
+
+-- how many roots a search tree of all slots has, for few expanders and for the most
+abbrev pub fewRoots : ℕ
+fewRoots = 256
+
+abbrev pub mostRoots : ℕ
+mostRoots = 8192
+
+-- how many cells it has for so many expanders: its roots, and two for each slot
+abbrev pub treeCells : ℕ → ℕ → ℕ
+treeCells roots n = roots + 2 * slotsBefore n
 
 module _ (d : Domain) (from size : ℕ) (cells : List ℕ) (t s : ℕ) (can : Addable d from size cells t s) where
   pub can-search : Searchable d from size cells
@@ -122,7 +133,7 @@ module _ (d : Domain) (few : length d ≤ 64) (short : (j : ℕ) → length (exp
   }
 
   module _ (at : ℕ) (held : FirstsTo d at size cells first) where
-    pub can-look : at ≤ 8256 → Searchable d 0 size cells
+    pub can-look : at ≤ mostSlots → Searchable d 0 size cells
     can-look h = record { count = at; start = inl refl; few = omega arith; tree = held .tree }
 
     -- the slot in the cell at which the walk for an address ends
@@ -335,11 +346,11 @@ module _ (ws : List ℕ) where
               let z = phy-range d attached i q y (λ u. u) in omega arith,
         ))
 
-  pub lows-start : (i : ℕ) (low : List ℕ) → LowsBefore d i low → LowsTo d i 0 (replicate 384 0) low
+  pub lows-start : (i : ℕ) (low : List ℕ) → LowsBefore d i low → LowsTo d i 0 (replicate phyTreeCells 0) low
   lows-start i low held = record {
     phys = held .phys;
-    room = let l = length-replicate {A = ℕ} 384 0 in omega arith;
-    tree = tree-none (addressFrom d (slotsBefore i)) (listedFrom d (slotsBefore i)) 128 384 (omega arith) (omega arith);
+    room = let l = length-replicate {A = ℕ} phyTreeCells 0 in omega arith;
+    tree = tree-none (addressFrom d (slotsBefore i)) (listedFrom d (slotsBefore i)) 128 phyTreeCells (omega arith) (omega arith);
     lows = let k : 128 * i + 0 ≡ 128 * i = omega arith in rw k (held .lows);
   }
 

@@ -15,7 +15,7 @@ use Rattle.files.specs.declared.Phy.the-variants.{Vacant}
 use Rattle.files.specs.Lists.{any}
 use Rattle.files.specs.Domain.{Domain, noExpander, expanderAt, phyAt, addressOf, attached, toEnd, bears, numberOf}
 use Rattle.wiring.specs.phys.PhyCauses.{endAt}
-use Rattle.files.specs.Rows.{phyIn, domainIn}
+use Rattle.files.specs.Rows.{phyIn, domainIn, rowWords}
 use Rattle.wiring.specs.index.AddressIndex.{slotsBefore, slotOf, slotPhy, slotAddress, slotWord, isDevice, listedFrom, addressFrom, LowestFrom, numberIn, isTaken, LowestPhy}
 use Rattle.files.proofs.ListMembers.{tests, by-test, and-both, or-cases, or-left, or-right, of-any, any-of, take-in, in-take, in-getD, is-false, eq→eqb, same-test}
 use Rattle.files.proofs.RowsAsDomain.{head-in, no-head, address-in, phy-at-in}
@@ -159,9 +159,9 @@ module _ (ws : List ℕ) where
       let i = (t - 64) / 128 in
       let p = (t - 64) % 128 in
       let e = phy-at-in ws i p (phy-range (domainIn ws) attached i p a (λ u. u)) in
-      let k : 258 * i + 2 + 2 * p ≡ 2 * (t - 64) + 2 + 2 * i = omega arith in
-      let w : addressOf (slotPhy (domainIn ws) t) ≡ getD ws (258 * i + 2 + 2 * p) 0 =
-      ap addressOf e ∙ in-address (getD ws (258 * i + 2 + 2 * p) 0) (getD ws (258 * i + 2 + 2 * p + 1) 0) (subst (λ φ. T (attached φ)) e a) in
+      let k : rowWords * i + 2 + 2 * p ≡ 2 * (t - 64) + 2 + 2 * i = omega arith in
+      let w : addressOf (slotPhy (domainIn ws) t) ≡ getD ws (rowWords * i + 2 + 2 * p) 0 =
+      ap addressOf e ∙ in-address (getD ws (rowWords * i + 2 + 2 * p) 0) (getD ws (rowWords * i + 2 + 2 * p + 1) 0) (subst (λ φ. T (attached φ)) e a) in
       rw (le-ltb t 64 h) (sym (slot-address (domainIn ws) t h ∙ w ∙ ap (λ (x : ℕ). getD ws x 0) k))
 
   pub listed-word : (from v : ℕ) → (from ≡ 0) ⊎ (64 ≤ from) → T (listedFrom (domainIn ws) from v) → getD ws (slotWord (from + v)) 0 ≡ addressFrom (domainIn ws) from v

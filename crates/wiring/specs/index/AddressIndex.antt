@@ -18,6 +18,14 @@ use Rattle.files.specs.Settings.{mostExpanders, mostPhys}
 abbrev pub mostSlots : ℕ
 mostSlots = 8256
 
+-- how many phys a domain has at most: 128 of each of 64 expanders
+abbrev pub mostDomainPhys : ℕ
+mostDomainPhys = mostExpanders * mostPhys
+
+-- how many cells the search tree of one expander's phys has: a root for each, and two more
+abbrev pub phyTreeCells : ℕ
+phyTreeCells = 3 * mostPhys
+
 -- how many slots come before the phys of expander i
 abbrev pub slotsBefore : ℕ → ℕ
 slotsBefore i = mostExpanders + mostPhys * i
@@ -183,7 +191,7 @@ pub record LowsBefore (d : Domain) (i : ℕ) (low : List ℕ) : Type 0 where
 -- and of the phys below p of it, which are in its own tree
 pub record LowsTo (d : Domain) (i p : ℕ) (cells low : List ℕ) : Type 0 where
   pub phys : mostPhys * length d ≤ length low
-  pub room : 384 ≤ length cells
+  pub room : phyTreeCells ≤ length cells
   pub tree : TreeFrom d (slotsBefore i) mostPhys cells p
   pub lows : LowestPhys d (mostPhys * i + p) low
 

@@ -14,6 +14,7 @@ use Rattle.wiring.proofs.index.addresses.+put_index.Lts-put_index as pu
 use Rattle.wiring.proofs.index.addresses.index_few.Reads as index-few-reads
 use Rattle.wiring.proofs.index.addresses.index_many.Reads as index-many-reads
 use Rattle.files.proofs.expander_count.Reads as expander-count-reads
+use Rattle.files.specs.Rows.{mostRowWords}
 use Rattle.wiring.proofs.index.addresses.+put_index.{statement}
 use Rattle.wiring.proofs.index.addresses.+put_index.Tie.{close}
 
@@ -33,10 +34,10 @@ claims t = (put-index-below t, put-index.Post, expander-count-reads.Asked, expan
 -- in the order of the body: the first 64 rows, few expanders, and the largest tree
 pub +put-index-spec : {M : Type 1} → statement M
 +put-index-spec = close μ-put-index (λ t. put-index-lts.spec (claims t) (put-index-at t) put-index.Post
-    (λ c. sym (length-take-le 16512 (c .before .before .before .before .before .args .rows .now) (omega (arith, c .before .if1 .taken))))
+    (λ c. sym (length-take-le mostRowWords (c .before .before .before .before .before .args .rows .now) (omega (arith, c .before .if1 .taken))))
     (λ c κs. let s = c .before .before .before .before .before .before .before in
     let h = c .before .before .before .if1 .taken in
-    (omega (arith, s .pre .0, length-take-le 16512 (s .args .rows .now) (omega arith)), rw (rows-cut (s .args .rows .now) h) (s .pre .1)))
+    (omega (arith, s .pre .0, length-take-le mostRowWords (s .args .rows .now) (omega arith)), rw (rows-cut (s .args .rows .now) h) (s .pre .1)))
     (λ c. search needs)
     (λ c. search needs)
     (λ c. let b = c .before .before .before .before .before .before .before .before in rw (rows-cut (b .before .before .before .before .args .rows .now) (b .if1 .taken)) at (c .before .before .before .before .put-index .ensures))

@@ -4,7 +4,7 @@ use mathlib.Core.Path.{_≡_, refl, _∙_}
 use lib.ListN.{length}
 use Rattle.files.proofs.RowsAsDomain.{phy-held}
 use Rattle.files.specs.Rows.{domainIn}
-use Rattle.wiring.specs.index.AddressIndex.{LowsTo, attachedAt, EntriesKeptBut}
+use Rattle.wiring.specs.index.AddressIndex.{LowsTo, attachedAt, EntriesKeptBut, phyTreeCells}
 use Rattle.wiring.proofs.index.IndexWriting.{lows-start, lows-end}
 use Rattle.wiring.proofs.index.IndexKept.{kept-none, kept-then}
 use borrow.Author.Needs.{needs}
@@ -13,7 +13,7 @@ use Rattle.wiring.proofs.index.addresses.put_low.Statement.{statement}
 use Rattle.wiring.proofs.index.addresses.put_low.Tie as tie
 
 abbrev Inv-loop : tie.InvT-loop
-Inv-loop rows i low₀ n cells₀ p₀ low cells p = (p ≤ n) × ((length cells ≡ 384) × ((length low ≡ length low₀) × (LowsTo (domainIn rows) (i .0) p cells low × EntriesKeptBut (attachedAt (domainIn rows)) low₀ low)))
+Inv-loop rows i low₀ n cells₀ p₀ low cells p = (p ≤ n) × ((length cells ≡ phyTreeCells) × ((length low ≡ length low₀) × (LowsTo (domainIn rows) (i .0) p cells low × EntriesKeptBut (attachedAt (domainIn rows)) low₀ low)))
 
 abbrev μ-loop : tie.MeasureT-loop
 μ-loop rows i low₀ n cells₀ p₀ low cells p = n - p
