@@ -16,7 +16,7 @@ use Rattle.files.specs.Domain.{Domain, expanderAt, phyAt, addressOf, toExpander
 use Rattle.wiring.specs.declared.Check.{Check}
 use Rattle.wiring.specs.declared.Check.the-variants.{Refused}
 use Rattle.wiring.specs.phys.Checks.{checkAnswer, checkedIn}
-use Rattle.files.specs.Rows.{phyIn, phyWord, phyInRow, domainIn}
+use Rattle.files.specs.Rows.{phyIn, phyWord, phyInRow, domainIn, rowWords}
 use Rattle.wiring.specs.index.AddressIndex.{numberIn, slotOf, attachedExpander}
 use Rattle.files.specs.PhyReplaced.{setPhy, withWords, phyFromWords, PhySet}
 use Rattle.wiring.specs.phys.PhyCauses.{clashing, firstIn, firstOf}
@@ -29,7 +29,7 @@ use Rattle.tables.specs.JudgingCall.{tablesFor}
 use Rattle.tables.specs.filling.Entries.{Entries, Room, roomOf, Enough}
 use Rattle.tables.specs.lists.GrowingLists.{placesAt}
 use Rattle.tables.specs.levels.Levels.{eachOnce, downstreamOfPhys}
-use Rattle.tables.specs.lists.PreparedLists.{OwnListsHeld, DownstreamListsHeld, downstreamOnce, queue, orderOf, ownWordsOfOrder, ownOverlong, AttachedExpandersKnown, Fillable}
+use Rattle.tables.specs.lists.PreparedLists.{OwnListsHeld, DownstreamListsHeld, downstreamOnce, queue, orderOf, ownWordsOfOrder, ownOverlong, AttachedExpandersKnown, Fillable, ownListWords, downstreamBytes}
 use Rattle.tables.proofs.CallOutcomes.{fillable-by, own-checked}
 use Rattle.wiring.proofs.index.SlotDevices.{short-in}
 use Rattle.tables.specs.declared.Replugged.{Replugged}
@@ -73,7 +73,7 @@ module _ (ws : List ℕ) (e p a : ℕ) (f : T (pluggable (phyAt (domainIn ws) e 
   unfolding phyInRow
   held-replug =
       let h = phy-held ws e p (phy-there d e p a f) in
-      subst (λ φ. phyFromWords (replug a φ) ≡ replug a φ) h (held-in a (getD ws (258 * e + 2 + 2 * p) 0) (getD ws (258 * e + 2 + 2 * p + 1) 0) (subst (λ φ. T (pluggable φ)) (sym h) f))
+      subst (λ φ. phyFromWords (replug a φ) ≡ replug a φ) h (held-in a (getD ws (rowWords * e + 2 + 2 * p) 0) (getD ws (rowWords * e + 2 + 2 * p + 1) 0) (subst (λ φ. T (pluggable φ)) (sym h) f))
 
   -- the rows after the phy is set hold the edited domain
   pub rows-replugged : (ws′ : List ℕ) → PhySet ws ws′ e p (replug a (phyAt d e p)) → domainIn ws′ ≡ d′
@@ -109,8 +109,8 @@ module _ (ws : List ℕ) (e p a : ℕ) (f : T (pluggable (phyAt (domainIn ws) e 
   pub owns-replugged : (lists : List ℕ) → OwnListsHeld d lists → OwnListsHeldBut d′ e lists
   owns-replugged lists h =
       record {
-        enough = subst (λ n. 129 * n ≤ length lists) (sym (size-same d e p a f)) (h .enough);
-        cell = λ i l o. subst (λ x. take (suc (length x)) (drop (129 * i) lists) ≡ length x ∷ x) (sym (own-other d e p a f i o)) (h .cell i (subst (λ n. i < n) (size-same d e p a f) l));
+        enough = subst (λ n. ownListWords * n ≤ length lists) (sym (size-same d e p a f)) (h .enough);
+        cell = λ i l o. subst (λ x. take (suc (length x)) (drop (ownListWords * i) lists) ≡ length x ∷ x) (sym (own-other d e p a f i o)) (h .cell i (subst (λ n. i < n) (size-same d e p a f) l));
       }
 
 -- the expanders downstream of each, and the order of each phy, are as they were
@@ -167,8 +167,8 @@ module _ (ws : List ℕ) (e p a : ℕ) (f : T (pluggable (phyAt (domainIn ws) e 
   below-then bytes h =
       subst (λ x. DownstreamListsHeld x bytes) (sym is)
       (record {
-        enough = subst (λ n. 66 * n ≤ length bytes) (sym (size-same (domainIn ws) e p a f)) (h .enough);
-        cell = λ i l. subst (λ x. take (suc (length x)) (drop (66 * i) bytes) ≡ length x ∷ x) (sym (once-same (domainIn ws) e p a f i)) (h .cell i (subst (λ n. i < n) (size-same (domainIn ws) e p a f) l));
+        enough = subst (λ n. downstreamBytes * n ≤ length bytes) (sym (size-same (domainIn ws) e p a f)) (h .enough);
+        cell = λ i l. subst (λ x. take (suc (length x)) (drop (downstreamBytes * i) bytes) ≡ length x ∷ x) (sym (once-same (domainIn ws) e p a f i)) (h .cell i (subst (λ n. i < n) (size-same (domainIn ws) e p a f) l));
       })
 
   -- what was prepared for the domain as lent is prepared for it, too, once e's own list is written anew

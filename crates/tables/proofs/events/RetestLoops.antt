@@ -27,7 +27,7 @@ use Rattle.files.proofs.ListMembers.{by-test, is-true, was-true, any-of, any-ap
 use Rattle.wiring.proofs.phys.PlaceSearches.{any-go, any-end, from-next}
 use Rattle.tables.specs.lists.GrowingLists.{Grown, placesAt}
 use Rattle.tables.specs.lists.OwnLists.{lower, ownWords}
-use Rattle.tables.specs.lists.PreparedLists.{Cells, ownOverlong}
+use Rattle.tables.specs.lists.PreparedLists.{Cells, ownOverlong, ownListWords}
 use Rattle.tables.specs.events.ReplugCall.{claimedWith, retested, OwnListsHeldBut}
 use Rattle.tables.specs.events.EndDeviceTests.{isEnd, endsAt, isFound}
 use Rattle.tables.proofs.lists.ListCells.{cells-put}
@@ -178,15 +178,15 @@ put-after ws a k r m n e fits h =
     ∙ drop-past r x t (k + t) (omega arith) ∙ drop-drop t k (drop (a + 1) ws) ∙ drop-drop (k + t) (a + 1) ws ∙ ap (λ (j : ℕ). drop j ws) z
 
 -- one own list put among the others
-pub own-renewed : (d : Domain) (e : ℕ) (ws : List ℕ) → OwnListsHeldBut d e ws → ((j : ℕ) → length (ownWords d j) < 129) → e < length d → {part r : List ℕ} {m : ℕ}
-    → Grown part r m (ownWords d e) → (a k : ℕ) → a ≡ 129 * e → length part ≡ k → k ≡ 128 → a + 1 + k ≤ length ws
-    → Cells 129 (ownWords d) (length d) (set (take (a + 1) ws ++ (r ++ drop k (drop (a + 1) ws))) a m)
+pub own-renewed : (d : Domain) (e : ℕ) (ws : List ℕ) → OwnListsHeldBut d e ws → ((j : ℕ) → length (ownWords d j) < ownListWords) → e < length d → {part r : List ℕ} {m : ℕ}
+    → Grown part r m (ownWords d e) → (a k : ℕ) → a ≡ ownListWords * e → length part ≡ k → k ≡ 128 → a + 1 + k ≤ length ws
+    → Cells ownListWords (ownWords d) (length d) (set (take (a + 1) ws ++ (r ++ drop k (drop (a + 1) ws))) a m)
 own-renewed d e ws but few l {part} {r} {m} g a k q n z h i b =
     let ws' : List ℕ = set (take (a + 1) ws ++ (r ++ drop k (drop (a + 1) ws))) a m in
     let s = g .same in
     by-cases (decLt i (e + 1))
-    (λ y. cells-put 129 (ownWords d) e ws (λ j y. but .cell j (omega arith) (λ x. absurd (omega arith))) few g a k q n h i y)
-    (λ y. ap (take (suc (length (ownWords d i)))) (put-after ws a k r m (129 * i) (omega arith) h (omega arith)) ∙ but .cell i b (λ x. absurd (omega arith)))
+    (λ y. cells-put ownListWords (ownWords d) e ws (λ j y. but .cell j (omega arith) (λ x. absurd (omega arith))) few g a k q n h i y)
+    (λ y. ap (take (suc (length (ownWords d i)))) (put-after ws a k r m (ownListWords * i) (omega arith) h (omega arith)) ∙ but .cell i b (λ x. absurd (omega arith)))
 
 -- 8, 9 and 14 in order, by what each search answers
 in-order : {w x y a b c : Result Domain} → w ≡ a → x ≡ b → y ≡ c → then w (λ _. then x (λ _. y)) ≡ then a (λ _. then b (λ _. c))

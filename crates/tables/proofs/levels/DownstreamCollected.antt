@@ -14,7 +14,7 @@ use Rattle.files.specs.Domain.{Domain, expanderAt, phyAt}
 use Rattle.files.proofs.ListMembers.{or-left, or-right, is-true, was-true, isIn-of, of-isIn, in-left, in-right, in-take}
 use Rattle.tables.specs.levels.Levels.{downstreamOfPhys, downstream}
 use Rattle.tables.specs.lists.GrowingLists.{add, addAll, Grown, Added}
-use Rattle.tables.specs.lists.PreparedLists.{downstreamOnce, oneLink}
+use Rattle.tables.specs.lists.PreparedLists.{downstreamOnce, oneLink, mostDownstream}
 use Rattle.tables.proofs.lists.GrowingLists.{addAll-append}
 use Rattle.tables.proofs.levels.DownstreamLists.{downstream-more, downstream-whole, downstream-among, downstream-made, linked-number}
 
@@ -80,11 +80,11 @@ module _ (room : ℕ) where
 
 -- the list so far, of the phys below p: m numbers in `part`
 pub record Collected (d : Domain) (i p m : ℕ) (part : List ℕ) : Type 0 where
-  pub room : length part ≡ 65
-  pub fits : m ≤ 65
-  pub whole : take m part ≡ addAll 65 [] (downstreamOfPhys d (take p (expanderAt d i .phys)))
+  pub room : length part ≡ mostDownstream
+  pub fits : m ≤ mostDownstream
+  pub whole : take m part ≡ addAll mostDownstream [] (downstreamOfPhys d (take p (expanderAt d i .phys)))
 
-pub collect-start : (d : Domain) (i : ℕ) (part : List ℕ) → length part ≡ 65 → Collected d i 0 0 part
+pub collect-start : (d : Domain) (i : ℕ) (part : List ℕ) → length part ≡ mostDownstream → Collected d i 0 0 part
 unfolding downstreamOfPhys keep addAll
 collect-start d i part r = record { room = r; fits = omega arith; whole = refl }
 
@@ -98,8 +98,8 @@ module _ (d : Domain) (i p : ℕ) {m : ℕ} {part : List ℕ} (so : Collected d 
   abbrev new : List ℕ
   new = downstreamOfPhys d (phyAt d i p ∷ [])
 
-  more : p < length φs → addAll 65 (take m part) new ≡ addAll 65 [] (downstreamOfPhys d (take (p + 1) φs))
-  more h = ap (λ (l : List ℕ). addAll 65 l new) (so .whole) ∙ sym (ap (addAll 65 []) (downstream-more d φs p h) ∙ addAll-append 65 [] done new)
+  more : p < length φs → addAll mostDownstream (take m part) new ≡ addAll mostDownstream [] (downstreamOfPhys d (take (p + 1) φs))
+  more h = ap (λ (l : List ℕ). addAll mostDownstream l new) (so .whole) ∙ sym (ap (addAll mostDownstream []) (downstream-more d φs p h) ∙ addAll-append mostDownstream [] done new)
 
   pub collect-go : (φ : Phy) {after : List ℕ} {r : ℕ} → φ ≡ phyAt d i p → Added part after m r (downstreamOfPhys d (φ ∷ [])) → p < length φs
       → Collected d i (p + 1) r after
@@ -110,7 +110,7 @@ module _ (d : Domain) (i p : ℕ) {m : ℕ} {part : List ℕ} (so : Collected d 
         room = g .same ∙ so .room;
         fits = omega arith;
         whole = g .whole ∙ ap (λ (n : ℕ). addAll n (take m part) (downstreamOfPhys d (φ ∷ []))) s
-            ∙ ap (λ (ψ : Phy). addAll 65 (take m part) (downstreamOfPhys d (ψ ∷ []))) e ∙ more h;
+            ∙ ap (λ (ψ : Phy). addAll mostDownstream (take m part) (downstreamOfPhys d (ψ ∷ []))) e ∙ more h;
       }
 
   -- a lower phy of the link gave the same number
@@ -119,16 +119,16 @@ module _ (d : Domain) (i p : ℕ) {m : ℕ} {part : List ℕ} (so : Collected d 
       let there : (w : ℕ) → In w new → In w done =
       λ w o. downstream-among d (take p φs) (phyAt d i q) (in-take φs (Vacant 0) q p k (omega arith)) w
       (subst (λ (l : List ℕ). In w l) (linked-number d (phyAt d i p) (phyAt d i q) one) o) in
-      let same : take m part ≡ addAll 65 (take m part) new =
-      so .whole ∙ sym (ap (λ (l : List ℕ). addAll 65 l new) (so .whole) ∙ add-again 65 done new [] there) in
+      let same : take m part ≡ addAll mostDownstream (take m part) new =
+      so .whole ∙ sym (ap (λ (l : List ℕ). addAll mostDownstream l new) (so .whole) ∙ add-again mostDownstream done new [] there) in
       record { room = so .room; fits = so .fits; whole = same ∙ more h }
 
-  pub collect-end : {before : List ℕ} → length before ≡ 65 → length d ≤ 64 → length φs ≤ p → Grown before part m (downstreamOnce d i)
+  pub collect-end : {before : List ℕ} → length before ≡ mostDownstream → length d ≤ 64 → length φs ≤ p → Grown before part m (downstreamOnce d i)
   unfolding downstream
   collect-end {before} r few h =
       let f = so .fits in
       record {
         same = so .room ∙ sym r;
         fits = omega arith;
-        whole = so .whole ∙ ap (addAll 65 []) (downstream-whole d φs p h) ∙ downstream-made d few i;
+        whole = so .whole ∙ ap (addAll mostDownstream []) (downstream-whole d φs p h) ∙ downstream-made d few i;
       }

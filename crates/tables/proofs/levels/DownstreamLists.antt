@@ -17,7 +17,7 @@ use Rattle.files.proofs.ListMembers.{and-left, and-right, is-true, was-false, i
 use Rattle.files.proofs.OneMore.{take-next}
 use Rattle.tables.specs.levels.Levels.{eachOnce, down, downstreamOfPhys, downstream}
 use Rattle.tables.specs.lists.GrowingLists.{add, addAll}
-use Rattle.tables.specs.lists.PreparedLists.{downstreamOnce, oneLink}
+use Rattle.tables.specs.lists.PreparedLists.{downstreamOnce, oneLink, mostDownstream}
 use Rattle.tables.proofs.levels.EachOnce.{once-skip, once-take, in-once, once-distinct}
 use Rattle.wiring.proofs.index.ExpanderNumbers.{number-most}
 
@@ -114,17 +114,17 @@ module _ (n : ℕ) where
 
 -- the expanders below, each once
 module _ (d : Domain) (few : length d ≤ 64) where
-  under : (i : ℕ) → Below 65 (downstream d i)
+  under : (i : ℕ) → Below mostDownstream (downstream d i)
   unfolding downstream
-  under i = phys-under d 65 (omega arith) (expanderAt d i .phys)
+  under i = phys-under d mostDownstream (omega arith) (expanderAt d i .phys)
 
-  pub downstream-few : (i : ℕ) → length (downstreamOnce d i) ≤ 65
-  downstream-few i = at-most 65 (downstreamOnce d i) (λ w h. under i w (in-once [] (downstream d i) w h)) (once-distinct [] (downstream d i) .0)
+  pub downstream-few : (i : ℕ) → length (downstreamOnce d i) ≤ mostDownstream
+  downstream-few i = at-most mostDownstream (downstreamOnce d i) (λ w h. under i w (in-once [] (downstream d i) w h)) (once-distinct [] (downstream d i) .0)
 
-  pub downstream-made : (i : ℕ) → addAll 65 [] (downstream d i) ≡ downstreamOnce d i
+  pub downstream-made : (i : ℕ) → addAll mostDownstream [] (downstream d i) ≡ downstreamOnce d i
   downstream-made i =
-      let k : Reordered 65 [] [] = record { same = λ w. refl; long = refl; distinct = tt; under = λ w i. absurd i } in
-      all-added 65 (downstream d i) [] [] k (under i)
+      let k : Reordered mostDownstream [] [] = record { same = λ w. refl; long = refl; distinct = tt; under = λ w i. absurd i } in
+      all-added mostDownstream (downstream d i) [] [] k (under i)
 
 -- past the last expander
 pub downstream-past : (d : Domain) (i : ℕ) → length d ≤ i → downstreamOnce d i ≡ []

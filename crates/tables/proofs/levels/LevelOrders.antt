@@ -17,7 +17,7 @@ use Rattle.wiring.proofs.phys.WiredPhys.{Wired, far-below, far-is}
 use Rattle.wiring.specs.WiringCauses.{Linked}
 use Rattle.tables.specs.levels.Levels.{eachOnce, down, downstreamOfPhys, downstream, nextLevel, levelsFrom, levels}
 use Rattle.tables.specs.lists.GrowingLists.{Grown}
-use Rattle.tables.specs.lists.PreparedLists.{downstreamOnce, queue, orderOf, oneLink}
+use Rattle.tables.specs.lists.PreparedLists.{downstreamOnce, queue, orderOf, oneLink, mostDownstream}
 use Rattle.tables.proofs.levels.EachOnce.{once-skip, once-take}
 use Rattle.tables.proofs.levels.LevelsBeyond.{Table, Deep, top, deeper, deep-once, next-deep, deep-small, in-downstream, not-both, table-back, next-distinct, down-leads, levels-few}
 use Rattle.tables.proofs.levels.DownstreamLists.{downstream-none, downstream-one, downstream-few, linked-number}
@@ -67,7 +67,7 @@ order-linked d φ ψ one = ap (queue (length d) d) (linked-number d φ ψ one)
 -- the queue so far, from the numbers `first` on: m numbers in `order`, of which k were followed, in at most n turns
 pub record Queued (d : Domain) (first : List ℕ) (n k m : ℕ) (order : List ℕ) : Type 0 where
   pub fits : m ≤ length order
-  pub few : m ≤ 65 * k + 1
+  pub few : m ≤ mostDownstream * k + 1
   pub met : take k (take m order) ++ queue (n - k) d (drop k (take m order)) ≡ queue n d first
 
 pub queue-start : (d : Domain) (n m : ℕ) (order : List ℕ) → m ≤ length order → m ≤ 1 → Queued d (take m order) n 0 m order

@@ -23,7 +23,7 @@ use Rattle.wiring.specs.index.AddressIndex.{IndexedLow, lowestPhy}
 use Rattle.wiring.proofs.index.IndexEntries.{low-told}
 use Rattle.wiring.proofs.index.SlotDevices.{short-in}
 use borrow.Author.Tests.{eq-eqb, ne-eqb}
-use Rattle.tables.specs.lists.PreparedLists.{OwnListsHeld, ownsBy}
+use Rattle.tables.specs.lists.PreparedLists.{OwnListsHeld, ownsBy, ownListWords}
 use Rattle.tables.proofs.lists.ListCells.{cell-count, cell-list, cell-fits}
 
 pub lower-has : (s : ℕ) (φs : List Phy) (q : ℕ) → bears s (getD φs q (Vacant 0)) ≡ true → (p : ℕ) → q < p → true ≡ any (bears s) (lower φs p)
@@ -148,11 +148,11 @@ own-none d i h = ap (λ (e : Expander). ownWordsFrom [] (e .phys)) (List·getD-e
 
 -- the own list of an expander, where they stand in words
 module _ (d : Domain) (words : List ℕ) (held : OwnListsHeld d words) (i : ℕ) (h : i < length d) where
-  pub own-count : getD words (129 * i) 0 ≡ length (ownWords d i)
-  own-count = cell-count 129 (ownWords d) (length d) words (held .cell) i h
+  pub own-count : getD words (ownListWords * i) 0 ≡ length (ownWords d i)
+  own-count = cell-count ownListWords (ownWords d) (length d) words (held .cell) i h
 
-  pub own-list : take (length (ownWords d i)) (drop (129 * i + 1) words) ≡ ownWords d i
-  own-list = cell-list 129 (ownWords d) (length d) words (held .cell) i h
+  pub own-list : take (length (ownWords d i)) (drop (ownListWords * i + 1) words) ≡ ownWords d i
+  own-list = cell-list ownListWords (ownWords d) (length d) words (held .cell) i h
 
-  pub own-fits : 129 * i + 1 + length (ownWords d i) ≤ length words
-  own-fits = cell-fits 129 (ownWords d) (length d) words (held .cell) i h
+  pub own-fits : ownListWords * i + 1 + length (ownWords d i) ≤ length words
+  own-fits = cell-fits ownListWords (ownWords d) (length d) words (held .cell) i h

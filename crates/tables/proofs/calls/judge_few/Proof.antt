@@ -1,8 +1,11 @@
 -- judge_few meets its contract: the second byte states how many expanders there are, so the room is enough.
-use Prim.Native.Nat.{ℕ}
+use Prim.Native.Nat.{ℕ, _*_}
 use lib.ListN.{length-replicate}
 use Rattle.files.proofs.ReadDomain.{stated-expanders}
+use Rattle.files.specs.Rows.{rowWords}
+use Rattle.files.specs.Settings.{mostPhys}
 use Rattle.wiring.proofs.FileRows.{file-room}
+use Rattle.wiring.specs.index.AddressIndex.{slotsBefore}
 use borrow.Author.Needs.{needs}
 use native.Mathlib.Omega.{arith}
 use Rattle.tables.proofs.calls.judge_few.Statement.{statement}
@@ -25,7 +28,7 @@ judge-in-requires c κs =
     let a = c .before .before .before .before .before .before .args in
     let f = a .file .now in
     file-room (a .setting) 2 f _ _ _ (λ d e. omega (arith, stated-expanders (a .setting) f d e, (c .before .before .before .before .stated-count) .ensures))
-    (omega (arith, length-replicate {A = ℕ} 516 0)) (omega (arith, length-replicate {A = ℕ} 320 0)) (omega (arith, length-replicate {A = ℕ} 256 0))
+    (omega (arith, length-replicate {A = ℕ} (2 * rowWords) 0)) (omega (arith, length-replicate {A = ℕ} (slotsBefore 2) 0)) (omega (arith, length-replicate {A = ℕ} (2 * mostPhys) 0))
 
 returns : tie.Need-returns
 returns c = search needs
@@ -45,7 +48,7 @@ judge-in-requires-2 c κs =
     let a = c .before .before .before .before .before .before .args in
     let f = a .file .now in
     file-room (a .setting) 8 f _ _ _ (λ d e. omega (arith, stated-expanders (a .setting) f d e, at-pre))
-    (omega (arith, length-replicate {A = ℕ} 2064 0)) (omega (arith, length-replicate {A = ℕ} 1088 0)) (omega (arith, length-replicate {A = ℕ} 1024 0))
+    (omega (arith, length-replicate {A = ℕ} (8 * rowWords) 0)) (omega (arith, length-replicate {A = ℕ} (slotsBefore 8) 0)) (omega (arith, length-replicate {A = ℕ} (8 * mostPhys) 0))
 
 returns-2 : tie.Need-returns-2
 returns-2 c = search needs

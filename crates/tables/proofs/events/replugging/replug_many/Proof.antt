@@ -1,11 +1,13 @@
 -- replug_many meets its contract: words give at most 64 expanders.
-use Prim.Native.Nat.{ℕ}
+use Prim.Native.Nat.{ℕ, _*_}
 use native.Mathlib.Omega.{arith}
 use lib.ListN.{length-replicate}
 use Rattle.files.proofs.RowsAsDomain.{domain-few}
+use Rattle.files.specs.Settings.{mostExpanders}
 use borrow.Author.Needs.{needs}
 use Rattle.tables.proofs.events.replugging.replug_many.Statement.{statement}
 use Rattle.tables.proofs.events.replugging.replug_many.Tie as tie
+use Rattle.tables.specs.lists.PreparedLists.{orderBytes, ownListWords, downstreamBytes}
 
 slice-aggregate-replug-in : tie.Need-slice-aggregate-replug-in
 slice-aggregate-replug-in c = search needs
@@ -20,7 +22,7 @@ replug-in-requires : tie.Need-replug-in-requires
 replug-in-requires c κs =
     let at-args = c .before .before .before .before .before .before .before .before .before .before .before .args in
     let at-pre = c .before .before .before .before .before .before .before .before .before .before .before .pre in
-    let h = domain-few (at-args .rows .now) in (at-pre, (record { lists = omega (arith, length-replicate {A = ℕ} 8256 0); downstream = omega (arith, length-replicate {A = ℕ} 4224 0); order = omega (arith, length-replicate {A = ℕ} 4161 0) }, omega (arith, length-replicate {A = ℕ} 4161 0)))
+    let h = domain-few (at-args .rows .now) in (at-pre, (record { lists = omega (arith, length-replicate {A = ℕ} (mostExpanders * ownListWords) 0); downstream = omega (arith, length-replicate {A = ℕ} (mostExpanders * downstreamBytes) 0); order = omega (arith, length-replicate {A = ℕ} orderBytes 0) }, omega (arith, length-replicate {A = ℕ} orderBytes 0)))
 
 same-length : tie.Need-same-length
 same-length c = search needs

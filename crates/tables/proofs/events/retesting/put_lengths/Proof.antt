@@ -9,6 +9,7 @@ use borrow.Author.Needs.{needs}
 use native.Mathlib.Omega.{arith}
 use Rattle.tables.proofs.events.retesting.put_lengths.Statement.{statement}
 use Rattle.tables.proofs.events.retesting.put_lengths.Tie as tie
+use Rattle.tables.specs.lists.PreparedLists.{ownListWords}
 
 abbrev Inv-loop : tie.InvT-loop
 Inv-loop rows lists counts₀ n i₀ counts i = (i ≤ n) × ((length counts ≡ length counts₀) × ((k : ℕ) → k < i → getD counts k 0 ≡ length (ownWords (domainIn rows) k)))
@@ -60,7 +61,7 @@ loop-again : tie.Need-loop-again Inv-loop μ-loop
 loop-again c =
     let at-args = c .before .before .before .before .before .before .before .args in
     let at-pre = c .before .before .before .before .before .before .before .pre in
-    (omega arith, (simp length-set ((c .before .before .loop) .inv .1 .0), counts-next (λ (k : ℕ). length (ownWords (domainIn (at-args .rows .now)) k)) ((c .before .before .loop) .counts) ((c .before .before .loop) .i) (getD (at-args .lists .now) (129 * (c .before .before .loop) .i) 0) ((c .before .before .loop) .inv .1 .1) (own-count (domainIn (at-args .rows .now)) (at-args .lists .now) (at-pre .0) ((c .before .before .loop) .i) (omega (arith, (c .before .before .before .expander-count) .ensures .0))) (omega (arith, at-pre .1, (c .before .before .before .expander-count) .ensures .0, (c .before .before .loop) .inv .1 .0))))
+    (omega arith, (simp length-set ((c .before .before .loop) .inv .1 .0), counts-next (λ (k : ℕ). length (ownWords (domainIn (at-args .rows .now)) k)) ((c .before .before .loop) .counts) ((c .before .before .loop) .i) (getD (at-args .lists .now) (ownListWords * (c .before .before .loop) .i) 0) ((c .before .before .loop) .inv .1 .1) (own-count (domainIn (at-args .rows .now)) (at-args .lists .now) (at-pre .0) ((c .before .before .loop) .i) (omega (arith, (c .before .before .before .expander-count) .ensures .0))) (omega (arith, at-pre .1, (c .before .before .before .expander-count) .ensures .0, (c .before .before .loop) .inv .1 .0))))
 
 same-length : tie.Need-same-length Inv-loop μ-loop
 same-length c = (c .before .loop) .inv .1 .0

@@ -14,6 +14,7 @@ use borrow.Author.Needs.{needs}
 use native.Mathlib.Omega.{arith}
 use Rattle.tables.proofs.events.retesting.renew_own.Statement.{statement}
 use Rattle.tables.proofs.events.retesting.renew_own.Tie as tie
+use Rattle.tables.specs.lists.PreparedLists.{ownListWords}
 
 expander-count-requires : tie.Need-expander-count-requires
 expander-count-requires c κs = search needs
@@ -67,15 +68,15 @@ returns-2 c =
     let n = at-expander-count .ensures .0 in
     let d : Domain = domainIn (x .rows .now) in
     let ws : List ℕ = x .lists .now in
-    let a : ℕ = 129 * x .e .0 in
-    let k : ℕ = a + 129 - (a + 1) in
+    let a : ℕ = ownListWords * x .e .0 in
+    let k : ℕ = a + ownListWords - (a + 1) in
     let r = (c .before .before .collect-words) in
     let g = r .ensures in
     let b = h .enough in
     let mid : List ℕ = take (a + 1) ws ++ (r .last .1 .1 .0 ++ drop k (drop (a + 1) ws)) in
     let long : length (take k (drop (a + 1) ws)) ≡ k = length-take-le k (drop (a + 1) ws) (omega (arith, length-drop (a + 1) ws)) in
     let s = length-set mid a (r .result) ∙ same-len-mid (a + 1) k ws (r .last .1 .1 .0) (g .same) in
-    let few : (j : ℕ) → length (ownWords d j) < 129 = λ j. omega (arith, own-few (x .rows .now) j) in
+    let few : (j : ℕ) → length (ownWords d j) < ownListWords = λ j. omega (arith, own-few (x .rows .now) j) in
     record { enough = omega arith; cell = own-renewed d (x .e .0) ws h few (omega arith) g a k refl long (omega arith) (omega arith) }
 
 pub renew-own-spec : {M : Type 1} → statement M

@@ -6,7 +6,7 @@ use borrow.Rule.Slice.PartMut.{same-len-mid}
 use lib.ListN.{length, take, drop, length-set}
 use Rattle.files.specs.Domain.{Domain}
 use Rattle.files.specs.Rows.{domainIn}
-use Rattle.tables.specs.lists.PreparedLists.{Cells, downstreamOnce}
+use Rattle.tables.specs.lists.PreparedLists.{Cells, downstreamOnce, downstreamBytes}
 use Rattle.tables.proofs.lists.ListCells.{cells-put, part-long}
 use Rattle.tables.proofs.levels.DownstreamLists.{downstream-few}
 use borrow.Author.Needs.{needs}
@@ -15,7 +15,7 @@ use Rattle.tables.proofs.levels.downstream.put_downstream.Statement.{st
 use Rattle.tables.proofs.levels.downstream.put_downstream.Tie as tie
 
 abbrev Inv-loop : tie.InvT-loop
-Inv-loop rows first low downstream₀ n i₀ downstream i = (i ≤ n) × ((length downstream ≡ length downstream₀) × Cells 66 (downstreamOnce (domainIn rows)) i downstream)
+Inv-loop rows first low downstream₀ n i₀ downstream i = (i ≤ n) × ((length downstream ≡ length downstream₀) × Cells downstreamBytes (downstreamOnce (domainIn rows)) i downstream)
 
 abbrev μ-loop : tie.MeasureT-loop
 μ-loop rows first low downstream₀ n i₀ downstream i = n - i
@@ -52,22 +52,22 @@ part-collect-downstream-end c =
 collect-downstream-requires : tie.Need-collect-downstream-requires Inv-loop μ-loop
 collect-downstream-requires c κs =
     let at-pre = c .before .before .before .before .before .before .before .before .pre in
-    (at-pre .0, part-long 66 (66 * (c .before .before .loop) .i) ((c .before .before .loop) .downstream) (omega (arith, at-pre .1, (c .before .before .before .expander-count) .ensures .0, (c .before .before .loop) .inv .1 .0)) ∙ omega arith)
+    (at-pre .0, part-long downstreamBytes (downstreamBytes * (c .before .before .loop) .i) ((c .before .before .loop) .downstream) (omega (arith, at-pre .1, (c .before .before .before .expander-count) .ensures .0, (c .before .before .loop) .inv .1 .0)) ∙ omega arith)
 
 cast-downstream : tie.Need-cast-downstream Inv-loop μ-loop
 cast-downstream c =
     let at-pre = c .before .before .before .before .before .before .before .before .before .before .before .pre in
     let at-expander-count = c .before .before .before .before .before .before .expander-count in
-    omega (arith, (c .before .before .collect-downstream) .ensures .fits, part-long 66 (66 * (c .before .before .before .before .before .loop) .i) ((c .before .before .before .before .before .loop) .downstream) (omega (arith, at-pre .1, at-expander-count .ensures .0, (c .before .before .before .before .before .loop) .inv .1 .0)))
+    omega (arith, (c .before .before .collect-downstream) .ensures .fits, part-long downstreamBytes (downstreamBytes * (c .before .before .before .before .before .loop) .i) ((c .before .before .before .before .before .loop) .downstream) (omega (arith, at-pre .1, at-expander-count .ensures .0, (c .before .before .before .before .before .loop) .inv .1 .0)))
 
 slice-write-downstream : tie.Need-slice-write-downstream Inv-loop μ-loop
 slice-write-downstream c =
     let at-pre = c .before .before .before .before .before .before .before .before .before .before .before .pre in
     let at-expander-count = c .before .before .before .before .before .before .expander-count in
     let l = (c .before .before .before .before .before .loop) in
-    let a : ℕ = 66 * l .i in
+    let a : ℕ = downstreamBytes * l .i in
     let r = (c .before .before .collect-downstream) in
-    omega (arith, same-len-mid (a + 1) (a + 66 - (a + 1)) (l .downstream) (r .last .1 .1 .1 .1 .0) (r .ensures .same), at-pre .1, at-expander-count .ensures .0, l .inv .1 .0)
+    omega (arith, same-len-mid (a + 1) (a + downstreamBytes - (a + 1)) (l .downstream) (r .last .1 .1 .1 .1 .0) (r .ensures .same), at-pre .1, at-expander-count .ensures .0, l .inv .1 .0)
 
 add-i : tie.Need-add-i Inv-loop μ-loop
 add-i c = omega arith
@@ -84,14 +84,14 @@ loop-again c =
     let n = at-expander-count .ensures in
     let b = at-pre .1 in
     let d : Domain = domainIn (at-args .rows .now) in
-    let a : ℕ = 66 * l .i in
-    let k : ℕ = a + 66 - (a + 1) in
+    let a : ℕ = downstreamBytes * l .i in
+    let k : ℕ = a + downstreamBytes - (a + 1) in
     let r = (c .before .before .collect-downstream) in
     let g = r .ensures in
     let mid : List ℕ = take (a + 1) (l .downstream) ++ (r .last .1 .1 .1 .1 .0 ++ drop k (drop (a + 1) (l .downstream))) in
     let s = length-set mid a (r .result) ∙ same-len-mid (a + 1) k (l .downstream) (r .last .1 .1 .1 .1 .0) (g .same) ∙ l .inv .1 .0 in
-    let few : (j : ℕ) → length (downstreamOnce d j) < 66 = λ j. omega (arith, downstream-few d (omega arith) j) in
-    (omega arith, (s, cells-put 66 (downstreamOnce d) (l .i) (l .downstream) (l .inv .1 .1) few g a k refl (part-long 66 a (l .downstream) (omega arith)) (omega arith)))
+    let few : (j : ℕ) → length (downstreamOnce d j) < downstreamBytes = λ j. omega (arith, downstream-few d (omega arith) j) in
+    (omega arith, (s, cells-put downstreamBytes (downstreamOnce d) (l .i) (l .downstream) (l .inv .1 .1) few g a k refl (part-long downstreamBytes a (l .downstream) (omega arith)) (omega arith)))
 
 same-length : tie.Need-same-length Inv-loop μ-loop
 same-length c = (c .before .loop) .inv .1 .0
@@ -104,7 +104,7 @@ returns c =
     let n = (c .before .before .expander-count) .ensures .0 in
     let d : Domain = domainIn (at-args .rows .now) in
     let e : l .i ≡ length d = omega arith in
-    record { enough = omega (arith, at-pre .1, l .inv .1 .0); cell = subst (λ (n : ℕ). Cells 66 (downstreamOnce d) n (l .downstream)) e (l .inv .1 .1) }
+    record { enough = omega (arith, at-pre .1, l .inv .1 .0); cell = subst (λ (n : ℕ). Cells downstreamBytes (downstreamOnce d) n (l .downstream)) e (l .inv .1 .1) }
 
 pub put-downstream-spec : {M : Type 1} → statement M
 put-downstream-spec = tie.close (tie.spec Inv-loop μ-loop expander-count-requires loop-holds cast-a mul-a add-collect-downstream add-collect-downstream-2 sub-collect-downstream part-collect-downstream-start part-collect-downstream-end collect-downstream-requires cast-downstream slice-write-downstream add-i loop-less loop-again same-length returns)

@@ -7,7 +7,7 @@ use lib.ListN.{length, getD, take, drop}
 use Rattle.files.specs.Domain.{Domain}
 use Rattle.files.specs.Rows.{domainIn}
 use Rattle.files.proofs.RowsAsDomain.{domain-few}
-use Rattle.tables.specs.lists.PreparedLists.{downstreamOnce, DownstreamListsHeld}
+use Rattle.tables.specs.lists.PreparedLists.{downstreamOnce, DownstreamListsHeld, downstreamBytes, mostDownstream}
 use Rattle.tables.proofs.lists.GrowingLists.{grown-kept, grown-same}
 use Rattle.tables.proofs.lists.ListCells.{cell-count, cell-list, cell-fits}
 use Rattle.tables.proofs.levels.DownstreamLists.{downstream-few, downstream-past}
@@ -17,20 +17,20 @@ use Rattle.tables.proofs.levels.order.append_downstream.Tie as tie
 
 -- the list of expander i in the lent bytes
 record Read (d : Domain) (i : ℕ) (bytes : List ℕ) : Type 0 where
-  count : getD bytes (66 * i) 0 ≡ length (downstreamOnce d i)
-  few : length (downstreamOnce d i) ≤ 65
-  fits : 66 * i + 1 + length (downstreamOnce d i) ≤ length bytes
-  list : take (66 * i + 1 + getD bytes (66 * i) 0 - (66 * i + 1)) (drop (66 * i + 1) bytes) ≡ downstreamOnce d i
+  count : getD bytes (downstreamBytes * i) 0 ≡ length (downstreamOnce d i)
+  few : length (downstreamOnce d i) ≤ mostDownstream
+  fits : downstreamBytes * i + 1 + length (downstreamOnce d i) ≤ length bytes
+  list : take (downstreamBytes * i + 1 + getD bytes (downstreamBytes * i) 0 - (downstreamBytes * i + 1)) (drop (downstreamBytes * i + 1) bytes) ≡ downstreamOnce d i
 
 reads : (d : Domain) (bytes : List ℕ) → DownstreamListsHeld d bytes → length d ≤ 64 → (i : ℕ) → i < length d → Read d i bytes
 reads d bytes b n i h =
-    let e = cell-count 66 (downstreamOnce d) (length d) bytes (b .cell) i h in
-    let k : 66 * i + 1 + getD bytes (66 * i) 0 - (66 * i + 1) ≡ length (downstreamOnce d i) = omega arith in
+    let e = cell-count downstreamBytes (downstreamOnce d) (length d) bytes (b .cell) i h in
+    let k : downstreamBytes * i + 1 + getD bytes (downstreamBytes * i) 0 - (downstreamBytes * i + 1) ≡ length (downstreamOnce d i) = omega arith in
     record {
       count = e;
       few = downstream-few d n i;
-      fits = cell-fits 66 (downstreamOnce d) (length d) bytes (b .cell) i h;
-      list = ap (λ (m : ℕ). take m (drop (66 * i + 1) bytes)) k ∙ cell-list 66 (downstreamOnce d) (length d) bytes (b .cell) i h;
+      fits = cell-fits downstreamBytes (downstreamOnce d) (length d) bytes (b .cell) i h;
+      list = ap (λ (m : ℕ). take m (drop (downstreamBytes * i + 1) bytes)) k ∙ cell-list downstreamBytes (downstreamOnce d) (length d) bytes (b .cell) i h;
     }
 
 expander-count-requires : tie.Need-expander-count-requires
