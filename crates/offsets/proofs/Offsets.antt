@@ -19,7 +19,7 @@ use Rattle.files.specs.declared.Setting.{Setting}
 use Rattle.files.specs.declared.ExpanderUnit.{ExpanderUnit}
 use Rattle.files.specs.declared.Phy.{Phy}
 use Rattle.files.specs.declared.Phy.the-variants.{Vacant}
-use Rattle.files.specs.Settings.{within, inRange}
+use Rattle.files.specs.Settings.{within, inRange, mostPhys}
 use Rattle.files.specs.Domain.{Expander, Domain, expanderAt}
 use Rattle.files.specs.File.{Parsed, parsed, sizeAt, phyOf, phyUnit, phyUnits, unitOf, unitTested, expanderUnit, expanderOf, expanders, headerUnit, domainRead}
 use Rattle.files.specs.UnitAnswers.{endsAt}
@@ -29,7 +29,7 @@ use Rattle.files.proofs.Domains.{expander-range}
 use Rattle.files.proofs.CallResults.{never, good-one, unless-good, then-good}
 use Rattle.files.proofs.UnitReading.{size-whole, size-within, unitAt, unit-cut, unit-by, general-is, tested-same, phys-count}
 use borrow.Author.Tests.{ne-eqb}
-use Rattle.offsets.specs.Offsets.{Placed}
+use Rattle.offsets.specs.Offsets.{Placed, longestUnit}
 use Rattle.offsets.specs.Offsets.{sizeFrom, physAfter, physFrom, expandersAfter, expanderOffset, phyOffset}
 
 -- a frame whose size was found has the size that its byte 3 says
@@ -234,14 +234,14 @@ module _ (most : Setting) (file : List ℕ) where
       (leb→le 2 (length file) (a .0), ap (λ (n : ℕ). expanders most file n 0 2 []) (expanders-end (h .0) 0 2 [] d (h .2) .1) ∙ h .2)
 
 -- how far frames reach
-size-bound : (file : List ℕ) (at : ℕ) → (sizeFrom Discover file at ≤ 64) × (sizeFrom ReportGeneral file at ≤ 68)
+size-bound : (file : List ℕ) (at : ℕ) → (sizeFrom Discover file at ≤ longSize Discover) × (sizeFrom ReportGeneral file at ≤ longSize ReportGeneral)
 size-bound file at = go (eqb (byte file (at + 3)) 0)
   where
-    go : (b : Bool) → (cond b 52 64 ≤ 64) × (cond b 28 68 ≤ 68)
+    go : (b : Bool) → (cond b (shortSize Discover) (longSize Discover) ≤ longSize Discover) × (cond b (shortSize ReportGeneral) (longSize ReportGeneral) ≤ longSize ReportGeneral)
     go true = (omega arith, omega arith)
     go false = (omega arith, omega arith)
 
-pub phys-bound : (file : List ℕ) (n at : ℕ) → (at ≤ physAfter file n at) × (physAfter file n at ≤ at + 64 * n)
+pub phys-bound : (file : List ℕ) (n at : ℕ) → (at ≤ physAfter file n at) × (physAfter file n at ≤ at + longSize Discover * n)
 unfolding physAfter
 phys-bound file zero at = (omega arith, omega arith)
 phys-bound file (suc n) at =
@@ -259,7 +259,7 @@ place-after file (suc i) at =
     omega arith
 
 module _ (most : Setting) (file : List ℕ) (few : most .phys ≤ 128) where
-  file-bound : (count i at : ℕ) (used : List ℕ) (d : Domain) → expanders most file count i at used ≡ good d → length file ≤ at + 8268 * count
+  file-bound : (count i at : ℕ) (used : List ℕ) (d : Domain) → expanders most file count i at used ≡ good d → length file ≤ at + longestUnit mostPhys * count
   unfolding expanders
   file-bound zero i at used d e =
       let u = unless-good (eqb at (length file)) (refusal 1 i 0) (good []) d e in
@@ -280,8 +280,8 @@ module _ (most : Setting) (file : List ℕ) (few : most .phys ≤ 128) where
       let s = size-bound file (at + 8) .1 in
       omega arith
 
--- a file that reads as a domain of n expanders has at most 2 + 8268 n bytes
-pub length-bound : (most : Setting) (file : List ℕ) (d : Domain) → domainRead most file ≡ good d → length file ≤ 2 + 8268 * length d
+-- how many bytes a file that reads as a domain has at most
+pub length-bound : (most : Setting) (file : List ℕ) (d : Domain) → domainRead most file ≡ good d → length file ≤ 2 + longestUnit mostPhys * length d
 length-bound most file d e = let g = read-good most file d e in file-bound most file (g .range .phys .1) (length d) 0 2 [] d (units-of most file d e .1)
 
 -- the frame of a phy that there is stands within the file

@@ -1,5 +1,5 @@
 -- Where the frames of a domain file stand, in bytes from its start.
-use Prim.Native.Nat.{ℕ, zero, suc, _+_, _≤_}
+use Prim.Native.Nat.{ℕ, zero, suc, _+_, _≤_, _*_}
 use mathlib.Core.Bool.{cond}
 use mathlib.Core.List.{List}
 use lib.ListN.{length}
@@ -12,6 +12,11 @@ use Rattle.frames.specs.declared.Response.the-variants.{ReportGeneral, Discover
 -- the size of the frame at offset `at` of a file that was read: short where its byte 3 is zero, else long
 abbrev pub sizeFrom : Response → List ℕ → ℕ → ℕ
 sizeFrom kind file at = cond (eqb (byte file (at + 3)) 0) (shortSize kind) (longSize kind)
+
+-- how many bytes an expander of so many phys takes in a file at most: its address, a long REPORT GENERAL response, and a long DISCOVER response
+-- for each phy
+abbrev pub longestUnit : ℕ → ℕ
+longestUnit phys = 8 + longSize ReportGeneral + longSize Discover * phys
 
 -- the place after so many phys, the first of which stands at offset `at`
 unfoldable pub physAfter : List ℕ → ℕ → ℕ → ℕ
@@ -38,4 +43,4 @@ phyOffset file i p = physAfter file p (physFrom file (expanderOffset file i))
 -- the frame of phy p of expander i lies within the file, after the header
 pub record Placed (file : List ℕ) (i p : ℕ) : Type 0 where
   pub after : 2 ≤ phyOffset file i p
-  pub within : phyOffset file i p + 52 ≤ length file
+  pub within : phyOffset file i p + shortSize Discover ≤ length file

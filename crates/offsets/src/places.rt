@@ -1,13 +1,14 @@
 // Where the frames of a file that was read stand: each is short or long by its byte 3.
 ghost use mathlib.Core.Path.{_≡_};
 ghost use Prim.Native.Nat.{_+_, _*_, _≤_, _<_};
-ghost use Rattle.frames.specs.declared.Response.the-variants.{Discover};
-ghost use Rattle.offsets.specs.Offsets.{sizeFrom, physAfter, physFrom, expanderOffset, phyOffset};
+ghost use Rattle.frames.specs.declared.Response.the-variants.{Discover, ReportGeneral};
+ghost use Rattle.frames.specs.Sizes.{longSize};
+ghost use Rattle.offsets.specs.Offsets.{sizeFrom, physAfter, physFrom, expanderOffset, phyOffset, longestUnit};
 
 // The size of the DISCOVER response at `at`.
 fn discover_size(file: &[u8], at: usize) -> usize
     requires { ⌜ at < 5000000 ⌝ }
-    ensures { λ r. ⌜ (r ≡ sizeFrom Discover (now (file .entry)) at) × (r ≤ 64) ⌝ }
+    ensures { λ r. ⌜ (r ≡ sizeFrom Discover (now (file .entry)) at) × (r ≤ longSize Discover) ⌝ }
 {
     if wiring::byte_at(file, at + 3) == 0 {
         return frames::DISCOVER_BYTES;
@@ -18,7 +19,7 @@ fn discover_size(file: &[u8], at: usize) -> usize
 // The place of the phys of the expander at `at`.
 fn phys_from(file: &[u8], at: usize) -> usize
     requires { ⌜ at < 5000000 ⌝ }
-    ensures { λ r. ⌜ (r ≡ physFrom (now (file .entry)) at) × (r ≤ at + 76) ⌝ }
+    ensures { λ r. ⌜ (r ≡ physFrom (now (file .entry)) at) × (r ≤ at + (8 + longSize ReportGeneral)) ⌝ }
 {
     if wiring::byte_at(file, at + 8 + 3) == 0 {
         return at + 8 + frames::GENERAL_BYTES;
@@ -29,7 +30,7 @@ fn phys_from(file: &[u8], at: usize) -> usize
 // The place after n phys, the first of which stands at `at`.
 fn phys_after(file: &[u8], n: u64, at: usize) -> usize
     requires { ⌜ (at < 4500000) × (n < 256) ⌝ }
-    ensures { λ r. ⌜ (r ≡ physAfter (now (file .entry)) n at) × (r ≤ at + 64 * n) ⌝ }
+    ensures { λ r. ⌜ (r ≡ physAfter (now (file .entry)) n at) × (r ≤ at + longSize Discover * n) ⌝ }
 {
     let mut next = at;
     let mut p: u64 = 0;
@@ -42,7 +43,7 @@ fn phys_after(file: &[u8], n: u64, at: usize) -> usize
 
 // The place of expander i.
 pub fn expander_offset(file: &[u8], i: u8) -> usize
-    ensures { λ r. ⌜ (r ≡ expanderOffset (now (file .entry)) i) × (r ≤ 2 + 16396 * i) ⌝ }
+    ensures { λ r. ⌜ (r ≡ expanderOffset (now (file .entry)) i) × (r ≤ 2 + longestUnit 255 * i) ⌝ }
 {
     let mut at: usize = 2;
     let mut k: u8 = 0;

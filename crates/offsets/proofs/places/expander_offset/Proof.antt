@@ -4,14 +4,14 @@ use native.Mathlib.Nat.{sub-zero}
 use borrow.Author.Needs.{needs}
 use Prim.Native.Nat.{ℕ, _+_, _-_, _*_, _≤_}
 use mathlib.Core.Path.{_≡_, _∙_, ap, ap₂}
-use Rattle.offsets.specs.Offsets.{physAfter, expandersAfter, expanderOffset}
+use Rattle.offsets.specs.Offsets.{physAfter, expandersAfter, expanderOffset, longestUnit}
 use Rattle.offsets.proofs.Offsets.{places-go, places-end}
 use Rattle.offsets.proofs.places.expander_offset.Statement.{statement}
 use Rattle.offsets.proofs.places.expander_offset.Tie as tie
 
 abbrev Inv-loop : tie.InvT-loop
 Inv-loop file i at₀ k₀ at k =
-    (k ≤ i) × ((expandersAfter file (i - k) at ≡ expanderOffset file i) × (at ≤ 2 + 16396 * k))
+    (k ≤ i) × ((expandersAfter file (i - k) at ≡ expanderOffset file i) × (at ≤ 2 + longestUnit 255 * k))
 
 abbrev μ-loop : tie.MeasureT-loop
 μ-loop file i at₀ k₀ at k = i - k

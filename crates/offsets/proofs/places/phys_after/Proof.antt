@@ -7,10 +7,12 @@ use Rattle.offsets.specs.Offsets.{physAfter}
 use Rattle.offsets.proofs.Offsets.{phys-go, phys-end}
 use Rattle.offsets.proofs.places.phys_after.Statement.{statement}
 use Rattle.offsets.proofs.places.phys_after.Tie as tie
+use Rattle.frames.specs.Sizes.{longSize}
+use Rattle.frames.specs.declared.Response.the-variants.{Discover}
 
 abbrev Inv-loop : tie.InvT-loop
 Inv-loop file n at next₀ p₀ next p =
-    (p ≤ n) × ((physAfter file (n - p) next ≡ physAfter file n at) × (next ≤ at + 64 * p))
+    (p ≤ n) × ((physAfter file (n - p) next ≡ physAfter file n at) × (next ≤ at + longSize Discover * p))
 
 abbrev μ-loop : tie.MeasureT-loop
 μ-loop file n at next₀ p₀ next p = n - p
