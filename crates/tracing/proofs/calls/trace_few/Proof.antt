@@ -1,6 +1,9 @@
 -- trace_few meets its contract: the second byte states how many expanders there are, so the room is enough.
-use Prim.Native.Nat.{ℕ}
+use Prim.Native.Nat.{ℕ, _*_}
 use lib.ListN.{length-replicate}
+use Rattle.wiring.specs.index.AddressIndex.{slotsBefore}
+use Rattle.files.specs.Rows.{rowWords}
+use Rattle.files.specs.Settings.{mostPhys}
 use Rattle.tables.proofs.WiringLemmas.{stated-expanders, file-room}
 use borrow.Author.Needs.{needs}
 use native.Mathlib.Omega.{arith}
@@ -24,7 +27,7 @@ trace-in-requires c κs =
     let a = c .before .before .before .before .before .before .before .before .before .before .args in
     let f = a .file .now in
     file-room (a .setting) 2 f _ _ _ (λ d e. omega (arith, stated-expanders (a .setting) f d e, (c .before .before .before .before .before .stated-count) .ensures))
-    (omega (arith, length-replicate {A = ℕ} 516 0)) (omega (arith, length-replicate {A = ℕ} 320 0)) (omega (arith, length-replicate {A = ℕ} 256 0))
+    (omega (arith, length-replicate {A = ℕ} (2 * rowWords) 0)) (omega (arith, length-replicate {A = ℕ} (slotsBefore 2) 0)) (omega (arith, length-replicate {A = ℕ} (2 * mostPhys) 0))
 
 same-length : tie.Need-same-length
 same-length c = search needs
@@ -47,7 +50,7 @@ trace-in-requires-2 c κs =
     let a = c .before .before .before .before .before .before .before .before .before .before .args in
     let f = a .file .now in
     file-room (a .setting) 8 f _ _ _ (λ d e. omega (arith, stated-expanders (a .setting) f d e, at-pre))
-    (omega (arith, length-replicate {A = ℕ} 2064 0)) (omega (arith, length-replicate {A = ℕ} 1088 0)) (omega (arith, length-replicate {A = ℕ} 1024 0))
+    (omega (arith, length-replicate {A = ℕ} (8 * rowWords) 0)) (omega (arith, length-replicate {A = ℕ} (slotsBefore 8) 0)) (omega (arith, length-replicate {A = ℕ} (8 * mostPhys) 0))
 
 same-length-2 : tie.Need-same-length-2
 same-length-2 c = search needs

@@ -1,6 +1,8 @@
 -- trace_many meets its contract: a file that is read has at most 64 expanders.
 use Prim.Native.Nat.{ℕ}
 use lib.ListN.{length-replicate}
+use Rattle.wiring.specs.index.AddressIndex.{mostSlots, mostDomainPhys}
+use Rattle.files.specs.Rows.{mostRowWords}
 use Rattle.tables.proofs.WiringLemmas.{read-good, file-room}
 use borrow.Author.Needs.{needs}
 use native.Mathlib.Omega.{arith}
@@ -21,7 +23,7 @@ trace-in-requires c κs =
     let a = c .before .before .before .before .before .before .before .before .args in
     let f = a .file .now in
     file-room (a .setting) 64 f _ _ _ (λ d e. let g = read-good (a .setting) f d e in omega (arith, g .few, g .range .expanders .1))
-    (omega (arith, length-replicate {A = ℕ} 16512 0)) (omega (arith, length-replicate {A = ℕ} 8256 0)) (omega (arith, length-replicate {A = ℕ} 8192 0))
+    (omega (arith, length-replicate {A = ℕ} mostRowWords 0)) (omega (arith, length-replicate {A = ℕ} mostSlots 0)) (omega (arith, length-replicate {A = ℕ} mostDomainPhys 0))
 
 same-length : tie.Need-same-length
 same-length c = search needs
