@@ -14,7 +14,7 @@ use Rattle.frames.specs.Refusals.{Result, refused, good}
 use Rattle.frames.specs.ConfigureRoute.{routeRead}
 use Rattle.frames.specs.declared.Route.{Route}
 use Rattle.shelves.specs.PlainTable.{Table, empty, replaced, resultOf, answerTo, tableAfter, tableAnswers, tableLeft}
-use Rattle.shelves.specs.Shelf.{CanBeTold, kindIn, bitOf, freshShelf, made, shelfResult, place, loaded, afterRead, Done, entryAt, disabledAt}
+use Rattle.shelves.specs.Shelf.{CanBeTold, kindIn, bitOf, freshShelf, made, shelfResult, place, loaded, afterRead, Done, entryAt, disabledAt, shelfEntries}
 use Rattle.shelves.specs.Calls.{Call, Sent, framesIn, answersIn, left, HoldsTable}
 use Rattle.shelves.specs.declared.Shelf.{Shelf}
 use Rattle.shelves.specs.declared.Answer.the-variants.{Result as Answered}
@@ -57,11 +57,11 @@ module _ (phys routeIndexes : ℕ) (kinds : List ℕ) (numbers : CanBeTold phys 
       abbrev at : ℕ
       at = place (q .phy .0) (q .index .0)
 
-      within : at < 1024
+      within : at < shelfEntries
       within = let a = l .there in let b = l .below in let c = numbers .few in let d = numbers .short in omega arith
 
       -- by the place: the one that is set, and every other
-      by-place : (a b : List ℕ) (e : ℕ) (f : ℕ × Bool → ℕ) → length a ≡ 1024 → b ≡ set a at e → e ≡ f (q .address, q .disabled)
+      by-place : (a b : List ℕ) (e : ℕ) (f : ℕ × Bool → ℕ) → length a ≡ shelfEntries → b ≡ set a at e → e ≡ f (q .address, q .disabled)
           → ((p i : ℕ) → p < 16 → i < 64 → getD a (place p i) 0 ≡ f (t p i)) → (p i : ℕ) → p < 16 → i < 64 → getD b (place p i) 0 ≡ f (replaced t q p i)
       by-place a b e f n eb ee all p i hp hi =
           let w = within in
@@ -114,10 +114,10 @@ module _ (phys routeIndexes : ℕ) (kinds : List ℕ) (numbers : CanBeTold phys 
     phys-are = refl;
     route-indexes-are = refl;
     kinds-are = refl;
-    entry-count = length-replicate {A = ℕ} 1024 0;
-    bit-count = length-replicate {A = ℕ} 1024 1;
-    entries-are = λ p i hp hi. getD-replicate {A = ℕ} 1024 (place p i) 0 0 (omega arith);
-    bits-are = λ p i hp hi. getD-replicate {A = ℕ} 1024 (place p i) 1 0 (omega arith);
+    entry-count = length-replicate {A = ℕ} shelfEntries 0;
+    bit-count = length-replicate {A = ℕ} shelfEntries 1;
+    entries-are = λ p i hp hi. getD-replicate {A = ℕ} shelfEntries (place p i) 0 0 (omega arith);
+    bits-are = λ p i hp hi. getD-replicate {A = ℕ} shelfEntries (place p i) 1 0 (omega arith);
   }
 
 -- for every list of frames from a fresh shelf, shelf and table return the same, and hold the same
@@ -142,7 +142,7 @@ holds-also phys routeIndexes kinds s t u h e = record {
 }
 
 -- one table is held by one shelf: lists that agree at every place are equal
-by-places : (a b : List ℕ) → length a ≡ 1024 → length b ≡ 1024 → ((p i : ℕ) → p < 16 → i < 64 → getD a (place p i) 0 ≡ getD b (place p i) 0) → a ≡ b
+by-places : (a b : List ℕ) → length a ≡ shelfEntries → length b ≡ shelfEntries → ((p i : ℕ) → p < 16 → i < 64 → getD a (place p i) 0 ≡ getD b (place p i) 0) → a ≡ b
 by-places a b la lb h =
     ext-getD 0 a b (la ∙ sym lb) (λ k l.
     let e : place (k / 64) (k % 64) ≡ k = omega arith in

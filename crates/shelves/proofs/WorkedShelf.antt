@@ -8,7 +8,7 @@ use Rattle.frames.specs.Bytes.{numberAt, bytesOf}
 use Rattle.frames.specs.Refusals.{refusal}
 use Rattle.frames.specs.ConfigureRoute.{routeFrame, routeFixed, routeRead}
 use Rattle.shelves.specs.PlainTable.{empty, resultOf, tableAnswers, tableAfter, tableLeft}
-use Rattle.shelves.specs.Shelf.{areKinds, canBeTold, kindIn, freshShelf, loaded, afterRead, stepped, entryAt, disabledAt}
+use Rattle.shelves.specs.Shelf.{areKinds, canBeTold, kindIn, freshShelf, loaded, afterRead, stepped, entryAt, disabledAt, shelfEntries}
 use Rattle.shelves.specs.declared.Shelf.{Shelf}
 use Rattle.shelves.specs.declared.Answer.{Answer}
 use Rattle.shelves.specs.declared.Answer.the-variants.{Refused, Result as Answered}
@@ -97,8 +97,8 @@ fresh-entries = (refl, (refl, (refl, (refl, (refl, refl)))))
 -- a struct in which anything stands: more than 16 phys and R above 64, kinds and bytes of any value
 abbrev anything : Shelf
 anything = record {
-  entries = replicate 1024 9;
-  disabled = replicate 1024 255;
+  entries = replicate shelfEntries 9;
+  disabled = replicate shelfEntries 255;
   kinds = 1 ∷ 7 ∷ replicate 14 1;
   routeIndexes = 70000;
   phys = 4294967295;
@@ -107,8 +107,8 @@ anything = record {
 -- and one that was cleared to zero: it has no phys
 abbrev cleared : Shelf
 cleared = record {
-  entries = replicate 1024 0;
-  disabled = replicate 1024 0;
+  entries = replicate shelfEntries 0;
+  disabled = replicate shelfEntries 0;
   kinds = replicate 16 0;
   routeIndexes = 0;
   phys = 0;

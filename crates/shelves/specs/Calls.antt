@@ -4,7 +4,7 @@ use mathlib.Core.Path.{_≡_}
 use mathlib.Core.List.{List, [], _∷_, map}
 use lib.ListN.{length, getD}
 use Rattle.shelves.specs.PlainTable.{Table}
-use Rattle.shelves.specs.Shelf.{sixteen, bitOf, place, stepped, Done}
+use Rattle.shelves.specs.Shelf.{sixteen, bitOf, place, stepped, Done, shelfEntries}
 use Rattle.shelves.specs.declared.Shelf.{Shelf}
 use Rattle.shelves.specs.declared.Answer.{Answer}
 
@@ -35,7 +35,7 @@ pub record HoldsTable (phys routeIndexes : ℕ) (kinds : List ℕ) (s : Shelf) (
   pub phys-are : s .phys ≡ phys
   pub route-indexes-are : s .routeIndexes ≡ routeIndexes
   pub kinds-are : s .kinds ≡ sixteen kinds
-  pub entry-count : length (s .entries) ≡ 1024
-  pub bit-count : length (s .disabled) ≡ 1024
+  pub entry-count : length (s .entries) ≡ shelfEntries
+  pub bit-count : length (s .disabled) ≡ shelfEntries
   pub entries-are : (phy index : ℕ) → phy < 16 → index < 64 → getD (s .entries) (place phy index) 0 ≡ t phy index .0
   pub bits-are : (phy index : ℕ) → phy < 16 → index < 64 → getD (s .disabled) (place phy index) 0 ≡ bitOf (t phy index .1)

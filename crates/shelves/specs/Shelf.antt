@@ -14,9 +14,13 @@ use Rattle.shelves.specs.declared.Stepped.{Stepped}
 use Rattle.shelves.specs.declared.Answer.{Answer}
 use Rattle.shelves.specs.declared.Answer.the-variants.{Refused, Result as Answered}
 
+-- how many entries a shelf has: 16 phys, and 64 route indexes of each
+abbrev pub shelfEntries : ℕ
+shelfEntries = 1024
+
 -- the bytes that a shelf takes: entries, disable bits, kinds, R, and the number of phys
 abbrev pub shelfBytes : ℕ
-shelfBytes = 1024 * 8 + 1024 + 16 + 4 + 4
+shelfBytes = shelfEntries * 8 + shelfEntries + 16 + 4 + 4
 
 -- a shelf, and what it answered
 abbrev pub steppedTo : Shelf → Answer → Stepped
@@ -53,8 +57,8 @@ bitOf disabled = cond disabled 1 0
 -- all entries zero and disabled
 abbrev pub freshShelf : ℕ → ℕ → List ℕ → Shelf
 freshShelf phys routeIndexes kinds = record {
-  entries = replicate 1024 0;
-  disabled = replicate 1024 1;
+  entries = replicate shelfEntries 0;
+  disabled = replicate shelfEntries 1;
   kinds = sixteen kinds;
   routeIndexes = routeIndexes;
   phys = phys;

@@ -7,6 +7,7 @@ use Rattle.shelves.specs.declared.Shelf.{Shelf}
 use borrow.Author.Needs.{needs}
 use Rattle.shelves.proofs.making.fresh_shelf.Statement.{statement}
 use Rattle.shelves.proofs.making.fresh_shelf.Tie as tie
+use Rattle.shelves.specs.Shelf.{shelfEntries}
 
 all-kinds-requires : tie.Need-all-kinds-requires
 all-kinds-requires c κs = search needs
@@ -15,8 +16,8 @@ returns : tie.Need-returns
 returns c =
     let a = c .before .before .args in
     let of : List ℕ → Shelf = λ ks. record {
-      entries = replicate 1024 0;
-      disabled = replicate 1024 1;
+      entries = replicate shelfEntries 0;
+      disabled = replicate shelfEntries 1;
       kinds = ks;
       routeIndexes = a .routeIndexes;
       phys = a .phys;
