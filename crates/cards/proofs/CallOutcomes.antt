@@ -19,7 +19,7 @@ use Rattle.files.specs.Settings.{within, inRange}
 use Rattle.files.specs.Domain.{Domain}
 use Rattle.files.specs.ReadDomain.{Read}
 use Rattle.files.specs.File.{domainRead}
-use Rattle.files.specs.Rows.{rowsOf, domainIn}
+use Rattle.files.specs.Rows.{rowsOf, domainIn, mostRowWords, rowWords}
 use Rattle.frames.proofs.ValuesPut.{sets-front}
 use Rattle.wiring.proofs.FileRows.{Roomy}
 use Rattle.files.proofs.ReadDomain.{read-good}
@@ -50,7 +50,7 @@ pub length-card : (d : Domain) → length (cardOf d) ≡ bytesFor (cardSize d)
 length-card d = length-packedIn (bytesFor (length (cardBits d))) (cardBits d) ∙ ap bytesFor (size-card d)
 
 -- 64 rows have room for every domain
-pub rows-room : (setting : Setting) (file before : List ℕ) → length before ≡ 16512 → Roomy setting file before
+pub rows-room : (setting : Setting) (file before : List ℕ) → length before ≡ mostRowWords → Roomy setting file before
 rows-room setting file before l d e = let g = read-good setting file d e in omega (arith, g .few, g .range .expanders .1)
 
 -- file to card, by the outcome of reading the file
@@ -101,7 +101,7 @@ module _ (setting : Setting) (card before : List ℕ) where
           read-is = legal-read setting D (card-is setting card D b read .legal)
 
           -- the rows that were filled give the domain back
-          pub rows-hold : (rows after : List ℕ) (k : ℕ) → k ≡ 258 * n → 258 * n ≤ length rows → after ≡ sets rows 0 (rowsOf D) → domainIn (take k after) ≡ D
+          pub rows-hold : (rows after : List ℕ) (k : ℕ) → k ≡ rowWords * n → rowWords * n ≤ length rows → after ≡ sets rows 0 (rowsOf D) → domainIn (take k after) ≡ D
           rows-hold rows after k qk h s =
               let l = length-rowsOf setting D read-is in
               let t : after ≡ rowsOf D ++ drop (length (rowsOf D)) rows = s ∙ sets-front (rowsOf D) rows (omega arith) in

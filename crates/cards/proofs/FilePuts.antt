@@ -10,12 +10,14 @@ use Rattle.cards.specs.ShortFrames.{shortGeneral}
 use Rattle.frames.specs.declared.General.{General}
 use Rattle.frames.proofs.ByteNumbers.{length-bytesOf, front-room}
 use Rattle.frames.proofs.ValuesPut.{sets-front, sets-then, sets-mid, sets-mid-then}
+use Rattle.frames.specs.Sizes.{shortSize}
+use Rattle.frames.specs.declared.Response.the-variants.{ReportGeneral, Discover as DiscoverResponse}
 use Rattle.cards.proofs.ShortFrames.{length-general}
 use Rattle.files.specs.declared.Phy.{Phy}
 use Rattle.files.specs.declared.Phy.the-variants.{Vacant}
 use Rattle.files.specs.Domain.{Expander, Domain, noExpander, expanderAt}
 use Rattle.files.proofs.OneMore.{drop-next}
-use Rattle.cards.specs.FileOf.{generalOf, phyFrame, physFrames, unitHead, unitsOf, fileOf}
+use Rattle.cards.specs.FileOf.{generalOf, phyFrame, physFrames, unitHead, unitsOf, fileOf, headBytes}
 use Rattle.cards.proofs.FileRoundTrip.{length-phy, length-frames, length-head}
 
 -- a frame written at the front of a part that it fills
@@ -23,8 +25,8 @@ pub front-whole : (new before : List ℕ) → length before ≡ length new → a
 front-whole new before h = front-room new before (omega arith) ∙ ap (λ (m : List ℕ). new ++ m) (drop-of-length-le before {i = length new} (omega arith)) ∙ append-nil new
 
 -- an expander's address and its REPORT GENERAL response
-pub head-put : (e : Expander) (s s1 s2 r1 r2 : List ℕ) (to k1 k2 ownAddress : ℕ) (g : General) → to + 36 ≤ length s → length s1 ≡ length s → ownAddress ≡ e .address → g ≡ generalOf e
-    → k1 ≡ 8 → r1 ≡ bytesOf 8 ownAddress → s1 ≡ take to s ++ (r1 ++ drop k1 (drop to s)) → k2 ≡ 28 → r2 ≡ shortGeneral g → s2 ≡ take (to + 8) s1 ++ (r2 ++ drop k2 (drop (to + 8) s1))
+pub head-put : (e : Expander) (s s1 s2 r1 r2 : List ℕ) (to k1 k2 ownAddress : ℕ) (g : General) → to + headBytes ≤ length s → length s1 ≡ length s → ownAddress ≡ e .address → g ≡ generalOf e
+    → k1 ≡ 8 → r1 ≡ bytesOf 8 ownAddress → s1 ≡ take to s ++ (r1 ++ drop k1 (drop to s)) → k2 ≡ shortSize ReportGeneral → r2 ≡ shortGeneral g → s2 ≡ take (to + 8) s1 ++ (r2 ++ drop k2 (drop (to + 8) s1))
     → s2 ≡ sets s to (unitHead e)
 unfolding unitHead
 head-put e s s1 s2 r1 r2 to k1 k2 ownAddress g h n qo qg q1 e1 f1 q2 e2 f2 =
@@ -36,24 +38,24 @@ head-put e s s1 s2 r1 r2 to k1 k2 ownAddress g h n qo qg q1 e1 f1 q2 e2 f2 =
     let b : r2 ≡ shortGeneral (generalOf e) = e2 ∙ ap shortGeneral qg in
     sets-then s s1 s2 to (to + 8) r1 r2 p1 p2 (omega arith) ∙ ap (λ (m : List ℕ). sets s to (m ++ r2)) a ∙ ap (λ (m : List ℕ). sets s to (bytesOf 8 (e .address) ++ m)) b
 
-pub frames-go : (φs : List Phy) (s v r : List ℕ) (ownAddress o p to a k : ℕ) (φ : Phy) → p < length φs → to + 52 * length φs ≤ length s → o ≡ ownAddress → φ ≡ getD φs p (Vacant 0)
-    → sets s (to + 52 * p) (physFrames ownAddress p (drop p φs)) ≡ v → a ≡ to + 52 * p → k ≡ 52 → r ≡ phyFrame o p φ
-    → sets (take a s ++ (r ++ drop k (drop a s))) (to + 52 * (p + 1)) (physFrames ownAddress (p + 1) (drop (p + 1) φs)) ≡ v
+pub frames-go : (φs : List Phy) (s v r : List ℕ) (ownAddress o p to a k : ℕ) (φ : Phy) → p < length φs → to + shortSize DiscoverResponse * length φs ≤ length s → o ≡ ownAddress → φ ≡ getD φs p (Vacant 0)
+    → sets s (to + shortSize DiscoverResponse * p) (physFrames ownAddress p (drop p φs)) ≡ v → a ≡ to + shortSize DiscoverResponse * p → k ≡ shortSize DiscoverResponse → r ≡ phyFrame o p φ
+    → sets (take a s ++ (r ++ drop k (drop a s))) (to + shortSize DiscoverResponse * (p + 1)) (physFrames ownAddress (p + 1) (drop (p + 1) φs)) ≡ v
 unfolding physFrames
 frames-go φs s v r ownAddress o p to a k φ h m qo qφ inv qa qk qr =
     let f : List ℕ = phyFrame ownAddress p (getD φs p (Vacant 0)) in
-    let n : length f ≡ 52 = length-phy ownAddress p (getD φs p (Vacant 0)) in
+    let n : length f ≡ shortSize DiscoverResponse = length-phy ownAddress p (getD φs p (Vacant 0)) in
     let e : r ≡ f = qr ∙ ap (λ (x : ℕ). phyFrame x p φ) qo ∙ ap (phyFrame ownAddress p) qφ in
     let lr : length r ≡ k = ap length e ∙ n ∙ sym qk in
     let rest : List ℕ = physFrames ownAddress (p + 1) (drop (p + 1) φs) in
-    sets-mid-then s r rest (to + 52 * p) (to + 52 * (p + 1)) a k qa lr (omega arith) (omega arith) ∙ ap (λ (x : List ℕ). sets s (to + 52 * p) (x ++ rest)) e
-    ∙ sym (ap (λ (x : List Phy). sets s (to + 52 * p) (physFrames ownAddress p x)) (drop-next (Vacant 0) φs p h)) ∙ inv
+    sets-mid-then s r rest (to + shortSize DiscoverResponse * p) (to + shortSize DiscoverResponse * (p + 1)) a k qa lr (omega arith) (omega arith) ∙ ap (λ (x : List ℕ). sets s (to + shortSize DiscoverResponse * p) (x ++ rest)) e
+    ∙ sym (ap (λ (x : List Phy). sets s (to + shortSize DiscoverResponse * p) (physFrames ownAddress p x)) (drop-next (Vacant 0) φs p h)) ∙ inv
 
 pub frames-end : (φs : List Phy) (s v : List ℕ) (ownAddress p to : ℕ) → length φs ≤ p → sets s to (physFrames ownAddress p (drop p φs)) ≡ v → s ≡ v
 unfolding physFrames
 frames-end φs s v ownAddress p to h inv = sym (ap (λ (x : List Phy). sets s to (physFrames ownAddress p x)) (drop-of-length-le φs h)) ∙ inv
 
-pub length-next : (d : Domain) (i : ℕ) → i < length d → length (unitsOf (drop i d)) ≡ 36 + 52 * length (expanderAt d i .phys) + length (unitsOf (drop (i + 1) d))
+pub length-next : (d : Domain) (i : ℕ) → i < length d → length (unitsOf (drop i d)) ≡ headBytes + shortSize DiscoverResponse * length (expanderAt d i .phys) + length (unitsOf (drop (i + 1) d))
 unfolding unitsOf
 length-next d i h =
     let e : Expander = expanderAt d i in
@@ -67,8 +69,8 @@ unfolding unitsOf
 length-none d i h = ap (λ (x : Domain). length (unitsOf x)) (drop-of-length-le d h)
 
 pub units-go : (d : Domain) (i to : ℕ) (s s1 s2 v : List ℕ) (n : ℕ) → i < length d → n ≡ length (expanderAt d i .phys) → sets s to (unitsOf (drop i d)) ≡ v
-    → s1 ≡ sets s to (unitHead (expanderAt d i)) → s2 ≡ sets s1 (to + 36) (physFrames (expanderAt d i .address) 0 (expanderAt d i .phys))
-    → sets s2 (to + (36 + 52 * n)) (unitsOf (drop (i + 1) d)) ≡ v
+    → s1 ≡ sets s to (unitHead (expanderAt d i)) → s2 ≡ sets s1 (to + headBytes) (physFrames (expanderAt d i .address) 0 (expanderAt d i .phys))
+    → sets s2 (to + (headBytes + shortSize DiscoverResponse * n)) (unitsOf (drop (i + 1) d)) ≡ v
 unfolding unitsOf
 units-go d i to s s1 s2 v n h qn inv e1 e2 =
     let e : Expander = expanderAt d i in
@@ -77,8 +79,8 @@ units-go d i to s s1 s2 v n h qn inv e1 e2 =
     let r : List ℕ = unitsOf (drop (i + 1) d) in
     let lf = length-head e in
     let lg = length-frames (e .address) 0 (e .phys) in
-    let p = sets-then s s1 s2 to (to + 36) f g e1 e2 (omega arith) in
-    sets-then s s2 (sets s2 (to + (36 + 52 * n)) r) to (to + (36 + 52 * n)) (f ++ g) r p refl (omega (arith, length-append f g))
+    let p = sets-then s s1 s2 to (to + headBytes) f g e1 e2 (omega arith) in
+    sets-then s s2 (sets s2 (to + (headBytes + shortSize DiscoverResponse * n)) r) to (to + (headBytes + shortSize DiscoverResponse * n)) (f ++ g) r p refl (omega (arith, length-append f g))
     ∙ ap (sets s to) (append-assoc f g r) ∙ sym (ap (λ (x : Domain). sets s to (unitsOf x)) (drop-next noExpander d i h)) ∙ inv
 
 pub units-end : (d : Domain) (i to : ℕ) (s v : List ℕ) → length d ≤ i → sets s to (unitsOf (drop i d)) ≡ v → s ≡ v

@@ -18,7 +18,7 @@ use Rattle.wiring.specs.declared.Check.{Check}
 use Rattle.wiring.specs.declared.Check.the-variants.{Passed as AllPassed}
 use Rattle.files.specs.Domain.{Expander, Domain, addressOf}
 use Rattle.files.specs.File.{unitTested}
-use Rattle.files.specs.Rows.{phyWord, phyWords, headWord, rowOf, rowsOf}
+use Rattle.files.specs.Rows.{phyWord, phyWords, headWord, rowOf, rowsOf, rowWords}
 use Rattle.files.proofs.RowFilling.{length-phyWords, length-rowOf, stored-in-zeros}
 use Rattle.cards.specs.declared.PhysWalk.{PhysWalk}
 use Rattle.cards.specs.Card.{phySize, physSize, expandersSize, cardSize, phyOn, physOn, unitOn, expanderOn, expandersOn, domainOn}
@@ -72,7 +72,7 @@ module _ (l : List ℕ) (n p at : ℕ) where
 
 -- an expander's row
 pub row-made : (l : List ℕ) (at : ℕ) (row before after : List ℕ) (u : ExpanderUnit) (w : ℕ) (walk : PhysWalk) → u ≡ unitOn (drop at l) → u .phys ≤ 128 → w ≡ headWord (u .routeIndexes) (u .phys) (u .configurable)
-    → row ≡ replicate 258 0 → before ≡ set (set row 0 (u .address)) 1 w → PhysStored (physOn (u .phys) (drop (at + 88) l)) (at + 88) walk before after → RowStored (expanderOn (drop at l)) at walk after
+    → row ≡ replicate rowWords 0 → before ≡ set (set row 0 (u .address)) 1 w → PhysStored (physOn (u .phys) (drop (at + 88) l)) (at + 88) walk before after → RowStored (expanderOn (drop at l)) at walk after
 unfolding rowOf expanderOn
 row-made l at row before after u w walk qu h qw qr qb s =
     let m : List ℕ = drop at l in
@@ -100,7 +100,7 @@ phys-few l at b =
 
 -- what a walk through the expanders before expander i of a card's domain d holds, where `rest` are those to come
 pub record Walking (most : Setting) (before : List ℕ) (d : Domain) (i at : ℕ) (rows used : List ℕ) (fine : Bool) (check : Check) (rest : Domain) : Type 0 where
-  pub words : sets rows (258 * i) (rowsOf rest) ≡ sets before 0 (rowsOf d)
+  pub words : sets rows (rowWords * i) (rowsOf rest) ≡ sets before 0 (rowsOf d)
   pub place : at + expandersSize rest ≡ cardSize d
   pub results : (fine && allFine rest) ≡ allFine d
   pub tests : (k : Result Domain) → afterCheck check (unitsTested most i (take i used) rest k) ≡ unitsTested most 0 [] d k
@@ -125,7 +125,7 @@ module _ (most : Setting) (l before : List ℕ) (d : Domain) (n i at : ℕ) (row
     (inv : Walking most before d i at rows used fine check (expandersOn (n - i) (drop at l))) where
   pub walk-goes : (b : Bits l) (u : ExpanderUnit) (walk : PhysWalk) (r : List ℕ) (a k : ℕ) (unit both : Check) → i < n → RowStored (expanderOn (drop at l)) at walk r → u ≡ unitOn (drop at l)
       → ((k : Result Domain) → afterCheck unit k ≡ then (unitTested most (take i used) i u) (λ w. unless (leb (u .phys) (walk .ranged)) (refusal 6 i (walk .ranged)) k))
-      → ((k : Result Domain) → afterCheck both k ≡ afterCheck check (afterCheck unit k)) → i < length used → a ≡ 258 * i → k ≡ 258 → 258 * i + 258 ≤ length rows
+      → ((k : Result Domain) → afterCheck both k ≡ afterCheck check (afterCheck unit k)) → i < length used → a ≡ rowWords * i → k ≡ rowWords → rowWords * i + rowWords ≤ length rows
       → Walking most before d (i + 1) (walk .next) (take a rows ++ (r ++ drop k (drop a rows))) (set used i (u .address)) (fine && walk .fine) both (expandersOn (n - (i + 1)) (drop (walk .next) l))
       × (walk .next ≤ at + 10072)
   unfolding rowsOf expandersSize allFine
@@ -135,12 +135,12 @@ module _ (most : Setting) (l before : List ℕ) (d : Domain) (n i at : ℕ) (row
       let w : expandersOn (n - i) (drop at l) ≡ expanderOn (drop at l) ∷ expandersOn (n - (i + 1)) (drop (walk .next) l) =
       next-expanders l at n i g ∙ ap (λ (x : ℕ). expanderOn (drop at l) ∷ expandersOn (n - (i + 1)) (drop x l)) (sym (s .place)) in
       let c : length (expanderOn (drop at l) .phys) ≤ 128 = phys-few l at b in
-      let lr : length r ≡ 258 = ap length (s .words) ∙ length-rowOf (expanderOn (drop at l)) c in
+      let lr : length r ≡ rowWords = ap length (s .words) ∙ length-rowOf (expanderOn (drop at l)) c in
       let ps = ap expandersSize w in
       let z = sizes-few (expanderOn (drop at l) .phys) in (
         record {
-          words = sets-mid-then rows r (rowsOf (expandersOn (n - (i + 1)) (drop (walk .next) l))) (258 * i) (258 * (i + 1)) a k qa (omega arith) (omega arith) (omega arith)
-              ∙ ap (λ (x : List ℕ). sets rows (258 * i) (x ++ rowsOf (expandersOn (n - (i + 1)) (drop (walk .next) l)))) (s .words) ∙ sym (ap (λ (x : Domain). sets rows (258 * i) (rowsOf x)) w) ∙ inv .words;
+          words = sets-mid-then rows r (rowsOf (expandersOn (n - (i + 1)) (drop (walk .next) l))) (rowWords * i) (rowWords * (i + 1)) a k qa (omega arith) (omega arith) (omega arith)
+              ∙ ap (λ (x : List ℕ). sets rows (rowWords * i) (x ++ rowsOf (expandersOn (n - (i + 1)) (drop (walk .next) l)))) (s .words) ∙ sym (ap (λ (x : Domain). sets rows (rowWords * i) (rowsOf x)) w) ∙ inv .words;
           place = omega (arith, inv .place, s .place);
           results = ap (λ (x : Bool). (fine && x) && allFine (expandersOn (n - (i + 1)) (drop (walk .next) l))) (s .results)
               ∙ and-assoc fine (resultsFine (expanderOn (drop at l) .phys)) (allFine (expandersOn (n - (i + 1)) (drop (walk .next) l))) ∙ sym (ap (λ (x : Domain). fine && allFine x) w) ∙ inv .results;
@@ -156,7 +156,7 @@ module _ (most : Setting) (l before : List ℕ) (d : Domain) (n i at : ℕ) (row
       let w : expandersOn (n - i) (drop at l) ≡ [] = no-expanders l at n i h in
       let ps = ap expandersSize w in
       record {
-        words = sym (ap (λ (x : Domain). sets rows (258 * i) (rowsOf x)) w) ∙ inv .words;
+        words = sym (ap (λ (x : Domain). sets rows (rowWords * i) (rowsOf x)) w) ∙ inv .words;
         place = omega (arith, inv .place);
         few = f;
         results = sym (ap (λ (x : Domain). fine && allFine x) w ∙ and-true fine) ∙ inv .results;

@@ -18,15 +18,15 @@ use Rattle.cards.specs.ShortFrames.{shortGeneral, shortVacant, shortDisc
 use Rattle.frames.proofs.ByteNumbers.{number-back}
 
 -- sizes
-pub length-general : (g : General) → length (shortGeneral g) ≡ 28
+pub length-general : (g : General) → length (shortGeneral g) ≡ shortSize ReportGeneral
 unfolding shortGeneral bytesOf
 length-general g = refl
 
-pub length-vacant : (result : ℕ) → length (shortVacant result) ≡ 52
+pub length-vacant : (result : ℕ) → length (shortVacant result) ≡ shortSize DiscoverResponse
 unfolding shortVacant
 length-vacant result = refl
 
-pub length-discover : (d : Discover) → length (shortDiscover d) ≡ 52
+pub length-discover : (d : Discover) → length (shortDiscover d) ≡ shortSize DiscoverResponse
 unfolding shortDiscover bytesOf
 length-discover d = refl
 
@@ -35,15 +35,15 @@ size-short : (kind : Response) (frame rest : List ℕ) → 4 ≤ length frame �
 unfolding frameSize
 size-short kind frame rest h e = rw (le-leb 4 (length (frame ++ rest)) (omega (arith, length-append frame rest)), e)
 
-pub size-general : (g : General) (rest : List ℕ) → frameSize ReportGeneral (shortGeneral g ++ rest) ≡ good 28
+pub size-general : (g : General) (rest : List ℕ) → frameSize ReportGeneral (shortGeneral g ++ rest) ≡ good (shortSize ReportGeneral)
 unfolding shortGeneral
 size-general g rest = size-short ReportGeneral (shortGeneral g) rest (omega (arith, length-general g)) refl
 
-pub size-vacant : (result : ℕ) (rest : List ℕ) → frameSize DiscoverResponse (shortVacant result ++ rest) ≡ good 52
+pub size-vacant : (result : ℕ) (rest : List ℕ) → frameSize DiscoverResponse (shortVacant result ++ rest) ≡ good (shortSize DiscoverResponse)
 unfolding shortVacant
 size-vacant result rest = size-short DiscoverResponse (shortVacant result) rest (omega (arith, length-vacant result)) refl
 
-pub size-discover : (d : Discover) (rest : List ℕ) → frameSize DiscoverResponse (shortDiscover d ++ rest) ≡ good 52
+pub size-discover : (d : Discover) (rest : List ℕ) → frameSize DiscoverResponse (shortDiscover d ++ rest) ≡ good (shortSize DiscoverResponse)
 unfolding shortDiscover
 size-discover d rest = size-short DiscoverResponse (shortDiscover d) rest (omega (arith, length-discover d)) refl
 

@@ -6,6 +6,8 @@ use Rattle.frames.specs.Bytes.{bytesOf}
 use Rattle.cards.specs.ShortFrames.{shortGeneral, shortVacant, shortDiscover}
 use Rattle.frames.specs.declared.General.{General}
 use Rattle.frames.specs.declared.Discover.{Discover}
+use Rattle.frames.specs.Sizes.{shortSize}
+use Rattle.frames.specs.declared.Response.the-variants.{ReportGeneral}
 use Rattle.files.specs.declared.Phy.{Phy}
 use Rattle.files.specs.declared.Phy.the-variants.{Vacant, Present}
 use Rattle.files.specs.declared.PhyFields.{PhyFields}
@@ -27,6 +29,10 @@ phyFrame ownAddress p (Present f) = shortDiscover (discoverOf ownAddress p f)
 unfoldable pub physFrames : ℕ → ℕ → List Phy → List ℕ
 physFrames ownAddress p [] = []
 physFrames ownAddress p (φ ∷ φs) = phyFrame ownAddress p φ ++ physFrames ownAddress (p + 1) φs
+
+-- how many bytes stand before the frames of an expander's phys: its address and a short REPORT GENERAL response
+abbrev pub headBytes : ℕ
+headBytes = 8 + shortSize ReportGeneral
 
 -- an expander's address and its REPORT GENERAL response
 unfoldable pub unitHead : Expander → List ℕ

@@ -13,9 +13,11 @@ ghost use mathlib.Core.List.{_++_};
 ghost use Prim.Native.Nat.{_+_, _*_, _≤_, _<_};
 ghost use lib.ListN.{length, drop};
 ghost use lib.Seq.{sets};
+ghost use Rattle.frames.specs.Sizes.{shortSize};
+ghost use Rattle.frames.specs.declared.Response.the-variants.{Discover as DiscoverResponse};
 ghost use Rattle.files.specs.Domain.{expanderAt};
 ghost use Rattle.files.specs.Rows.{domainIn};
-ghost use Rattle.cards.specs.FileOf.{discoverOf, phyFrame, physFrames, unitHead, unitsOf, fileOf};
+ghost use Rattle.cards.specs.FileOf.{discoverOf, phyFrame, physFrames, unitHead, unitsOf, fileOf, headBytes};
 ghost use Rattle.cards.specs.Calls.{fileFor, MadeDone};
 
 // How many bytes stand before the frames of an expander's phys: its address and a short REPORT GENERAL response.
@@ -38,7 +40,7 @@ fn discover_of(ownAddress: u64, p: PhyId, x: PhyFields) -> Discover
 
 // Writes the DISCOVER response of phy p of the expander with address `ownAddress` into 52 bytes.
 fn put_phy(frame: &mut [u8], ownAddress: u64, p: PhyId, f: Phy)
-    requires { ⌜ length (now frame) ≡ 52 ⌝ }
+    requires { ⌜ length (now frame) ≡ shortSize DiscoverResponse ⌝ }
     ensures { λ _. ⌜ now (frame .exit) ≡ phyFrame ownAddress (p .0) f ⌝ }
 {
     match f {
@@ -53,7 +55,7 @@ fn put_phy(frame: &mut [u8], ownAddress: u64, p: PhyId, f: Phy)
 
 // Writes expander i's address and its REPORT GENERAL response from byte `to` on.
 fn put_head(file: &mut [u8], to: usize, rows: &[u64], i: ExpanderNumber)
-    requires { ⌜ (to < 1000000) × (to + 36 ≤ length (now file)) ⌝ }
+    requires { ⌜ (to < 1000000) × (to + headBytes ≤ length (now file)) ⌝ }
     ensures { λ _. ⌜ now (file .exit) ≡ sets (now (file .entry)) to (unitHead (expanderAt (domainIn (now (rows .entry))) (i .0))) ⌝ }
 {
     let g = General {
@@ -69,7 +71,7 @@ fn put_head(file: &mut [u8], to: usize, rows: &[u64], i: ExpanderNumber)
 
 // Writes the DISCOVER responses of expander i's phys from byte `to` on.
 fn put_frames(file: &mut [u8], to: usize, rows: &[u64], i: ExpanderNumber)
-    requires { ⌜ (to < 1000000) × (to + 52 * length (expanderAt (domainIn (now rows)) (i .0) .phys) ≤ length (now file)) ⌝ }
+    requires { ⌜ (to < 1000000) × (to + shortSize DiscoverResponse * length (expanderAt (domainIn (now rows)) (i .0) .phys) ≤ length (now file)) ⌝ }
     ensures { λ _. ⌜ now (file .exit) ≡ sets (now (file .entry)) to (physFrames (expanderAt (domainIn (now (rows .entry))) (i .0) .address) 0 (expanderAt (domainIn (now (rows .entry))) (i .0) .phys)) ⌝ }
 {
     let own_address = wiring::expander_address(rows, i);

@@ -3,6 +3,8 @@ use wiring::Discover;
 use wiring::General;
 ghost use mathlib.Core.Path.{_≡_};
 ghost use lib.ListN.{length, replicate};
+ghost use Rattle.frames.specs.Sizes.{shortSize};
+ghost use Rattle.frames.specs.declared.Response.the-variants.{ReportGeneral, Discover as DiscoverResponse};
 ghost use Rattle.cards.specs.ShortFrames.{shortGeneral, shortVacant, shortDiscover};
 
 // Zeros in every byte.
@@ -18,7 +20,7 @@ fn clear(frame: &mut [u8])
 
 // Writes a REPORT GENERAL response into 28 bytes.
 pub(crate) fn put_general(frame: &mut [u8], g: General)
-    requires { ⌜ length (now frame) ≡ 28 ⌝ }
+    requires { ⌜ length (now frame) ≡ shortSize ReportGeneral ⌝ }
     ensures { λ _. ⌜ now (frame .exit) ≡ shortGeneral g ⌝ }
 {
     clear(frame);
@@ -31,7 +33,7 @@ pub(crate) fn put_general(frame: &mut [u8], g: General)
 
 // Writes the DISCOVER response of a vacant phy into 52 bytes.
 pub(crate) fn put_vacant(frame: &mut [u8], result: u8)
-    requires { ⌜ length (now frame) ≡ 52 ⌝ }
+    requires { ⌜ length (now frame) ≡ shortSize DiscoverResponse ⌝ }
     ensures { λ _. ⌜ now (frame .exit) ≡ shortVacant result ⌝ }
 {
     clear(frame);
@@ -42,7 +44,7 @@ pub(crate) fn put_vacant(frame: &mut [u8], result: u8)
 
 // Writes the DISCOVER response of a phy that is not vacant into 52 bytes.
 pub(crate) fn put_discover(frame: &mut [u8], d: Discover)
-    requires { ⌜ length (now frame) ≡ 52 ⌝ }
+    requires { ⌜ length (now frame) ≡ shortSize DiscoverResponse ⌝ }
     ensures { λ _. ⌜ now (frame .exit) ≡ shortDiscover d ⌝ }
 {
     clear(frame);

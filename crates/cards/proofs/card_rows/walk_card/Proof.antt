@@ -4,6 +4,7 @@ use mathlib.Core.Path.{_≡_, refl, sym, _∙_}
 use native.Mathlib.Omega.{arith}
 use lib.ListN.{length, drop, length-set, length-take, length-drop}
 use lib.Seq.{length-take-le}
+use Rattle.files.specs.Rows.{rowWords}
 use borrow.Author.Needs.{needs}
 use borrow.Rule.Slice.PartMut.{same-len-mid}
 use Rattle.frames.specs.Bits.{bitsOf}
@@ -85,11 +86,11 @@ loop-again c =
     let a = c .before .before .before .before .before .before .before .before .before .before .before .before .before .args in
     let r = c .before .before .before .before .before .before .put-row in
     let w = walk-goes (a .most) (bitsOf (a .card .now)) (a .rows .now) (domainOn (bitsOf (a .card .now))) (a .n) (l .i) (l .at) (l .rows) (l .used) (l .fine) (l .check) (l .inv .1)
-    (bits-bitsOf (a .card .now)) (at-unit-from .result) (r .result) (r .last .0) (258 * l .i) (258 * l .i + 258 - 258 * l .i) (c .before .before .check-unit .result) (c .before .first .result) (omega arith) (r .ensures) (at-unit-from .ensures .0)
+    (bits-bitsOf (a .card .now)) (at-unit-from .result) (r .result) (r .last .0) (rowWords * l .i) (rowWords * l .i + rowWords - rowWords * l .i) (c .before .before .check-unit .result) (c .before .first .result) (omega arith) (r .ensures) (at-unit-from .ensures .0)
     (c .before .before .check-unit .ensures) (c .before .first .ensures) (omega (arith, at-pre .0 .1, l .inv .0 .0 .1)) refl (omega arith) (omega (arith, at-pre .1, l .inv .0 .1 .0)) in (
       (
         (omega arith, simp length-set (l .inv .0 .0 .1)),
-        (same-len-mid (258 * l .i) (258 * l .i + 258 - 258 * l .i) (l .rows) (r .last .0) (r .kept .0) ∙ l .inv .0 .1 .0, omega (arith, w .1)),
+        (same-len-mid (rowWords * l .i) (rowWords * l .i + rowWords - rowWords * l .i) (l .rows) (r .last .0) (r .kept .0) ∙ l .inv .0 .1 .0, omega (arith, w .1)),
       ),
       w .0,
     )

@@ -5,6 +5,8 @@ use Prim.Native.Nat.{ℕ, _+_, _-_, _*_, _≤_}
 use mathlib.Core.Path.{_≡_, refl, _∙_}
 use lib.ListN.{length, drop, length-take, length-drop}
 use lib.Seq.{sets}
+use Rattle.frames.specs.Sizes.{shortSize}
+use Rattle.frames.specs.declared.Response.the-variants.{Discover as DiscoverResponse}
 use Rattle.files.specs.Domain.{expanderAt}
 use Rattle.files.specs.Rows.{domainIn}
 use borrow.Rule.Slice.PartMut.{same-len-mid}
@@ -16,14 +18,14 @@ use Rattle.cards.proofs.file_writing.put_frames.Tie as tie
 abbrev Inv-loop : tie.InvT-loop
 Inv-loop file₀ to rows i ownAddress n p₀ file p =
     (p ≤ n) × (((n ≡ length (expanderAt (domainIn rows) (i .0) .phys)) × (n ≤ 128)) × ((ownAddress ≡ expanderAt (domainIn rows) (i .0) .address) × ((length file ≡ length file₀)
-    × (sets file (to + 52 * p) (physFrames (expanderAt (domainIn rows) (i .0) .address) p (drop p (expanderAt (domainIn rows) (i .0) .phys)))
+    × (sets file (to + shortSize DiscoverResponse * p) (physFrames (expanderAt (domainIn rows) (i .0) .address) p (drop p (expanderAt (domainIn rows) (i .0) .phys)))
     ≡ sets file₀ to (physFrames (expanderAt (domainIn rows) (i .0) .address) 0 (expanderAt (domainIn rows) (i .0) .phys))))))
 
 abbrev μ-loop : tie.MeasureT-loop
 μ-loop file₀ to rows i ownAddress n p₀ file p = n - p
 
 loop-holds : tie.Need-loop-holds Inv-loop μ-loop
-loop-holds c = let f : c .before .before .before .before .args .to + 52 * 0 ≡ c .before .before .before .before .args .to = omega arith in (omega arith, (c .phy-count .ensures, (c .before .expander-address .ensures, (refl, rw f))))
+loop-holds c = let f : c .before .before .before .before .args .to + shortSize DiscoverResponse * 0 ≡ c .before .before .before .before .args .to = omega arith in (omega arith, (c .phy-count .ensures, (c .before .expander-address .ensures, (refl, rw f))))
 
 mul-a : tie.Need-mul-a Inv-loop μ-loop
 mul-a c = omega arith
@@ -56,7 +58,7 @@ loop-again : tie.Need-loop-again Inv-loop μ-loop
 loop-again c =
     let l = c .before .before .before .before .before .before .loop in
     let x = c .before .before .before .before .before .before .before .before .before .before .before .args in
-    let a : ℕ = x .to + 52 * l .p in
+    let a : ℕ = x .to + shortSize DiscoverResponse * l .p in
     let r = c .before .before .put-phy in
     let q = l .inv .1 .0 .0 in (
       omega arith,
@@ -65,8 +67,8 @@ loop-again c =
         (
           l .inv .1 .1 .0,
           (
-            same-len-mid a (a + 52 - a) (l .file) (r .last .0) (r .kept .0) ∙ l .inv .1 .1 .1 .0,
-            frames-go (expanderAt (domainIn (x .rows .now)) (x .i .0) .phys) (l .file) _ (r .last .0) _ _ (l .p) (x .to) a (a + 52 - a) _ (omega arith) (omega arith) (l .inv .1 .1 .0) (c .before .before .before .before .phy-at .ensures) (l .inv .1 .1 .1 .1) refl (omega arith) (r .ensures),
+            same-len-mid a (a + shortSize DiscoverResponse - a) (l .file) (r .last .0) (r .kept .0) ∙ l .inv .1 .1 .1 .0,
+            frames-go (expanderAt (domainIn (x .rows .now)) (x .i .0) .phys) (l .file) _ (r .last .0) _ _ (l .p) (x .to) a (a + shortSize DiscoverResponse - a) _ (omega arith) (omega arith) (l .inv .1 .1 .0) (c .before .before .before .before .phy-at .ensures) (l .inv .1 .1 .1 .1) refl (omega arith) (r .ensures),
           ),
         ),
       ),

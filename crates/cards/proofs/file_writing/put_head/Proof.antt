@@ -13,6 +13,7 @@ use Rattle.files.specs.Rows.{domainIn}
 use Rattle.cards.proofs.FilePuts.{front-whole, head-put, general-same}
 use Rattle.cards.proofs.file_writing.put_head.Statement.{statement}
 use Rattle.cards.proofs.file_writing.put_head.Tie as tie
+use Rattle.cards.specs.FileOf.{headBytes}
 
 add-m : tie.Need-add-m
 add-m c = omega arith
@@ -48,7 +49,7 @@ same-length c =
     let a = c .before .before .before .before .before .before .before .before .before .before .before .before .before .before .args in
     let t = a .to in
     let s = putMid t (t + 8 - t) (a .file .now) (at-put-address .last .0) in
-    same-len-mid (t + 8) (t + 36 - (t + 8)) s (c .before .before .put-general .last .0) (c .before .before .put-general .kept .0) ∙ same-len-mid t (t + 8 - t) (a .file .now) (at-put-address .last .0) (at-put-address .kept .0)
+    same-len-mid (t + 8) (t + headBytes - (t + 8)) s (c .before .before .put-general .last .0) (c .before .before .put-general .kept .0) ∙ same-len-mid t (t + 8 - t) (a .file .now) (at-put-address .last .0) (at-put-address .kept .0)
 
 returns : tie.Need-returns
 returns c =
@@ -68,7 +69,7 @@ returns c =
     let gen : General = record { routeIndexes = at-route-indexes .result; phys = at-phy-count .result; configurable = at-configurable-bit .result } in
     let f1 = at-put-address .ensures ∙ front-whole (bytesOf 8 x) (take (t + 8 - t) (drop t (a .file .now))) (simp (length-take, length-drop) (omega (arith, length-bytesOf 8 x))) in
     let f2 = c .before .before .put-general .ensures in
-    head-put e (a .file .now) s _ (at-put-address .last .0) (c .before .before .put-general .last .0) t (t + 8 - t) (t + 36 - (t + 8)) x gen (at-pre .1) n (at-expander-address .ensures) g (omega arith) f1 refl (omega arith) f2 refl
+    head-put e (a .file .now) s _ (at-put-address .last .0) (c .before .before .put-general .last .0) t (t + 8 - t) (t + headBytes - (t + 8)) x gen (at-pre .1) n (at-expander-address .ensures) g (omega arith) f1 refl (omega arith) f2 refl
 
 route-indexes-requires : tie.Need-route-indexes-requires
 route-indexes-requires c κs = search needs

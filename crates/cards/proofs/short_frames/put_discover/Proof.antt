@@ -7,6 +7,8 @@ use lib.ListN.{replicate, set, length-set}
 use borrow.Author.Needs.{needs}
 use borrow.Rule.Slice.PartMut.{putMid, same-len-mid}
 use Rattle.frames.specs.Bytes.{bytesOf}
+use Rattle.frames.specs.Sizes.{shortSize}
+use Rattle.frames.specs.declared.Response.the-variants.{Discover as DiscoverResponse}
 use Rattle.cards.specs.ShortFrames.{shortDiscover}
 use Rattle.cards.proofs.ShortFrames.{length-stored}
 use Rattle.cards.proofs.short_frames.put_discover.Statement.{statement}
@@ -82,7 +84,7 @@ returns c =
     let at-clear = c .before .before .before .before .before .before .before .before .before .before .before .before .clear in
     let at-pre = c .before .before .before .before .before .before .before .before .before .before .before .before .before .before .before .pre in
     let at-put-address = c .before .before .before .before .before .before .put-address in
-    let z : at-clear .last .0 ≡ replicate 52 0 = at-clear .ensures ∙ ap (λ (n : ℕ). replicate n 0) at-pre in
+    let z : at-clear .last .0 ≡ replicate (shortSize DiscoverResponse) 0 = at-clear .ensures ∙ ap (λ (n : ℕ). replicate n 0) at-pre in
     simp (c .before .before .put-address2 .ensures, at-put-address .ensures, z)
 
 pub put-discover-spec : {M : Type 1} → statement M

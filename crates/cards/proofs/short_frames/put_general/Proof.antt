@@ -5,6 +5,8 @@ use native.Mathlib.Omega.{arith}
 use lib.ListN.{replicate, length-set}
 use borrow.Author.Needs.{needs}
 use Rattle.frames.specs.Bytes.{bytesOf}
+use Rattle.frames.specs.Sizes.{shortSize}
+use Rattle.frames.specs.declared.Response.the-variants.{ReportGeneral}
 use Rattle.cards.specs.ShortFrames.{shortGeneral}
 use Rattle.cards.proofs.short_frames.put_general.Statement.{statement}
 use Rattle.cards.proofs.short_frames.put_general.Tie as tie
@@ -40,7 +42,7 @@ returns : tie.Need-returns
 unfolding shortGeneral bytesOf
 returns c =
     let at-pre = c .before .before .before .before .before .before .before .pre in
-    let z : c .before .before .before .before .clear .last .0 ≡ replicate 28 0 = c .before .before .before .before .clear .ensures ∙ ap (λ (n : ℕ). replicate n 0) at-pre in
+    let z : c .before .before .before .before .clear .last .0 ≡ replicate (shortSize ReportGeneral) 0 = c .before .before .before .before .clear .ensures ∙ ap (λ (n : ℕ). replicate n 0) at-pre in
     simp z
 
 pub put-general-spec : {M : Type 1} → statement M

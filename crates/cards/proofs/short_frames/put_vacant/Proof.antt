@@ -3,6 +3,8 @@ use Prim.Native.Nat.{ℕ}
 use mathlib.Core.Path.{_≡_, _∙_, ap}
 use native.Mathlib.Omega.{arith}
 use lib.ListN.{replicate, length-set}
+use Rattle.frames.specs.Sizes.{shortSize}
+use Rattle.frames.specs.declared.Response.the-variants.{Discover as DiscoverResponse}
 use borrow.Author.Needs.{needs}
 use Rattle.cards.specs.ShortFrames.{shortVacant}
 use Rattle.cards.proofs.short_frames.put_vacant.Statement.{statement}
@@ -26,7 +28,7 @@ same-length c = simp length-set (c .before .before .clear .kept .0)
 returns : tie.Need-returns
 unfolding shortVacant
 returns c =
-    let z : c .before .before .clear .last .0 ≡ replicate 52 0 = c .before .before .clear .ensures ∙ ap (λ (n : ℕ). replicate n 0) (c .before .before .before .before .before .pre) in
+    let z : c .before .before .clear .last .0 ≡ replicate (shortSize DiscoverResponse) 0 = c .before .before .clear .ensures ∙ ap (λ (n : ℕ). replicate n 0) (c .before .before .before .before .before .pre) in
     simp z
 
 pub put-vacant-spec : {M : Type 1} → statement M
