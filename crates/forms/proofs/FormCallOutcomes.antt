@@ -25,6 +25,7 @@ use Rattle.wiring.specs.index.AddressIndex.{IndexRoom}
 use Rattle.files.proofs.SettingRanges.{range-iff}
 use Rattle.files.proofs.CallResults.{never, both}
 use Rattle.files.proofs.ListMembers.{was-true, getD-in}
+use Rattle.files.specs.Rows.{rowWords}
 use Rattle.wiring.proofs.phys.WiredPhys.{Wired, far-below}
 use Rattle.tables.specs.declared.TablesGiven.{TablesGiven}
 use Rattle.tables.specs.declared.TablesGiven.the-variants.{Refused as NotGiven, Counts}
@@ -286,5 +287,5 @@ module _ (x : Result Domain) (d : Domain) (before after : List ℕ) where
   rows-made n w e h qn qw a = rw (e, le-leb (length (formOf d)) (length before) h, qn, qw) (record { answers = refl; words = a })
 
 -- room for at most so many expanders
-pub form-room : (ws rows first low : List ℕ) (n m : ℕ) → n ≡ length (formIn ws) → n ≤ m → 258 * m ≤ length rows → slotsBefore m ≤ length first → 128 * m ≤ length low → FormRoom ws n rows first low
+pub form-room : (ws rows first low : List ℕ) (n m : ℕ) → n ≡ length (formIn ws) → n ≤ m → rowWords * m ≤ length rows → slotsBefore m ≤ length first → 128 * m ≤ length low → FormRoom ws n rows first low
 form-room ws rows first low n m e h a b c = record { count = e; space = omega arith; index = record { slots = omega arith; phys = omega arith } }

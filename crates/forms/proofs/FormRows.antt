@@ -15,7 +15,7 @@ use Rattle.frames.proofs.ValuesPut.{sets-front}
 use Rattle.files.specs.declared.Phy.{Phy}
 use Rattle.files.specs.declared.Phy.the-variants.{Vacant, Present}
 use Rattle.files.specs.Domain.{Expander, Domain, addressOf}
-use Rattle.files.specs.Rows.{phyWord, phyWords, headWord, phyIn, physIn, rowIn, rowsIn, domainIn}
+use Rattle.files.specs.Rows.{phyWord, phyWords, headWord, phyIn, physIn, rowIn, rowsIn, domainIn, rowWords}
 use Rattle.files.proofs.RowFilling.{length-phyWords}
 use Rattle.files.proofs.RowsRoundTrip.{low}
 use Rattle.files.proofs.RowsAsDomain.{length-rowsIn}
@@ -148,7 +148,7 @@ module _ (ws : List ℕ) (at n a r w : ℕ) (qn : n ≡ countIn (drop at ws)) (q
       (ap (λ (k : ℕ). physIn k ((phyWords (physBack n (drop (at + 2) ws)) ++ m) ++ rest)) y
       ∙ ap (physIn n) (append-assoc (phyWords (physBack n (drop (at + 2) ws))) m rest) ∙ phys-held n (drop (at + 2) ws) (m ++ rest))
 
-  pub row-held : (l row : List ℕ) → length l ≡ 258 → n ≤ 128 → row ≡ sets (set (set l 0 a) 1 w) 2 (phyWords (physBack n (drop (at + 2) ws))) → RowHolds (expanderBack (drop at ws)) row
+  pub row-held : (l row : List ℕ) → length l ≡ rowWords → n ≤ 128 → row ≡ sets (set (set l 0 a) 1 w) 2 (phyWords (physBack n (drop (at + 2) ws))) → RowHolds (expanderBack (drop at ws)) row
   row-held l row k h e rest =
       let c = length-phyWords (physBack n (drop (at + 2) ws)) in
       let d = length-physBack n (drop (at + 2) ws) in
@@ -156,12 +156,12 @@ module _ (ws : List ℕ) (at n a r w : ℕ) (qn : n ≡ countIn (drop at ws)) (q
       ap (λ (x : List ℕ). rowIn (x ++ rest)) (e ∙ sets-front vs l (omega arith)) ∙ row-as (drop (length vs) l) rest h ∙ expander-as
 
 -- rows
-rows-last : (i : ℕ) (ws : List ℕ) → rowsIn (suc i) ws ≡ rowsIn i ws ++ (rowIn (drop (258 * i) ws) ∷ [])
+rows-last : (i : ℕ) (ws : List ℕ) → rowsIn (suc i) ws ≡ rowsIn i ws ++ (rowIn (drop (rowWords * i) ws) ∷ [])
 unfolding rowsIn rowIn
-rows-last zero ws = let e : 258 * 0 ≡ 0 = omega arith in rw e refl
+rows-last zero ws = let e : rowWords * 0 ≡ 0 = omega arith in rw e refl
 rows-last (suc i) ws =
-    let e : 258 + 258 * i ≡ 258 * suc i = omega arith in
-    ap (λ (l : Domain). rowIn ws ∷ l) (rows-last i (drop 258 ws) ∙ ap (λ (l : List ℕ). rowsIn i (drop 258 ws) ++ (rowIn l ∷ [])) (drop-drop (258 * i) 258 ws ∙ ap (λ (k : ℕ). drop k ws) e))
+    let e : rowWords + rowWords * i ≡ rowWords * suc i = omega arith in
+    ap (λ (l : Domain). rowIn ws ∷ l) (rows-last i (drop rowWords ws) ∙ ap (λ (l : List ℕ). rowsIn i (drop rowWords ws) ++ (rowIn l ∷ [])) (drop-drop (rowWords * i) rowWords ws ∙ ap (λ (k : ℕ). drop k ws) e))
 
 -- the expanders that are left
 back-cons : (m : ℕ) (l : List ℕ) → 0 < length (expandersBack m l) → (0 < m) × ((0 < length l) × (expandersBack m l ≡ expanderBack l ∷ expandersBack (m - 1) (drop (2 + 2 * countIn l) l)))
@@ -219,7 +219,7 @@ count-start ws = let e : 64 - 0 ≡ 64 = omega arith in rw e (omega arith)
 
 -- the first i rows hold the first i expanders, whatever follows, and the rest of the words are the rest
 abbrev pub Filled : List ℕ → ℕ → ℕ → List ℕ → Type 0
-Filled ws i at rows = (rest : List ℕ) → rowsIn i (take (258 * i) rows ++ rest) ++ expandersBack (64 - i) (drop at ws) ≡ formIn ws
+Filled ws i at rows = (rest : List ℕ) → rowsIn i (take (rowWords * i) rows ++ rest) ++ expandersBack (64 - i) (drop at ws) ≡ formIn ws
 
 pub filled-start : (ws rows : List ℕ) → Filled ws 0 0 rows
 unfolding formIn rowsIn
@@ -228,37 +228,37 @@ filled-start ws rows rest = let e : 64 - 0 ≡ 64 = omega arith in rw e refl
 module _ (ws rows : List ℕ) (i at : ℕ) (inv : Filled ws i at rows) where
   left : i + length (expandersBack (64 - i) (drop at ws)) ≡ length (formIn ws)
   left =
-      let l = length-append (rowsIn i (take (258 * i) rows ++ [])) (expandersBack (64 - i) (drop at ws)) in
-      omega (arith, ap length (inv []), length-rowsIn i (take (258 * i) rows ++ []))
+      let l = length-append (rowsIn i (take (rowWords * i) rows ++ [])) (expandersBack (64 - i) (drop at ws)) in
+      omega (arith, ap length (inv []), length-rowsIn i (take (rowWords * i) rows ++ []))
 
-  pub filled-go : (r : List ℕ) (next a k : ℕ) → RowHolds (expanderBack (drop at ws)) r → length r ≡ 258 → next ≡ at + (2 + 2 * countIn (drop at ws)) → a ≡ 258 * i → k ≡ 258
-      → 258 * i + 258 ≤ length rows → i < length (formIn ws) → Filled ws (i + 1) next (take a rows ++ (r ++ drop k (drop a rows)))
+  pub filled-go : (r : List ℕ) (next a k : ℕ) → RowHolds (expanderBack (drop at ws)) r → length r ≡ rowWords → next ≡ at + (2 + 2 * countIn (drop at ws)) → a ≡ rowWords * i → k ≡ rowWords
+      → rowWords * i + rowWords ≤ length rows → i < length (formIn ws) → Filled ws (i + 1) next (take a rows ++ (r ++ drop k (drop a rows)))
   filled-go r next a k holds lr q qa qk room h rest =
-      let P : List ℕ = take (258 * i) rows in
+      let P : List ℕ = take (rowWords * i) rows in
       let D : List ℕ = drop k (drop a rows) in
       let e : Expander = expanderBack (drop at ws) in
       let more : Domain = expandersBack (64 - (i + 1)) (drop next ws) in
-      let lp : length P ≡ 258 * i = length-take-le (258 * i) rows (omega arith) in
-      let lpr : length (P ++ r) ≡ 258 * (i + 1) = length-append P r ∙ omega arith in
-      let t : take (258 * (i + 1)) (take a rows ++ (r ++ D)) ≡ P ++ r =
-      ap (λ (m : ℕ). take (258 * (i + 1)) (take m rows ++ (r ++ D))) qa ∙ ap (take (258 * (i + 1))) (sym (append-assoc P r D)) ∙ take-at (P ++ r) D (258 * (i + 1)) lpr in
+      let lp : length P ≡ rowWords * i = length-take-le (rowWords * i) rows (omega arith) in
+      let lpr : length (P ++ r) ≡ rowWords * (i + 1) = length-append P r ∙ omega arith in
+      let t : take (rowWords * (i + 1)) (take a rows ++ (r ++ D)) ≡ P ++ r =
+      ap (λ (m : ℕ). take (rowWords * (i + 1)) (take m rows ++ (r ++ D))) qa ∙ ap (take (rowWords * (i + 1))) (sym (append-assoc P r D)) ∙ take-at (P ++ r) D (rowWords * (i + 1)) lpr in
       let s : i + 1 ≡ suc i = add-one i in
       let u : (P ++ r) ++ rest ≡ P ++ (r ++ rest) = append-assoc P r rest in
       let v : rowsIn (i + 1) ((P ++ r) ++ rest) ≡ rowsIn i (P ++ (r ++ rest)) ++ (e ∷ []) =
       ap (rowsIn (i + 1)) u ∙ ap (λ (m : ℕ). rowsIn m (P ++ (r ++ rest))) s ∙ rows-last i (P ++ (r ++ rest))
-      ∙ ap (λ (x : List ℕ). rowsIn i (P ++ (r ++ rest)) ++ (rowIn x ∷ [])) (drop-at P (r ++ rest) (258 * i) lp)
+      ∙ ap (λ (x : List ℕ). rowsIn i (P ++ (r ++ rest)) ++ (rowIn x ∷ [])) (drop-at P (r ++ rest) (rowWords * i) lp)
       ∙ ap (λ (x : Expander). rowsIn i (P ++ (r ++ rest)) ++ (x ∷ [])) (holds rest) in
       let b = back-next ws i at next (omega (arith, left)) q in
       ap (λ (x : List ℕ). rowsIn (i + 1) (x ++ rest) ++ more) t ∙ ap (λ (x : Domain). x ++ more) v
       ∙ append-assoc (rowsIn i (P ++ (r ++ rest))) (e ∷ []) more ∙ ap (λ (x : Domain). rowsIn i (P ++ (r ++ rest)) ++ x) (sym b) ∙ inv (r ++ rest)
 
-  pub filled-end : length (formIn ws) ≤ i → i ≤ 64 → 258 * i ≤ length rows → domainIn (take (258 * i) rows) ≡ formIn ws
+  pub filled-end : length (formIn ws) ≤ i → i ≤ 64 → rowWords * i ≤ length rows → domainIn (take (rowWords * i) rows) ≡ formIn ws
   unfolding domainIn
   filled-end h f room =
-      let T : List ℕ = take (258 * i) rows in
+      let T : List ℕ = take (rowWords * i) rows in
       let z : expandersBack (64 - i) (drop at ws) ≡ [] = none (expandersBack (64 - i) (drop at ws)) (omega (arith, left)) in
-      let l : length T ≡ 258 * i = length-take-le (258 * i) rows room in
-      let n : min 64 (length T / 258) ≡ i = omega arith in
+      let l : length T ≡ rowWords * i = length-take-le (rowWords * i) rows room in
+      let n : min 64 (length T / rowWords) ≡ i = omega arith in
       ap (λ (m : ℕ). rowsIn m T) n ∙ ap (rowsIn i) (sym (append-nil T)) ∙ sym (append-nil (rowsIn i (T ++ []))) ∙ ap (λ (x : Domain). rowsIn i (T ++ []) ++ x) (sym z) ∙ inv []
     where
       none : (d : Domain) → length d ≡ 0 → d ≡ []

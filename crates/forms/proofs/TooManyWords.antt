@@ -10,6 +10,7 @@ use Rattle.files.specs.declared.Setting.{Setting}
 use Rattle.files.specs.Settings.{inRange}
 use Rattle.files.specs.Domain.{Domain}
 use Rattle.files.proofs.ListMembers.{by-test}
+use Rattle.files.specs.Rows.{rowWords, mostRowWords}
 use Rattle.tables.specs.declared.TablesGiven.{TablesGiven}
 use Rattle.tables.specs.filling.Entries.{Entries, Room}
 use Rattle.tables.specs.JudgingCall.{judgedDomain, tablesFor, TablesDone}
@@ -27,7 +28,7 @@ phys-few : (ws : List ℕ) → length (expanderBack ws .phys) ≤ 128
 unfolding expanderBack
 phys-few ws = omega (arith, length-physBack (countIn ws) (drop 2 ws))
 
-size-few : (d : Domain) (m : ℕ) (ws : List ℕ) → length (formExpanders d (expandersBack m ws)) ≤ 258 * m
+size-few : (d : Domain) (m : ℕ) (ws : List ℕ) → length (formExpanders d (expandersBack m ws)) ≤ rowWords * m
 unfolding formExpanders expandersBack
 size-few d zero ws = omega arith
 size-few d (suc m) [] = omega arith
@@ -35,7 +36,7 @@ size-few d (suc m) (w ∷ ws) =
     let more : List ℕ = drop (2 + 2 * countIn (w ∷ ws)) (w ∷ ws) in
     omega (arith, phys-few (w ∷ ws), size-few d m more, length-formPhys d (expanderBack (w ∷ ws) .phys), length-append (formPhys d (expanderBack (w ∷ ws) .phys)) (formExpanders d (expandersBack m more)))
 
-form-few-words : (ws : List ℕ) → length (formOf (formIn ws)) ≤ 16512
+form-few-words : (ws : List ℕ) → length (formOf (formIn ws)) ≤ mostRowWords
 unfolding formOf formIn
 form-few-words ws = omega (arith, size-few (expandersBack 64 ws) 64 ws)
 
@@ -43,7 +44,7 @@ none-formed : (most : Setting) → formed most [] ≡ false
 unfolding formed unread formIn expandersBack
 none-formed most = refl
 
-long-formed : (most : Setting) (ws : List ℕ) → 16512 < length ws → formed most ws ≡ false
+long-formed : (most : Setting) (ws : List ℕ) → mostRowWords < length ws → formed most ws ≡ false
 unfolding formed
 long-formed most ws h =
     let s : sameWords (formOf (formIn ws)) ws ≡ false =
@@ -54,7 +55,7 @@ long-formed most ws h =
     go true = refl
     go false = refl
 
-module _ (most : Setting) (ws : List ℕ) (h : 16512 < length ws) where
+module _ (most : Setting) (ws : List ℕ) (h : mostRowWords < length ws) where
   long-read : formRead most ws ≡ formRead most []
   unfolding formRead
   long-read =

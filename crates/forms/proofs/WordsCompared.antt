@@ -14,7 +14,7 @@ use Rattle.files.specs.declared.Phy.{Phy}
 use Rattle.files.specs.declared.Phy.the-variants.{Vacant, Present}
 use Rattle.files.specs.declared.PhyFields.{PhyFields}
 use Rattle.files.specs.Domain.{Domain, noExpander, addressOf, expanderAt}
-use Rattle.files.specs.Rows.{phyIn, physIn, rowIn, rowsIn, domainIn}
+use Rattle.files.specs.Rows.{phyIn, physIn, rowIn, rowsIn, domainIn, rowWords}
 use Rattle.files.specs.declared.Setting.{Setting}
 use Rattle.forms.specs.Form.{headField, phyField, formIn}
 use Rattle.forms.specs.FormCalls.{unread}
@@ -42,11 +42,11 @@ rowsIn-small : (n : ℕ) (ws : List ℕ) (i p : ℕ) → SmallPhy (getD (expande
 unfolding rowsIn
 rowsIn-small zero ws i p = omega arith
 rowsIn-small (suc n) ws zero p = rowIn-small ws p
-rowsIn-small (suc n) ws (suc i) p = rowsIn-small n (drop 258 ws) i p
+rowsIn-small (suc n) ws (suc i) p = rowsIn-small n (drop rowWords ws) i p
 
 pub rows-small : (ws : List ℕ) (i p : ℕ) → SmallPhy (getD (expanderAt (domainIn ws) i .phys) p (Vacant 0))
 unfolding domainIn
-rows-small ws i p = rowsIn-small (min 64 (length ws / 258)) ws i p
+rows-small ws i p = rowsIn-small (min 64 (length ws / rowWords)) ws i p
 
 -- one second word
 module _ (d : Domain) (f : PhyFields) (v : ℕ) where

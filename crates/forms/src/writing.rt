@@ -8,7 +8,7 @@ ghost use Prim.Native.Nat.{_+_, _*_, _≤_, _<_};
 ghost use lib.ListN.{length, drop};
 ghost use lib.Seq.{sets};
 ghost use Rattle.files.specs.Domain.{expanderAt, phyAt};
-ghost use Rattle.files.specs.Rows.{domainIn};
+ghost use Rattle.files.specs.Rows.{domainIn, mostRowWords};
 ghost use Rattle.wiring.specs.index.AddressIndex.{IndexedFirst};
 ghost use Rattle.forms.specs.Form.{headField, phyField, formPhy, formPhys, formOf, FormPhysPut};
 
@@ -65,7 +65,7 @@ fn put_phys(rows: &[u64], first: &[u16], i: ExpanderNumber, words: &mut [u64], a
 
 // How many words the form of the domain in rows has.
 pub(crate) fn form_size(rows: &[u64]) -> usize
-    ensures { λ r. ⌜ (r ≡ length (formOf (domainIn (now (rows .entry))))) × (r ≤ 16512) ⌝ }
+    ensures { λ r. ⌜ (r ≡ length (formOf (domainIn (now (rows .entry))))) × (r ≤ mostRowWords) ⌝ }
 {
     let n = wiring::expander_count(rows);
     let mut sum: usize = 0;

@@ -2,7 +2,7 @@
 use Prim.Native.Nat.{_-_, _*_, _≤_}
 use mathlib.Core.Path.{_≡_, refl, sym, _∙_}
 use lib.ListN.{drop}
-use Rattle.files.specs.Rows.{domainIn}
+use Rattle.files.specs.Rows.{domainIn, rowWords}
 use Rattle.forms.specs.FormRows.{rightExpanders}
 use borrow.Author.Tests.{not-true, not-false}
 use Rattle.forms.proofs.WordsCompared.{heads-address, heads-field, heads-phys, heads-go, heads-end, head-of}
@@ -12,7 +12,7 @@ use Rattle.forms.proofs.comparing.are_right.Statement.{statement}
 use Rattle.forms.proofs.comparing.are_right.Tie as tie
 
 abbrev Inv-loop : tie.InvT-loop
-Inv-loop rows ws n at₀ i₀ at i = (i ≤ n) × ((at ≤ 258 * i) × (rightExpanders (domainIn rows) (drop i (domainIn rows)) at ws ≡ rightExpanders (domainIn rows) (domainIn rows) 0 ws))
+Inv-loop rows ws n at₀ i₀ at i = (i ≤ n) × ((at ≤ rowWords * i) × (rightExpanders (domainIn rows) (drop i (domainIn rows)) at ws ≡ rightExpanders (domainIn rows) (domainIn rows) 0 ws))
 
 abbrev μ-loop : tie.MeasureT-loop
 μ-loop rows ws n at₀ i₀ at i = n - i

@@ -1,6 +1,9 @@
 -- list_few meets its contract: the room is enough for so many expanders.
-use Prim.Native.Nat.{ℕ, _-_}
+use Prim.Native.Nat.{ℕ, _-_, _*_}
 use lib.ListN.{length-replicate}
+use Rattle.wiring.specs.index.AddressIndex.{slotsBefore}
+use Rattle.files.specs.Rows.{rowWords}
+use Rattle.files.specs.Settings.{mostPhys}
 use Rattle.forms.proofs.FormCallOutcomes.{form-room}
 use borrow.Author.Needs.{needs}
 use native.Mathlib.Omega.{arith}
@@ -20,7 +23,7 @@ list-in-requires : tie.Need-list-in-requires
 list-in-requires c κs =
     let at-args = c .before .before .before .before .before .before .before .before .before .before .args in
     let at-pre = c .before .before .before .before .before .before .before .before .before .before .pre in
-    form-room (at-args .form .now) _ _ _ _ 2 (at-pre .0) (omega arith) (omega (arith, length-replicate {A = ℕ} 516 0)) (omega (arith, length-replicate {A = ℕ} 320 0)) (omega (arith, length-replicate {A = ℕ} 256 0))
+    form-room (at-args .form .now) _ _ _ _ 2 (at-pre .0) (omega arith) (omega (arith, length-replicate {A = ℕ} (2 * rowWords) 0)) (omega (arith, length-replicate {A = ℕ} (slotsBefore 2) 0)) (omega (arith, length-replicate {A = ℕ} (2 * mostPhys) 0))
 
 same-length : tie.Need-same-length
 same-length c = search needs
@@ -41,7 +44,7 @@ list-in-requires-2 : tie.Need-list-in-requires-2
 list-in-requires-2 c κs =
     let at-args = c .before .before .before .before .before .before .before .before .before .before .args in
     let at-pre = c .before .before .before .before .before .before .before .before .before .before .pre in
-    form-room (at-args .form .now) _ _ _ _ 8 (at-pre .0) (omega arith) (omega (arith, length-replicate {A = ℕ} 2064 0)) (omega (arith, length-replicate {A = ℕ} 1088 0)) (omega (arith, length-replicate {A = ℕ} 1024 0))
+    form-room (at-args .form .now) _ _ _ _ 8 (at-pre .0) (omega arith) (omega (arith, length-replicate {A = ℕ} (8 * rowWords) 0)) (omega (arith, length-replicate {A = ℕ} (slotsBefore 8) 0)) (omega (arith, length-replicate {A = ℕ} (8 * mostPhys) 0))
 
 same-length-2 : tie.Need-same-length-2
 same-length-2 c = search needs

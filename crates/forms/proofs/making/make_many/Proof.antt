@@ -2,7 +2,9 @@
 use Prim.Native.Nat.{ℕ, _-_}
 use lib.ListN.{length-replicate}
 use Rattle.files.proofs.ReadDomain.{read-good}
+use Rattle.files.specs.Rows.{mostRowWords}
 use Rattle.wiring.proofs.FileRows.{file-room}
+use Rattle.wiring.specs.index.AddressIndex.{mostSlots, mostDomainPhys}
 use borrow.Author.Needs.{needs}
 use native.Mathlib.Omega.{arith}
 use Rattle.forms.proofs.making.make_many.Statement.{statement}
@@ -20,7 +22,7 @@ slice-aggregate-make-in-3 c = search needs
 make-in-requires : tie.Need-make-in-requires
 make-in-requires c κs =
     let at-args = c .before .before .before .before .before .before .args in
-    file-room (at-args .setting) 64 (at-args .file .now) _ _ _ (λ d e. let g = read-good (at-args .setting) (at-args .file .now) d e in omega (arith, g .few, g .range .expanders .1)) (omega (arith, length-replicate {A = ℕ} 16512 0)) (omega (arith, length-replicate {A = ℕ} 8256 0)) (omega (arith, length-replicate {A = ℕ} 8192 0))
+    file-room (at-args .setting) 64 (at-args .file .now) _ _ _ (λ d e. let g = read-good (at-args .setting) (at-args .file .now) d e in omega (arith, g .few, g .range .expanders .1)) (omega (arith, length-replicate {A = ℕ} mostRowWords 0)) (omega (arith, length-replicate {A = ℕ} mostSlots 0)) (omega (arith, length-replicate {A = ℕ} mostDomainPhys 0))
 
 same-length : tie.Need-same-length
 same-length c = search needs

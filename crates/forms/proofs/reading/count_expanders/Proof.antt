@@ -2,6 +2,7 @@
 use Prim.Native.Nat.{ℕ, _+_, _-_, _*_, _≤_}
 use mathlib.Core.Path.{_≡_, ap}
 use lib.ListN.{length, drop}
+use Rattle.files.specs.Rows.{rowWords}
 use Rattle.forms.specs.Form.{expandersBack, formIn}
 use Rattle.forms.proofs.FormRows.{count-start, count-go, count-none, count-full}
 use native.Mathlib.Omega.{arith}
@@ -9,7 +10,7 @@ use Rattle.forms.proofs.reading.count_expanders.Statement.{statement}
 use Rattle.forms.proofs.reading.count_expanders.Tie as tie
 
 abbrev Inv-loop : tie.InvT-loop
-Inv-loop ws at₀ i₀ at i = (i ≤ 64) × ((at ≤ 258 * i) × (i + length (expandersBack (64 - i) (drop at ws)) ≡ length (formIn ws)))
+Inv-loop ws at₀ i₀ at i = (i ≤ 64) × ((at ≤ rowWords * i) × (i + length (expandersBack (64 - i) (drop at ws)) ≡ length (formIn ws)))
 
 abbrev μ-loop : tie.MeasureT-loop
 μ-loop ws at₀ i₀ at i = 64 - i

@@ -5,14 +5,14 @@ use lib.ListN.{length, take, length-take, length-drop}
 use borrow.Rule.Slice.PartMut.{same-len-mid}
 use Rattle.forms.specs.Form.{formIn}
 use Rattle.forms.proofs.FormRows.{Filled, form-few, filled-start, filled-go, filled-end}
-use Rattle.files.specs.Rows.{domainIn}
+use Rattle.files.specs.Rows.{domainIn, rowWords}
 use borrow.Author.Needs.{needs}
 use native.Mathlib.Omega.{arith}
 use Rattle.forms.proofs.reading.read_rows.Statement.{statement}
 use Rattle.forms.proofs.reading.read_rows.Tie as tie
 
 abbrev Inv-loop : tie.InvT-loop
-Inv-loop ws rows₀ n at₀ i₀ rows at i = (i ≤ n) × ((at ≤ 258 * i) × ((length rows ≡ length rows₀) × Filled ws i at rows))
+Inv-loop ws rows₀ n at₀ i₀ rows at i = (i ≤ n) × ((at ≤ rowWords * i) × ((length rows ≡ length rows₀) × Filled ws i at rows))
 
 abbrev μ-loop : tie.MeasureT-loop
 μ-loop ws rows₀ n at₀ i₀ rows at i = n - i
@@ -53,13 +53,13 @@ loop-less c = omega arith
 loop-again : tie.Need-loop-again Inv-loop μ-loop
 loop-again c =
     let at-args = c .before .before .before .before .before .before .before .before .args in
-    let l = (c .before .before .before .before .before .loop) in let r = (c .before .before .put-row) in let s : length (r .last .0) ≡ 258 = r .kept .0 ∙ simp (length-take, length-drop) (omega arith) in (omega arith, (omega (arith, r .ensures .1), (same-len-mid (258 * l .i) (258 * l .i + 258 - 258 * l .i) (l .rows) (r .last .0) (r .kept .0) ∙ l .inv .1 .1 .0, filled-go (at-args .ws .now) (l .rows) (l .i) (l .at) (l .inv .1 .1 .1) (r .last .0) _ (258 * l .i) (258 * l .i + 258 - 258 * l .i) (r .ensures .0) s (r .ensures .1) refl (omega arith) (omega arith) (omega arith))))
+    let l = (c .before .before .before .before .before .loop) in let r = (c .before .before .put-row) in let s : length (r .last .0) ≡ rowWords = r .kept .0 ∙ simp (length-take, length-drop) (omega arith) in (omega arith, (omega (arith, r .ensures .1), (same-len-mid (rowWords * l .i) (rowWords * l .i + rowWords - rowWords * l .i) (l .rows) (r .last .0) (r .kept .0) ∙ l .inv .1 .1 .0, filled-go (at-args .ws .now) (l .rows) (l .i) (l .at) (l .inv .1 .1 .1) (r .last .0) _ (rowWords * l .i) (rowWords * l .i + rowWords - rowWords * l .i) (r .ensures .0) s (r .ensures .1) refl (omega arith) (omega arith) (omega arith))))
 
 same-length : tie.Need-same-length Inv-loop μ-loop
 same-length c = search needs
 
 returns : tie.Need-returns Inv-loop μ-loop
-returns c = let l = (c .before .loop) in let e : l .i ≡ (c .before .before .before .before .args) .n = omega arith in subst (λ (k : ℕ). domainIn (take (258 * k) (l .rows)) ≡ formIn ((c .before .before .before .before .args) .ws .now)) e (filled-end ((c .before .before .before .before .args) .ws .now) (l .rows) (l .i) (l .at) (l .inv .1 .1 .1) (omega arith) (omega (arith, form-few ((c .before .before .before .before .args) .ws .now))) (omega arith))
+returns c = let l = (c .before .loop) in let e : l .i ≡ (c .before .before .before .before .args) .n = omega arith in subst (λ (k : ℕ). domainIn (take (rowWords * k) (l .rows)) ≡ formIn ((c .before .before .before .before .args) .ws .now)) e (filled-end ((c .before .before .before .before .args) .ws .now) (l .rows) (l .i) (l .at) (l .inv .1 .1 .1) (omega arith) (omega (arith, form-few ((c .before .before .before .before .args) .ws .now))) (omega arith))
 
 pub read-rows-spec : {M : Type 1} → statement M
 read-rows-spec = tie.close (tie.spec Inv-loop μ-loop loop-holds cast-a mul-a add-e mul-put-row sub-put-row part-put-row-start part-put-row-end put-row-requires add-i loop-less loop-again same-length returns)

@@ -1,6 +1,8 @@
 -- trace_many meets its contract: the room is enough for 64 expanders.
 use Prim.Native.Nat.{ℕ, _-_}
 use lib.ListN.{length-replicate}
+use Rattle.wiring.specs.index.AddressIndex.{mostSlots, mostDomainPhys}
+use Rattle.files.specs.Rows.{mostRowWords}
 use Rattle.forms.proofs.FormCallOutcomes.{form-room}
 use borrow.Author.Needs.{needs}
 use native.Mathlib.Omega.{arith}
@@ -20,7 +22,7 @@ trace-in-requires : tie.Need-trace-in-requires
 trace-in-requires c κs =
     let at-args = c .before .before .before .before .before .before .before .before .args in
     let at-pre = c .before .before .before .before .before .before .before .before .pre in
-    form-room (at-args .form .now) _ _ _ _ 64 (at-pre .0) (omega arith) (omega (arith, length-replicate {A = ℕ} 16512 0)) (omega (arith, length-replicate {A = ℕ} 8256 0)) (omega (arith, length-replicate {A = ℕ} 8192 0))
+    form-room (at-args .form .now) _ _ _ _ 64 (at-pre .0) (omega arith) (omega (arith, length-replicate {A = ℕ} mostRowWords 0)) (omega (arith, length-replicate {A = ℕ} mostSlots 0)) (omega (arith, length-replicate {A = ℕ} mostDomainPhys 0))
 
 same-length : tie.Need-same-length
 same-length c = search needs

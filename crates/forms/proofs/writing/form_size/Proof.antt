@@ -2,7 +2,7 @@
 use Prim.Native.Nat.{_+_, _-_, _*_, _≤_}
 use mathlib.Core.Path.{_≡_, ap}
 use lib.ListN.{length, drop}
-use Rattle.files.specs.Rows.{domainIn}
+use Rattle.files.specs.Rows.{domainIn, rowWords}
 use Rattle.forms.specs.Form.{formExpanders, formOf}
 use Rattle.forms.proofs.FormWords.{size-next, size-none, form-start}
 use borrow.Author.Needs.{needs}
@@ -11,7 +11,7 @@ use Rattle.forms.proofs.writing.form_size.Statement.{statement}
 use Rattle.forms.proofs.writing.form_size.Tie as tie
 
 abbrev Inv-loop : tie.InvT-loop
-Inv-loop rows n sum₀ i₀ sum i = (i ≤ n) × ((sum ≤ 258 * i) × (sum + length (formExpanders (domainIn rows) (drop i (domainIn rows))) ≡ length (formOf (domainIn rows))))
+Inv-loop rows n sum₀ i₀ sum i = (i ≤ n) × ((sum ≤ rowWords * i) × (sum + length (formExpanders (domainIn rows) (drop i (domainIn rows))) ≡ length (formOf (domainIn rows))))
 
 abbrev μ-loop : tie.MeasureT-loop
 μ-loop rows n sum₀ i₀ sum i = n - i
