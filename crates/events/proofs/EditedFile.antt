@@ -65,11 +65,11 @@ past-stated kind file at n e =
     long ReportGeneral z = omega arith
     long DiscoverResponse z = omega arith
 
-past-more : (file : List ℕ) (at : ℕ) → at + 52 ≤ pastFrame DiscoverResponse file at
+past-more : (file : List ℕ) (at : ℕ) → at + shortSize DiscoverResponse ≤ pastFrame DiscoverResponse file at
 unfolding pastFrame
 past-more file at = go (eqb (byte file (at + 3)) 0x00)
   where
-    go : (b : Bool) → at + 52 ≤ at + cond b 52 64
+    go : (b : Bool) → at + shortSize DiscoverResponse ≤ at + cond b (shortSize DiscoverResponse) (longSize DiscoverResponse)
     go true = omega arith
     go false = omega arith
 
@@ -82,7 +82,7 @@ unfolding pastPhys
 phys-more file zero at = omega arith
 phys-more file (suc n) at = omega (arith, past-more file at, phys-more file n (pastFrame DiscoverResponse file at))
 
-phys-before : (file : List ℕ) (n q at : ℕ) → q < n → pastPhys file q at + 52 ≤ pastPhys file n at
+phys-before : (file : List ℕ) (n q at : ℕ) → q < n → pastPhys file q at + shortSize DiscoverResponse ≤ pastPhys file n at
 unfolding pastPhys
 phys-before file zero q at h = absurd (omega arith)
 phys-before file (suc n) zero at h = omega (arith, past-more file at, phys-more file n (pastFrame DiscoverResponse file at))
@@ -326,7 +326,7 @@ typed-type t b h =
     ap (λ (v : ℕ). v % 8) e ∙ f
 
 -- the bytes of the edited frame at `at`, which lies within the file
-module _ (a at : ℕ) (file : List ℕ) (room : at + 52 ≤ length file) where
+module _ (a at : ℕ) (file : List ℕ) (room : at + shortSize DiscoverResponse ≤ length file) where
   abbrev after : List ℕ
   after = frameEdited a at file
 
@@ -437,7 +437,7 @@ vacated l b₀ b₁ b₂ b₃ f D e c =
     sym (good-one (byResult (eqb b₂ 0) b₂ f) D (y .1)) ∙ ap (λ b. byResult b b₂ f) c
 
 -- the frame at `at`, of n bytes, before and after
-module _ (a at n : ℕ) (file : List ℕ) (room : at + n ≤ length file) (least : 52 ≤ n) (fits : a < 256 ^ 8) where
+module _ (a at n : ℕ) (file : List ℕ) (room : at + n ≤ length file) (least : shortSize DiscoverResponse ≤ n) (fits : a < 256 ^ 8) where
   abbrev before : List ℕ
   before = take n (drop at file)
 
@@ -447,7 +447,7 @@ module _ (a at n : ℕ) (file : List ℕ) (room : at + n ≤ length file) (least
   frame-byte : (s : List ℕ) (k : ℕ) → k < n → byte (take n (drop at s)) k ≡ byte s (at + k)
   frame-byte s k h = getD-take n (drop at s) k 0 h ∙ getD-drop at s k 0
 
-  short : at + 52 ≤ length file
+  short : at + shortSize DiscoverResponse ≤ length file
   short = omega arith
 
   byte-same : (k : ℕ) → k < n → k ≢ 12 → (k < 24) ⊎ (33 ≤ k) → byte edit k ≡ byte before k
@@ -523,7 +523,7 @@ unit-edited a at file fits ownAddress i p u e t = go (sizeAt DiscoverResponse fi
     test : Discovered → Result Phy
     test = phyOf ownAddress i p
 
-    there : (n : ℕ) → sizeAt DiscoverResponse file at ≡ good n → at + n ≤ length file → 52 ≤ n → (D : Discovered) → discoverRead (take n (drop at file)) ≡ good D
+    there : (n : ℕ) → sizeAt DiscoverResponse file at ≡ good n → at + n ≤ length file → shortSize DiscoverResponse ≤ n → (D : Discovered) → discoverRead (take n (drop at file)) ≡ good D
         → then (test D) (endsAt (at + n)) ≡ good u → (b : Bool) → eqb (byte (take n (drop at file)) 2) 0 ≡ b
         → unitAt DiscoverResponse discoverRead test i p (frameEdited a at file) at ≡ good (parsed (replug a (u .value)) (u .next))
     there n q room least D g k true c =
@@ -542,7 +542,7 @@ unit-edited a at file fits ownAddress i p u e t = go (sizeAt DiscoverResponse fi
         let z = good-one (parsed (Vacant (byte s 2)) (at + n)) u (ap (λ (w : Discovered). then (test w) (endsAt (at + n))) (sym o) ∙ k) in
         absurd (subst (λ (w : Parsed Phy). T (pluggable (w .value))) (sym z) t)
 
-    read : (n : ℕ) → sizeAt DiscoverResponse file at ≡ good n → at + n ≤ length file → 52 ≤ n → (x : Result Discovered) → discoverRead (take n (drop at file)) ≡ x
+    read : (n : ℕ) → sizeAt DiscoverResponse file at ≡ good n → at + n ≤ length file → shortSize DiscoverResponse ≤ n → (x : Result Discovered) → discoverRead (take n (drop at file)) ≡ x
         → then (placed i p x) (λ y. then (test y) (endsAt (at + n))) ≡ good u
         → unitAt DiscoverResponse discoverRead test i p (frameEdited a at file) at ≡ good (parsed (replug a (u .value)) (u .next))
     read n q room least (refused r) g k = never _ u k
@@ -571,7 +571,7 @@ expanders-end most file (suc n) i at used d h =
 
 -- the frame of a phy that was read lies within its file
 expanders-within : (most : Setting) (file : List ℕ) (n i at : ℕ) (used : List ℕ) (d : Domain) (e q : ℕ) → expanders most file n i at used ≡ good d → q < length (expanderAt d e .phys)
-    → phyFrame file e q at + 52 ≤ length file
+    → phyFrame file e q at + shortSize DiscoverResponse ≤ length file
 unfolding expanders phyFrame
 expanders-within most file zero i at used d e q h l =
     let z = good-one [] d (unless-good (eqb at (length file)) (refusal 1 i 0) (good []) d h .1) in
@@ -602,7 +602,7 @@ module _ (setting : Setting) (file : List ℕ) (d : Domain) (h : domainRead sett
   abbrev lo : ℕ
   lo = phyOffset file (v .expander .0) (v .phy .0)
 
-  pub edited-read : (lo + 52 ≤ length file) × (domainRead setting (fileEdited file v) ≡ good (edited d v))
+  pub edited-read : (lo + shortSize DiscoverResponse ≤ length file) × (domainRead setting (fileEdited file v) ≡ good (edited d v))
   unfolding domainRead headerUnit
   edited-read =
       let a : ℕ = v .address in
@@ -610,7 +610,7 @@ module _ (setting : Setting) (file : List ℕ) (d : Domain) (h : domainRead sett
       let x = unless-good (inRange setting) (refusal 22 0 0) _ d h in
       let y = then-good (headerUnit setting file) _ d (x .1) in
       let o : phyFrame file (v .expander .0) (v .phy .0) 2 ≡ lo = frame-offset file (v .expander .0) (v .phy .0) in
-      let r : lo + 52 ≤ length file = subst (λ (k : ℕ). k + 52 ≤ length file) o (expanders-within setting file (y .0) 0 2 [] d (v .expander .0) (v .phy .0) (y .2) (phy-range d pluggable (v .expander .0) (v .phy .0) f (λ t. t))) in
+      let r : lo + shortSize DiscoverResponse ≤ length file = subst (λ (k : ℕ). k + shortSize DiscoverResponse ≤ length file) o (expanders-within setting file (y .0) 0 2 [] d (v .expander .0) (v .phy .0) (y .2) (phy-range d pluggable (v .expander .0) (v .phy .0) f (λ t. t))) in
       let m : 2 ≤ lo = subst (λ (k : ℕ). 2 ≤ k) o (frame-more file (v .expander .0) (v .phy .0) 2) in
       let long = edit-length a lo file r in
       let outside : (k : ℕ) → (k < lo + 12) ⊎ (lo + 33 ≤ k) → byte file′ k ≡ byte file k =

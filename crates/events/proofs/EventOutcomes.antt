@@ -8,6 +8,8 @@ use lib.ListN.{length, take, drop, take-append-drop}
 use Rattle.frames.specs.Bytes.{byte}
 use Rattle.frames.specs.Refusals.{Result, refused, good, then}
 use Rattle.frames.specs.declared.Refusal.{Refusal}
+use Rattle.frames.specs.Sizes.{shortSize}
+use Rattle.frames.specs.declared.Response.the-variants.{Discover as DiscoverResponse}
 use Rattle.files.specs.declared.Setting.{Setting}
 use Rattle.files.specs.Domain.{Domain}
 use Rattle.files.specs.File.{domainRead}
@@ -46,11 +48,11 @@ module _ (setting : Setting) (file : List ℕ) (d : Domain) (first low : List �
     counted : ReplugDone outcome (v .expander .0) (Counts t w) before after
     counted = subst (λ x. ReplugDone outcome (v .expander .0) x before after) q o
 
-    pub applied-within : phyOffset file (v .expander .0) (v .phy .0) + 52 ≤ length file
+    pub applied-within : phyOffset file (v .expander .0) (v .phy .0) + shortSize DiscoverResponse ≤ length file
     applied-within = go outcome refl (counted .answers)
       where
         go : (x : Result Domain) → outcome ≡ x → replugAnswer (Counts t w) ≡ then x (λ y. good (movedBy y (ownTouched y (v .expander .0)) before after))
-            → phyOffset file (v .expander .0) (v .phy .0) + 52 ≤ length file
+            → phyOffset file (v .expander .0) (v .phy .0) + shortSize DiscoverResponse ≤ length file
         go (refused r) k a = never r (record { tableCount = t; wordCount = w }) (sym a)
         go (good d₂) k a = frame-within setting file v (roomOf before) d₂ fits (call-is setting file d h (length first) (length low) (room .slots) (room .phys) v fits (roomOf before) ∙ k)
 

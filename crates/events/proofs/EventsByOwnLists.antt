@@ -9,6 +9,8 @@ use lib.ListN.{length, replicate, length-replicate}
 use lib.Dec.{T}
 use Rattle.frames.specs.Refusals.{Result, refused, good, unless, then, refusal}
 use Rattle.frames.specs.declared.Refusal.{Refusal}
+use Rattle.frames.specs.Sizes.{shortSize}
+use Rattle.frames.specs.declared.Response.the-variants.{Discover as DiscoverResponse}
 use Rattle.files.specs.declared.Setting.{Setting}
 use Rattle.files.specs.Lists.{isIn}
 use Rattle.files.specs.Domain.{Domain, expanderAt}
@@ -172,7 +174,7 @@ module _ (outcome : Result Domain) (e : ℕ) (before after : Entries) (v : Event
 
 -- where the event is accepted, the frame that it edits lies within the file
 pub frame-within : (setting : Setting) (file : List ℕ) (v : Event) (room : Room) (d₂ : Domain) → v .address < 2 ^ 64 → eventCall setting file v room ≡ good d₂
-    → phyOffset file (v .expander .0) (v .phy .0) + 52 ≤ length file
+    → phyOffset file (v .expander .0) (v .phy .0) + shortSize DiscoverResponse ≤ length file
 unfolding eventCall
 frame-within setting file v room d₂ fits c =
     let z : 2 ^ 64 ≡ 256 ^ 8 = refl in

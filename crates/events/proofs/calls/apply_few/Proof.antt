@@ -1,8 +1,11 @@
 -- apply_few meets its contract: the second byte states how many expanders there are, so the room is enough.
-use Prim.Native.Nat.{ℕ}
+use Prim.Native.Nat.{ℕ, _*_}
 use lib.ListN.{length-replicate}
 use Rattle.files.proofs.ReadDomain.{stated-expanders}
+use Rattle.files.specs.Rows.{rowWords}
+use Rattle.files.specs.Settings.{mostPhys}
 use Rattle.wiring.proofs.FileRows.{file-room}
+use Rattle.wiring.specs.index.AddressIndex.{slotsBefore}
 use native.Mathlib.Omega.{arith}
 use borrow.Author.Needs.{needs}
 use Rattle.events.proofs.calls.apply_few.Statement.{statement}
@@ -27,7 +30,7 @@ apply-in-requires c κs =
     let s = c .before .before .before .before .before .before .before .before .before .before .before .before in
     let a = s .args in
     let f = a .file .now in
-    file-room (a .setting) 2 f _ _ _ (λ d e. omega (arith, stated-expanders (a .setting) f d e, at-stated-count .ensures, at-if1 .taken)) (omega (arith, length-replicate {A = ℕ} 516 0)) (omega (arith, length-replicate {A = ℕ} 320 0)) (omega (arith, length-replicate {A = ℕ} 256 0))
+    file-room (a .setting) 2 f _ _ _ (λ d e. omega (arith, stated-expanders (a .setting) f d e, at-stated-count .ensures, at-if1 .taken)) (omega (arith, length-replicate {A = ℕ} (2 * rowWords) 0)) (omega (arith, length-replicate {A = ℕ} (slotsBefore 2) 0)) (omega (arith, length-replicate {A = ℕ} (2 * mostPhys) 0))
 
 same-length : tie.Need-same-length
 same-length c = search needs
@@ -55,7 +58,7 @@ apply-in-requires-2 c κs =
     let s = c .before .before .before .before .before .before .before .before .before .before .before .before in
     let a = s .args in
     let f = a .file .now in
-    file-room (a .setting) 8 f _ _ _ (λ d e. omega (arith, stated-expanders (a .setting) f d e, (s .pre))) (omega (arith, length-replicate {A = ℕ} 2064 0)) (omega (arith, length-replicate {A = ℕ} 1088 0)) (omega (arith, length-replicate {A = ℕ} 1024 0))
+    file-room (a .setting) 8 f _ _ _ (λ d e. omega (arith, stated-expanders (a .setting) f d e, (s .pre))) (omega (arith, length-replicate {A = ℕ} (8 * rowWords) 0)) (omega (arith, length-replicate {A = ℕ} (slotsBefore 8) 0)) (omega (arith, length-replicate {A = ℕ} (8 * mostPhys) 0))
 
 same-length-4 : tie.Need-same-length-4
 same-length-4 c = search needs

@@ -2,7 +2,9 @@
 use Prim.Native.Nat.{ℕ}
 use lib.ListN.{length-replicate}
 use Rattle.files.proofs.ReadDomain.{read-good}
+use Rattle.files.specs.Rows.{mostRowWords}
 use Rattle.wiring.proofs.FileRows.{file-room}
+use Rattle.wiring.specs.index.AddressIndex.{mostSlots, mostDomainPhys}
 use native.Mathlib.Omega.{arith}
 use borrow.Author.Needs.{needs}
 use Rattle.events.proofs.calls.apply_many.Statement.{statement}
@@ -22,7 +24,7 @@ apply-in-requires c κs =
     let s = c .before .before .before .before .before .before .before .before .before in
     let a = s .args in
     let f = a .file .now in
-    file-room (a .setting) 64 f _ _ _ (λ d e. let g = read-good (a .setting) f d e in omega (arith, g .few, g .range .expanders .1)) (omega (arith, length-replicate {A = ℕ} 16512 0)) (omega (arith, length-replicate {A = ℕ} 8256 0)) (omega (arith, length-replicate {A = ℕ} 8192 0))
+    file-room (a .setting) 64 f _ _ _ (λ d e. let g = read-good (a .setting) f d e in omega (arith, g .few, g .range .expanders .1)) (omega (arith, length-replicate {A = ℕ} mostRowWords 0)) (omega (arith, length-replicate {A = ℕ} mostSlots 0)) (omega (arith, length-replicate {A = ℕ} mostDomainPhys 0))
 
 same-length : tie.Need-same-length
 same-length c = search needs
