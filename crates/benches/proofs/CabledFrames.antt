@@ -11,7 +11,7 @@ use lib.Dec.{T, eqb, leb}
 use borrow.Author.Tests.{le-leb, eq-eqb, ne-eqb}
 use Rattle.frames.specs.Bytes.{byte, bits, numberAt, bytesOf}
 use Rattle.frames.specs.Refusals.{good, refusal}
-use Rattle.frames.specs.Sizes.{sizeStated, frameSize}
+use Rattle.frames.specs.Sizes.{sizeStated, frameSize, shortSize}
 use Rattle.frames.specs.Discovery.{Discovered, vacant, fields, discoverFixed, discoverFields, byResult, discovered, discoverRead}
 use Rattle.frames.specs.declared.Discover.{Discover}
 use Rattle.frames.specs.declared.Response.{Response}
@@ -33,7 +33,7 @@ use Rattle.benches.proofs.JoinedFileWritten.{listed, all-firsts, frame-
 pub record FrameOf (ownAddress p : ℕ) (φ : Phy) (f : List ℕ) : Type 0 where
   pub size : ℕ
   pub whole : length f ≡ size
-  pub least : 52 ≤ size
+  pub least : shortSize DiscoverResponse ≤ size
   pub states : sizeStated DiscoverResponse (byte f 3) ≡ good size
   pub got : Discovered
   pub reads : discoverRead f ≡ good got

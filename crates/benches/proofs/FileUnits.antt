@@ -11,7 +11,7 @@ use lib.Dec.{eqb, leb, eqb→eq}
 use borrow.Author.Tests.{le-leb, eq-eqb, ne-eqb}
 use Rattle.frames.specs.Bytes.{byte, numberAt}
 use Rattle.frames.specs.Refusals.{Result, refused, good, then, refusal}
-use Rattle.frames.specs.Sizes.{sizeStated, frameSize}
+use Rattle.frames.specs.Sizes.{sizeStated, frameSize, shortSize}
 use Rattle.frames.specs.ReportGeneral.{generalRead}
 use Rattle.frames.specs.declared.General.{General}
 use Rattle.frames.specs.declared.Response.the-variants.{ReportGeneral, Discover}
@@ -166,7 +166,7 @@ length-cables (x ∷ xs) (suc k) s q = ap suc (length-cables xs k s q)
 pub record HeadOf (u : ExpanderUnit) (h : List ℕ) : Type 0 where
   pub size : ℕ
   pub whole : length h ≡ 8 + size
-  pub least : 28 ≤ size
+  pub least : shortSize ReportGeneral ≤ size
   pub states : sizeStated ReportGeneral (byte (drop 8 h) 3) ≡ good size
   pub general : General
   pub reads : generalRead (drop 8 h) ≡ good general

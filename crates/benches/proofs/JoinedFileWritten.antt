@@ -10,6 +10,8 @@ use borrow.Author.Tests.{le-leb}
 use borrow.Rule.Slice.PartMut.{midOf, putMid}
 use Rattle.frames.specs.Bytes.{byte, bytesOf, atFront}
 use Rattle.frames.proofs.ByteNumbers.{length-bytesOf}
+use Rattle.frames.specs.Sizes.{shortSize}
+use Rattle.frames.specs.declared.Response.the-variants.{Discover as DiscoverResponse}
 use Rattle.offsets.specs.Offsets.{Placed}
 use Rattle.benches.specs.Bytes.{typedTwo, cabledFrame, cabledAt, addressIn, joinedFile}
 use Rattle.offsets.specs.Offsets.{phyOffset}
@@ -144,7 +146,7 @@ both-put out first second n h k r =
 
 -- both cables
 pub both-cabled : (first second rest : List ℕ) (i p j q : ℕ) → 2 ≤ length first → 2 ≤ length second
-    → 2 ≤ phyOffset first i p → phyOffset first i p + 52 ≤ length first → 2 ≤ phyOffset second j q → phyOffset second j q + 52 ≤ length second
+    → 2 ≤ phyOffset first i p → phyOffset first i p + shortSize DiscoverResponse ≤ length first → 2 ≤ phyOffset second j q → phyOffset second j q + shortSize DiscoverResponse ≤ length second
     → cabledAt (cabledAt (0x10 ∷ (byte first 1 + byte second 1) ∷ (drop 2 first ++ (drop 2 second ++ rest))) (phyOffset first i p) (addressIn second j) q) (length first + (phyOffset second j q - 2)) (addressIn first i) p
     ≡ joinedFile first i p second j q ++ rest
 unfolding joinedFile
@@ -172,7 +174,7 @@ both-cabled first second rest i p j q h k a b c d =
 
 -- its length
 pub length-joined : (first second : List ℕ) (i p j q : ℕ) → 2 ≤ length first → 2 ≤ length second
-    → 2 ≤ phyOffset first i p → phyOffset first i p + 52 ≤ length first → 2 ≤ phyOffset second j q → phyOffset second j q + 52 ≤ length second
+    → 2 ≤ phyOffset first i p → phyOffset first i p + shortSize DiscoverResponse ≤ length first → 2 ≤ phyOffset second j q → phyOffset second j q + shortSize DiscoverResponse ≤ length second
     → length (joinedFile first i p second j q) ≡ length first + (length second - 2)
 unfolding joinedFile
 length-joined first second i p j q h k a b c d =

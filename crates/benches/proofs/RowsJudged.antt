@@ -18,7 +18,7 @@ use Rattle.files.specs.ReadDomain.{Bytes}
 use Rattle.wiring.specs.index.AddressIndex.{slotsBefore, IndexRoom}
 use Rattle.wiring.specs.phys.Checks.{checkAnswer}
 use Rattle.files.specs.File.{domainRead}
-use Rattle.files.specs.Rows.{phyIn, physIn, rowIn, rowsIn, domainIn, rowsRead, RowsRead}
+use Rattle.files.specs.Rows.{phyIn, physIn, rowIn, rowsIn, domainIn, rowsRead, RowsRead, rowWords}
 use Rattle.files.specs.PhyReplaced.{withPhy, setPhy, phyFromWords, PhySet}
 use Rattle.files.specs.declared.Phy.{Phy}
 use Rattle.files.proofs.ReadDomain.{read-good}
@@ -41,64 +41,64 @@ phys-left (suc k) [] v h = absurd (omega arith)
 phys-left (suc k) (a ∷ []) v h = absurd (omega arith)
 phys-left (suc k) (a ∷ (b ∷ u)) v h = ap (λ (l : List Phy). phyIn a b ∷ l) (phys-left k u v (omega arith))
 
-row-left : (u v : List ℕ) → 258 ≤ length u → rowIn (u ++ v) ≡ rowIn u
+row-left : (u v : List ℕ) → rowWords ≤ length u → rowIn (u ++ v) ≡ rowIn u
 unfolding rowIn
 row-left [] v h = absurd (omega arith)
 row-left (a ∷ []) v h = absurd (omega arith)
 row-left (a ∷ (b ∷ u)) v h = rw (phys-left (min 128 (b / 65536 % 256)) u v (omega arith)) refl
 
-rows-left : (n : ℕ) (u v : List ℕ) → 258 * n ≤ length u → rowsIn n (u ++ v) ≡ rowsIn n u
+rows-left : (n : ℕ) (u v : List ℕ) → rowWords * n ≤ length u → rowsIn n (u ++ v) ≡ rowsIn n u
 unfolding rowsIn
 rows-left zero u v h = refl
 rows-left (suc n) u v h =
-    let l = length-drop 258 u in
-    ap₂ (λ (e : Expander) (d : Domain). e ∷ d) (row-left u v (omega arith)) (ap (rowsIn n) (drop-append-le 258 u v (omega arith)) ∙ rows-left n (drop 258 u) v (omega arith))
+    let l = length-drop rowWords u in
+    ap₂ (λ (e : Expander) (d : Domain). e ∷ d) (row-left u v (omega arith)) (ap (rowsIn n) (drop-append-le rowWords u v (omega arith)) ∙ rows-left n (drop rowWords u) v (omega arith))
 
 -- rows one after the other
-rows-split : (n m : ℕ) (u v : List ℕ) → length u ≡ 258 * n → rowsIn (n + m) (u ++ v) ≡ rowsIn n u ++ rowsIn m v
+rows-split : (n m : ℕ) (u v : List ℕ) → length u ≡ rowWords * n → rowsIn (n + m) (u ++ v) ≡ rowsIn n u ++ rowsIn m v
 unfolding rowsIn
 rows-split zero m [] v h = ap (λ (k : ℕ). rowsIn k v) (zero-add m)
 rows-split zero m (a ∷ u) v h = absurd (omega arith)
 rows-split (suc n) m u v h =
-    let l = length-drop 258 u in
+    let l = length-drop rowWords u in
     let e : suc n + m ≡ suc (n + m) = omega arith in
     ap (λ (k : ℕ). rowsIn k (u ++ v)) e
-    ∙ ap₂ (λ (e : Expander) (d : Domain). e ∷ d) (row-left u v (omega arith)) (ap (rowsIn (n + m)) (drop-append-le 258 u v (omega arith)) ∙ rows-split n m (drop 258 u) v (omega arith))
+    ∙ ap₂ (λ (e : Expander) (d : Domain). e ∷ d) (row-left u v (omega arith)) (ap (rowsIn (n + m)) (drop-append-le rowWords u v (omega arith)) ∙ rows-split n m (drop rowWords u) v (omega arith))
 
-domain-rows : (n : ℕ) (u : List ℕ) → length u ≡ 258 * n → n ≤ 64 → domainIn u ≡ rowsIn n u
+domain-rows : (n : ℕ) (u : List ℕ) → length u ≡ rowWords * n → n ≤ 64 → domainIn u ≡ rowsIn n u
 unfolding domainIn
 domain-rows n u h k = ap (λ (m : ℕ). rowsIn m u) (omega arith)
 
-domain-append : (n m : ℕ) (u v : List ℕ) → length u ≡ 258 * n → length v ≡ 258 * m → n + m ≤ 64 → domainIn (u ++ v) ≡ domainIn u ++ domainIn v
+domain-append : (n m : ℕ) (u v : List ℕ) → length u ≡ rowWords * n → length v ≡ rowWords * m → n + m ≤ 64 → domainIn (u ++ v) ≡ domainIn u ++ domainIn v
 domain-append n m u v h k f =
     let l = length-append u v in
     domain-rows (n + m) (u ++ v) (omega arith) f ∙ rows-split n m u v h
     ∙ ap₂ (λ (c d : Domain). c ++ d) (sym (domain-rows n u h (omega arith))) (sym (domain-rows m v k (omega arith)))
 
 -- words that a file was read into hold its domain
-rows-hold : (setting : Setting) (file before after : List ℕ) (answer : DomainRead) (d : Domain) → domainRead setting file ≡ good d → 258 * length d ≤ length before
-    → RowsRead setting file answer before after → domainIn (take (258 * length d) after) ≡ d
+rows-hold : (setting : Setting) (file before after : List ℕ) (answer : DomainRead) (d : Domain) → domainRead setting file ≡ good d → rowWords * length d ≤ length before
+    → RowsRead setting file answer before after → domainIn (take (rowWords * length d) after) ≡ d
 unfolding rowsRead
 rows-hold setting file before after answer d q h r =
-    let e : rowsRead setting file (length before) ≡ good d = simp (q, le-leb (258 * length d) (length before) h) in
+    let e : rowsRead setting file (length before) ≡ good d = simp (q, le-leb (rowWords * length d) (length before) h) in
     rw e at (r .holds)
 
 -- two files read into rows, the second after the first
 pub both-held : (setting : Setting) (first second : List ℕ) (d₁ d₂ : Domain) → domainRead setting first ≡ good d₁ → domainRead setting second ≡ good d₂
     → (before one between two after : List ℕ) (a b : DomainRead) → RowsRead setting first a before one → RowsRead setting second b between two
-    → (n m : ℕ) → n ≡ length d₁ → m ≡ length d₂ → n + m ≤ 64 → 258 * (n + m) ≤ length before
-    → length one ≡ length before → length between ≡ length before - 258 * n → length two ≡ length between
-    → domainIn (take (258 * (n + m)) (take (258 * n) one ++ (two ++ after))) ≡ d₁ ++ d₂
+    → (n m : ℕ) → n ≡ length d₁ → m ≡ length d₂ → n + m ≤ 64 → rowWords * (n + m) ≤ length before
+    → length one ≡ length before → length between ≡ length before - rowWords * n → length two ≡ length between
+    → domainIn (take (rowWords * (n + m)) (take (rowWords * n) one ++ (two ++ after))) ≡ d₁ ++ d₂
 both-held setting first second d₁ d₂ e₁ e₂ before one between two after a b r s n m x y f h l₁ l l₂ =
-    let u : List ℕ = take (258 * n) one in
-    let v : List ℕ = take (258 * m) two in
-    let lu : length u ≡ 258 * n = length-take-le (258 * n) one (omega arith) in
-    let lv : length v ≡ 258 * m = length-take-le (258 * m) two (omega arith) in
-    let k : 258 * (n + m) ≡ length u + 258 * m = omega arith in
-    let t : take (258 * (n + m)) (u ++ (two ++ after)) ≡ u ++ v =
-    ap (λ (z : ℕ). take z (u ++ (two ++ after))) k ∙ take-append-add u (two ++ after) (258 * m) ∙ ap (λ (z : List ℕ). u ++ z) (take-append-le (258 * m) two after (omega arith)) in
-    let p : domainIn u ≡ d₁ = ap (λ (z : ℕ). domainIn (take (258 * z) one)) x ∙ rows-hold setting first before one a d₁ e₁ (omega arith) r in
-    let q : domainIn v ≡ d₂ = ap (λ (z : ℕ). domainIn (take (258 * z) two)) y ∙ rows-hold setting second between two b d₂ e₂ (omega arith) s in
+    let u : List ℕ = take (rowWords * n) one in
+    let v : List ℕ = take (rowWords * m) two in
+    let lu : length u ≡ rowWords * n = length-take-le (rowWords * n) one (omega arith) in
+    let lv : length v ≡ rowWords * m = length-take-le (rowWords * m) two (omega arith) in
+    let k : rowWords * (n + m) ≡ length u + rowWords * m = omega arith in
+    let t : take (rowWords * (n + m)) (u ++ (two ++ after)) ≡ u ++ v =
+    ap (λ (z : ℕ). take z (u ++ (two ++ after))) k ∙ take-append-add u (two ++ after) (rowWords * m) ∙ ap (λ (z : List ℕ). u ++ z) (take-append-le (rowWords * m) two after (omega arith)) in
+    let p : domainIn u ≡ d₁ = ap (λ (z : ℕ). domainIn (take (rowWords * z) one)) x ∙ rows-hold setting first before one a d₁ e₁ (omega arith) r in
+    let q : domainIn v ≡ d₂ = ap (λ (z : ℕ). domainIn (take (rowWords * z) two)) y ∙ rows-hold setting second between two b d₂ e₂ (omega arith) s in
     ap domainIn t ∙ domain-append n m u v lu lv f ∙ ap₂ (λ (c d : Domain). c ++ d) p q
 
 -- the cable's phy is held as it is
@@ -162,8 +162,8 @@ module _ (setting : Setting) (first : List ℕ) (n i p : ℕ) (second : List ℕ
 
   -- rows that both files were read into, one after the other, with the cable written, were judged: what judging the joined file says
   pub bench-judged : Bytes first → Bytes second → (rows part rest who low : List ℕ) (answer : Check) → slotsBefore (n + m) ≤ length who → 128 * (n + m) ≤ length low
-      → domainIn (take (258 * (n + m)) rows) ≡ bothRead setting first second → domainIn part ≡ cabled (domainIn (take (258 * (n + m)) rows)) n i p j q → length part ≡ 258 * (n + m)
-      → checkAnswer (domainIn (take (258 * (n + m)) (part ++ rest))) answer ≡ apartIn (setting .chain) (length who) (length low) (domainIn (take (258 * (n + m)) (part ++ rest)))
+      → domainIn (take (rowWords * (n + m)) rows) ≡ bothRead setting first second → domainIn part ≡ cabled (domainIn (take (rowWords * (n + m)) rows)) n i p j q → length part ≡ rowWords * (n + m)
+      → checkAnswer (domainIn (take (rowWords * (n + m)) (part ++ rest))) answer ≡ apartIn (setting .chain) (length who) (length low) (domainIn (take (rowWords * (n + m)) (part ++ rest)))
       → answer ≡ checkOf (judged setting (joinedFile first i p second j q))
   bench-judged b₁ b₂ rows part rest who low answer slots phys held cable size judge =
       let d₁ = c .one .domain in
@@ -174,8 +174,8 @@ module _ (setting : Setting) (first : List ℕ) (n i p : ℕ) (second : List ℕ
       let l = joined-length d₁ i p d₂ j q in
       let room : IndexRoom J who low = record { slots = omega (arith, c .one .count, c .other .count); phys = omega (arith, c .one .count, c .other .count) } in
       let both : bothRead setting first second ≡ d₁ ++ d₂ = ap₂ (λ (x y : Result Domain). readAs x ++ readAs y) read-one read-other in
-      let e : domainIn (take (258 * (n + m)) (part ++ rest)) ≡ J =
-      ap domainIn (take-at part rest (258 * (n + m)) size) ∙ cable ∙ ap (λ (v : Domain). cabled v n i p j q) (held ∙ both) ∙ cabled-joined d₁ d₂ n i p j q (c .one .count) inside in
+      let e : domainIn (take (rowWords * (n + m)) (part ++ rest)) ≡ J =
+      ap domainIn (take-at part rest (rowWords * (n + m)) size) ∙ cable ∙ ap (λ (v : Domain). cabled v n i p j q) (held ∙ both) ∙ cabled-joined d₁ d₂ n i p j q (c .one .count) inside in
       let v : checkAnswer J answer ≡ apartIn (setting .chain) (length who) (length low) J = rw e at judge in
       told J answer ∙ ap checkOf (v ∙ rows-own setting first i p second j q d₁ d₂ read-one read-other b₁ b₂ free-one free-other few who low room)
     where

@@ -3,6 +3,7 @@ use Prim.Native.Nat.{_+_, _*_}
 use mathlib.Core.Path.{sym, _∙_}
 use native.Mathlib.Omega.{arith}
 use lib.Seq.{length-take-le}
+use Rattle.files.specs.Rows.{rowWords}
 use borrow.Table.Elements.{same-len}
 use Rattle.benches.proofs.RowsJudged.{ready-few, ready-place, bench-judged}
 use borrow.Author.Needs.{needs}
@@ -44,13 +45,13 @@ slice-reshare-prefix-judge-apart : tie.Need-slice-reshare-prefix-judge-apart
 slice-reshare-prefix-judge-apart c =
     let at-pre = c .before .before .before .before .before .before .before .before .before .before .before .before .before .pre in
     let at-read-both = c .before .before .before .before .before .before .read-both in
-    let a = (c .before .before .before .before .before .before .before .before .before .before .before .before .before .args) in omega (arith, at-pre .1 .words, at-read-both .kept .1 .1 .1 .1 .1 .0, same-len (258 * (a .n + a .m)) (at-read-both .last .1 .1 .1 .1 .1 .0) ((c .before .before .cable-rows) .last .0) ((c .before .before .cable-rows) .kept .0))
+    let a = (c .before .before .before .before .before .before .before .before .before .before .before .before .before .args) in omega (arith, at-pre .1 .words, at-read-both .kept .1 .1 .1 .1 .1 .0, same-len (rowWords * (a .n + a .m)) (at-read-both .last .1 .1 .1 .1 .1 .0) ((c .before .before .cable-rows) .last .0) ((c .before .before .cable-rows) .kept .0))
 
 slice-aggregate-judge-apart : tie.Need-slice-aggregate-judge-apart
 slice-aggregate-judge-apart c =
     let at-pre = c .before .before .before .before .before .before .before .before .before .before .before .before .before .before .pre in
     let at-read-both = c .before .before .before .before .before .before .before .read-both in
-    let a = (c .before .before .before .before .before .before .before .before .before .before .before .before .before .before .args) in sym (length-take-le _ _ (omega (arith, at-pre .1 .words, at-read-both .kept .1 .1 .1 .1 .1 .0, same-len (258 * (a .n + a .m)) (at-read-both .last .1 .1 .1 .1 .1 .0) ((c .before .before .before .cable-rows) .last .0) ((c .before .before .before .cable-rows) .kept .0))))
+    let a = (c .before .before .before .before .before .before .before .before .before .before .before .before .before .before .args) in sym (length-take-le _ _ (omega (arith, at-pre .1 .words, at-read-both .kept .1 .1 .1 .1 .1 .0, same-len (rowWords * (a .n + a .m)) (at-read-both .last .1 .1 .1 .1 .1 .0) ((c .before .before .before .cable-rows) .last .0) ((c .before .before .before .cable-rows) .kept .0))))
 
 judge-apart-requires : tie.Need-judge-apart-requires
 judge-apart-requires c κs = search needs
