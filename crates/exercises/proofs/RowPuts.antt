@@ -8,7 +8,7 @@ use lib.Seq.{sets, drop-cons, drop-at, take-at}
 use Rattle.files.specs.declared.Phy.{Phy}
 use Rattle.files.specs.declared.ExpanderUnit.{ExpanderUnit}
 use Rattle.files.specs.Domain.{Expander, addressOf}
-use Rattle.files.specs.Rows.{phyWord, phyWords, headWord, rowOf, rowsOf}
+use Rattle.files.specs.Rows.{phyWord, phyWords, headWord, rowOf, rowsOf, rowWords}
 use Rattle.files.proofs.RowFilling.{length-phyWords, length-rowOf, stored-in-zeros}
 use Rattle.exercises.specs.Rig.{drive, toward, firstOf, secondOf}
 
@@ -26,7 +26,7 @@ module _ (ws : List ℕ) (k : ℕ) where
   drive-end row v inv h = sym (ap (λ (l : List ℕ). sets row (4 + 2 * k) (phyWords (map drive l))) (drop-of-length-le ws h)) ∙ inv
 
 -- an expander's row: its link, and then the words' phys
-pub row-put : (l after : List ℕ) (u : ExpanderUnit) (φ : Phy) (ws : List ℕ) (h a w : ℕ) → l ≡ replicate 258 0 → h ≡ headWord (u .routeIndexes) (u .phys) (u .configurable)
+pub row-put : (l after : List ℕ) (u : ExpanderUnit) (φ : Phy) (ws : List ℕ) (h a w : ℕ) → l ≡ replicate rowWords 0 → h ≡ headWord (u .routeIndexes) (u .phys) (u .configurable)
     → a ≡ addressOf φ → w ≡ phyWord φ → u .phys ≡ suc (length ws) → length ws ≤ 127
     → after ≡ sets (set (set (set (set l 0 (u .address)) 1 h) 2 a) 3 w) 4 (phyWords (map drive ws))
     → after ≡ rowOf (record { address = u .address; routeIndexes = u .routeIndexes; configurable = u .configurable; phys = φ ∷ map drive ws })
@@ -41,20 +41,20 @@ row-put l after u φ ws h a w ql qh qa qw qn few q =
     ∙ ap (λ (x : ℕ). u .address ∷ x ∷ (phyWords (φ ∷ map drive ws) ++ replicate (256 - length (phyWords (φ ∷ map drive ws))) 0)) g
 
 -- both rows, one after the other
-pub rig-put : (a b i : ℕ) (ws rows r t s after : List ℕ) (k : ℕ) (φ ψ : Phy) → length rows ≡ 516 → length ws ≤ 127 → φ ≡ toward b 2 → ψ ≡ toward a 1
+pub rig-put : (a b i : ℕ) (ws rows r t s after : List ℕ) (k : ℕ) (φ ψ : Phy) → length rows ≡ 2 * rowWords → length ws ≤ 127 → φ ≡ toward b 2 → ψ ≡ toward a 1
     → r ≡ rowOf (record { address = a; routeIndexes = i; configurable = 1; phys = φ ∷ [] })
     → t ≡ rowOf (record { address = b; routeIndexes = 0; configurable = 0; phys = ψ ∷ map drive ws })
-    → s ≡ r ++ drop 258 rows → k ≡ length s - 258 → after ≡ take 258 s ++ (t ++ drop k (drop 258 s)) → after ≡ rowsOf (firstOf a b i ∷ secondOf a b ws ∷ [])
+    → s ≡ r ++ drop rowWords rows → k ≡ length s - rowWords → after ≡ take rowWords s ++ (t ++ drop k (drop rowWords s)) → after ≡ rowsOf (firstOf a b i ∷ secondOf a b ws ∷ [])
 unfolding rowsOf
 rig-put a b i ws rows r t s after k φ ψ n few qφ qψ er et qs qk q =
     let e : Expander = firstOf a b i in
     let g : Expander = secondOf a b ws in
     let qr : r ≡ rowOf e = er ∙ ap (λ (χ : Phy). rowOf (record { address = a; routeIndexes = i; configurable = 1; phys = χ ∷ [] })) qφ in
     let qt : t ≡ rowOf g = et ∙ ap (λ (χ : Phy). rowOf (record { address = b; routeIndexes = 0; configurable = 0; phys = χ ∷ map drive ws })) qψ in
-    let lr : length r ≡ 258 = ap length qr ∙ length-rowOf e (omega arith) in
-    let d : drop 258 s ≡ drop 258 rows = ap (drop 258) qs ∙ drop-at r (drop 258 rows) 258 lr in
-    let f : take 258 s ≡ rowOf e = ap (take 258) qs ∙ take-at r (drop 258 rows) 258 lr ∙ qr in
-    let ld : length (drop 258 rows) ≡ 258 = length-drop 258 rows ∙ (omega arith) in
-    let ls : length s ≡ length r + length (drop 258 rows) = ap length qs ∙ length-append r (drop 258 rows) in
-    let z : drop k (drop 258 s) ≡ [] = ap (drop k) d ∙ drop-of-length-le (drop 258 rows) {i = k} (omega arith) in
-    q ∙ ap (λ (l : List ℕ). l ++ (t ++ drop k (drop 258 s))) f ∙ ap (λ (l : List ℕ). rowOf e ++ (t ++ l)) z ∙ ap (λ (l : List ℕ). rowOf e ++ (l ++ [])) qt
+    let lr : length r ≡ rowWords = ap length qr ∙ length-rowOf e (omega arith) in
+    let d : drop rowWords s ≡ drop rowWords rows = ap (drop rowWords) qs ∙ drop-at r (drop rowWords rows) rowWords lr in
+    let f : take rowWords s ≡ rowOf e = ap (take rowWords) qs ∙ take-at r (drop rowWords rows) rowWords lr ∙ qr in
+    let ld : length (drop rowWords rows) ≡ rowWords = length-drop rowWords rows ∙ (omega arith) in
+    let ls : length s ≡ length r + length (drop rowWords rows) = ap length qs ∙ length-append r (drop rowWords rows) in
+    let z : drop k (drop rowWords s) ≡ [] = ap (drop k) d ∙ drop-of-length-le (drop rowWords rows) {i = k} (omega arith) in
+    q ∙ ap (λ (l : List ℕ). l ++ (t ++ drop k (drop rowWords s))) f ∙ ap (λ (l : List ℕ). rowOf e ++ (t ++ l)) z ∙ ap (λ (l : List ℕ). rowOf e ++ (l ++ [])) qt

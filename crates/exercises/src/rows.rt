@@ -5,7 +5,7 @@ use wiring::PhyFields;
 use wiring::PhyId;
 ghost use mathlib.Core.Path.{_≡_};
 ghost use mathlib.Core.List.{[], _∷_, map};
-ghost use Prim.Native.Nat.{suc, _≤_};
+ghost use Prim.Native.Nat.{suc, _≤_, _*_};
 ghost use lib.ListN.{length};
 ghost use lib.Seq.{sets};
 ghost use Rattle.files.specs.Rows.{phyWords, rowOf, rowsOf, rowWords};
@@ -74,7 +74,7 @@ fn put_row(row: &mut [u64], unit: ExpanderUnit, link: Phy, words: &[u64])
 
 // Writes the rows of the two expanders, with addresses a and b: R, and the words that have a phy.
 pub(crate) fn put_rig(rows: &mut [u64], a: u64, b: u64, routeIndexes: u16, words: &[u64])
-    requires { ⌜ (length (now rows) ≡ 516) × (length (now words) ≤ 127) ⌝ }
+    requires { ⌜ (length (now rows) ≡ 2 * rowWords) × (length (now words) ≤ 127) ⌝ }
     ensures { λ _. ⌜ now (rows .exit) ≡ rowsOf (firstOf a b routeIndexes ∷ secondOf a b (now (words .entry)) ∷ []) ⌝ }
 {
     let first = ExpanderUnit {

@@ -1,10 +1,11 @@
 -- make tests for 24; the rows that it fills then hold the domain that is made, and writing their file tests for 16.
-use Prim.Native.Nat.{ℕ}
+use Prim.Native.Nat.{ℕ, _*_}
 use mathlib.Core.Path.{refl, sym, _∙_, ap}
 use native.Mathlib.Omega.{arith}
 use lib.ListN.{length-replicate}
 use lib.Seq.{length-take-le}
 use Rattle.files.proofs.ListMembers.{was-false}
+use Rattle.files.specs.Rows.{rowWords}
 use Rattle.frames.specs.Refusals.{refused}
 use Rattle.exercises.specs.Rig.{noRig}
 use Rattle.exercises.proofs.TrimmedWords.{trimmed-few}
@@ -38,7 +39,7 @@ slice-aggregate-put-rig-2 c =
     sym (length-take-le _ (at-args .list .now) (omega (arith, (c .before .before .trimmed-count) .ensures .0, trimmed-few (at-args .list .now))))
 
 put-rig-requires : tie.Need-put-rig-requires
-put-rig-requires c κs = let a = (c .before .before .before .before .before .before .before .args) in let k = makable (a .a) (a .b) (a .list .now) (was-false (noRig (a .a) (a .b) (a .list .now)) (sym ((c .before .before .before .before .is-no-rig) .ensures) ∙ (c .before .before .before .if1) .left)) in let t = (c .before .before .trimmed-count) in let l = length-take-le (t .result) (a .list .now) (omega (arith, t .ensures .0, trimmed-few (a .list .now))) in (length-replicate {A = ℕ} 516 0, omega (arith, k .phys, t .ensures .0))
+put-rig-requires c κs = let a = (c .before .before .before .before .before .before .before .args) in let k = makable (a .a) (a .b) (a .list .now) (was-false (noRig (a .a) (a .b) (a .list .now)) (sym ((c .before .before .before .before .is-no-rig) .ensures) ∙ (c .before .before .before .if1) .left)) in let t = (c .before .before .trimmed-count) in let l = length-take-le (t .result) (a .list .now) (omega (arith, t .ensures .0, trimmed-few (a .list .now))) in (length-replicate {A = ℕ} (2 * rowWords) 0, omega (arith, k .phys, t .ensures .0))
 
 slice-aggregate-file-of-rows : tie.Need-slice-aggregate-file-of-rows
 slice-aggregate-file-of-rows c = search needs

@@ -2,6 +2,7 @@
 use mathlib.Core.Path.{refl, sym}
 use native.Mathlib.Omega.{arith}
 use lib.Seq.{length-take-le}
+use Rattle.files.specs.Rows.{rowWords}
 use Rattle.exercises.proofs.RowPuts.{rig-put}
 use borrow.Author.Needs.{needs}
 use Rattle.exercises.proofs.rows.put_rig.Statement.{statement}
@@ -17,7 +18,7 @@ slice-relend-prefix-put-row : tie.Need-slice-relend-prefix-put-row
 slice-relend-prefix-put-row c = search needs
 
 slice-aggregate-put-row : tie.Need-slice-aggregate-put-row
-slice-aggregate-put-row c = sym (length-take-le 258 ((c .before .before .before .args) .rows .now) (omega (arith, (c .before .before .before .pre) .0)))
+slice-aggregate-put-row c = sym (length-take-le rowWords ((c .before .before .before .args) .rows .now) (omega (arith, (c .before .before .before .pre) .0)))
 
 toward-requires : tie.Need-toward-requires
 toward-requires c κs = search needs
@@ -26,7 +27,7 @@ slice-aggregate-put-row-2 : tie.Need-slice-aggregate-put-row-2
 slice-aggregate-put-row-2 c = search needs
 
 put-row-requires : tie.Need-put-row-requires
-put-row-requires c κs = ((length-take-le 258 ((c .before .before .before .before .before .args) .rows .now) (omega (arith, (c .before .before .before .before .before .pre) .0)), omega arith), refl)
+put-row-requires c κs = ((length-take-le rowWords ((c .before .before .before .before .before .args) .rows .now) (omega (arith, (c .before .before .before .before .before .pre) .0)), omega arith), refl)
 
 sub-put-row : tie.Need-sub-put-row
 sub-put-row c = search needs
