@@ -5,6 +5,8 @@ use mathlib.Core.Bool.{Bool, true, false, cond}
 use mathlib.Core.List.{List, [], _∷_, _++_, flatMap, append-assoc}
 use native.Mathlib.Omega.{arith}
 use lib.ListN.{length, getD, take, drop, length-append}
+use Rattle.wiring.specs.index.AddressIndex.{mostSlots, mostDomainPhys}
+use Rattle.files.specs.Rows.{mostRowWords, rowWords}
 use Rattle.tables.specs.WiringDefinitions.{Result, good, then, Expanders, keep, Domain, expanderAt, phyAt, isTable, Place, places, domainIn, RowsRead, Setting, IndexRoom}
 use Rattle.tables.proofs.WiringLemmas.{good-one, then-good, read-good, opened}
 use Rattle.tables.specs.filling.Tables.{table, tablePlaces, tables, size, needed}
@@ -94,14 +96,14 @@ pub record Listed (setting : Setting) (file : List ℕ) (t w : ℕ) (rows words 
   pub chunks : (n : ℕ) → needed domain ≤ n → chunksFrom (domainIn rows) words (cursor 0 0 0 0) n ++ totalsOf t w ≡ listingOf domain
 
 -- from what `read_domain` promises, and `give_rows` over the rows that it wrote
-pub listed : (setting : Setting) (file before after first low : List ℕ) (lent left : Entries) (n t w : ℕ) → length before ≡ 16512 → length first ≡ 8256 → length low ≡ 8192
+pub listed : (setting : Setting) (file before after first low : List ℕ) (lent left : Entries) (n t w : ℕ) → length before ≡ mostRowWords → length first ≡ mostSlots → length low ≡ mostDomainPhys
     → RowsRead setting file (Expanders n) before after
-    → OwnDone (then (judgedIn (setting .chain) (length first) (length low) (domainIn (take (258 * n) after))) (tablesFor (roomOf lent))) (Counts t w) lent left
-    → Listed setting file t w (take (258 * n) after) (left .words)
+    → OwnDone (then (judgedIn (setting .chain) (length first) (length low) (domainIn (take (rowWords * n) after))) (tablesFor (roomOf lent))) (Counts t w) lent left
+    → Listed setting file t w (take (rowWords * n) after) (left .words)
 unfolding listingOf
 listed setting file before after first low lent left n t w eb ef el r done =
     let o = opened setting file before after (λ x q. let g = read-good setting file x q in omega (arith, g .few, g .range .expanders .1)) (Expanders n) r in
-    let here : Domain = domainIn (take (258 * n) after) in
+    let here : Domain = domainIn (take (rowWords * n) after) in
     let room : IndexRoom here first low = let few = o .1 in record { slots = omega (arith, few .0, few .1); phys = omega (arith, few .0, few .1) } in
     let g = call-done setting file lent left here (judgedIn (setting .chain) (length first) (length low) here) (Counts t w) (o .0) (judged-own setting file first low here (o .0) room) done in
     let a = then-good (tableCall setting file (roomOf lent)) countsIn (record { tableCount = t; wordCount = w }) (sym (g .answers)) in
@@ -110,9 +112,9 @@ listed setting file before after first low lent left n t w eb ef el r done =
     let e : here ≡ d = good-one _ _ (sym (o .0) ∙ judged-file setting file d .0 (c .0) .0) in
     let f = good-one _ _ (a .2) in
     let q : left .words ≡ tables d ++ drop (length (tables d)) (lent .words) = ap (λ (x : Entries). x .words) (g .left ∙ ap (λ (x : Result Domain). tablesAfter x lent) (a .1)) in
-    let l : linesFrom (domainIn (take (258 * n) after)) (left .words) (cursor 0 0 0 0) ≡ entryLines d =
+    let l : linesFrom (domainIn (take (rowWords * n) after)) (left .words) (cursor 0 0 0 0) ≡ entryLines d =
     ap₂ (λ (x : Domain) (y : List ℕ). linesFrom x y (cursor 0 0 0 0)) e q ∙ tables-lines d (drop (length (tables d)) (lent .words)) in
-    let x : textOf (linesFrom (domainIn (take (258 * n) after)) (left .words) (cursor 0 0 0 0)) ++ totalsOf t w ≡ listingOf d =
+    let x : textOf (linesFrom (domainIn (take (rowWords * n) after)) (left .words) (cursor 0 0 0 0)) ++ totalsOf t w ≡ listingOf d =
     ap₂ (λ (ls : List (List ℕ)) (y : Counted). textOf ls ++ totalsOf (y .tableCount) (y .wordCount)) l (sym f) in
     record {
       domain = d;
@@ -121,5 +123,5 @@ listed setting file before after first low lent left n t w eb ef el r done =
       text = x;
       chunks = λ k h.
           ap (λ (ls : List ℕ). ls ++ totalsOf t w)
-          (all-chunks k (domainIn (take (258 * n) after)) (left .words) (cursor 0 0 0 0) (omega (arith, ap length l, lines-needed d))) ∙ x;
+          (all-chunks k (domainIn (take (rowWords * n) after)) (left .words) (cursor 0 0 0 0) (omega (arith, ap length l, lines-needed d))) ∙ x;
     }
