@@ -51,8 +51,8 @@ returns : tie.Need-returns
 unfolding routeFrame bytesOf
 returns c =
     let f = c .before .before .before .before .before .before in
-    c .before .before .put-number2 .ensures
-    ∙ simp (f .put-number .ensures, f .before .before .before .before .clear-front .ensures, f .before .before .before .before .before .before .disable-byte .ensures)
+    let at-disable-byte = f .before .before .before .before .before .before .disable-byte in
+    c .before .before .put-number2 .ensures ∙ simp (f .put-number .ensures, f .before .before .before .before .clear-front .ensures, at-disable-byte .ensures)
 
 pub put-frame-spec : {M : Type 1} → statement M
 put-frame-spec = tie.close (tie.spec disable-byte-requires clear-front-requires slice-write-buf slice-write-buf-2 slice-write-buf-3 slice-write-buf-4 slice-write-buf-5 cast-put-number put-number-requires put-number-requires-2 same-length returns)

@@ -39,7 +39,7 @@ unfolding wiringCall
     (λ c κs. omega (arith, c .before .before .stated-count .ensures, c .before .if1 .taken))
     (λ c. search needs)
     (λ c. search needs)
-    (λ c. sym (length-take-le 2 (c .before .before .before .before .before .before .before .args .file .now) (omega (arith, c .before .if3 .taken))))
+    (λ c. let at-args = c .before .before .before .before .before .before .before .args in sym (length-take-le 2 (at-args .file .now) (omega (arith, c .before .if3 .taken))))
     (λ c κs. let s = c .before .before .before .before .before .before .before .before in let h = c .before .before .if3 .taken in (omega (arith, s .pre .0, length-take-le 2 (s .args .file .now) (omega arith)), tt))
     (λ c. search needs)
     (λ c. let b = c .before .before .before .before .before in

@@ -43,8 +43,9 @@ returns : tie.Need-returns Inv-loop μ-loop
 unfolding endsAt
 returns c =
     let at-args = c .before .before .before .before .before .before .before .before .args in
+    let at-phy-count = c .before .before .before .before .before .before .phy-count in
     let d : Domain = domainIn (at-args .rows .now) in
-    ap (checkAnswer d) ((c .check-refused) .ensures) ∙ phy-stop 8 (endsAt (at-args .s) d) d (at-args .i .0) ((c .before .before .before .before .before .before .phy-count) .result) ((c .before .before .before .before .before .loop) .p) ((c .before .before .before .before .before .loop) .inv .1) (ap (isEnd (at-args .s)) (sym ((c .before .before .before .phy-in-row) .ensures ∙ phy-held _ _ _ (omega (arith, (c .before .before .before .before .before .before .phy-count) .ensures .0)))) ∙ sym ((c .before .before .is-end) .ensures) ∙ (c .before .if1) .taken) (omega arith)
+    ap (checkAnswer d) ((c .check-refused) .ensures) ∙ phy-stop 8 (endsAt (at-args .s) d) d (at-args .i .0) (at-phy-count .result) ((c .before .before .before .before .before .loop) .p) ((c .before .before .before .before .before .loop) .inv .1) (ap (isEnd (at-args .s)) (sym ((c .before .before .before .phy-in-row) .ensures ∙ phy-held _ _ _ (omega (arith, at-phy-count .ensures .0)))) ∙ sym ((c .before .before .is-end) .ensures) ∙ (c .before .if1) .taken) (omega arith)
 
 add-p : tie.Need-add-p Inv-loop μ-loop
 add-p c = omega arith

@@ -49,7 +49,8 @@ returns-2 : tie.Need-returns-2 Inv-loop μ-loop
 returns-2 c =
     let t = c .before in
     let l = t .before .before .before .loop in
-    let d = domainIn (t .before .before .before .before .before .before .before .before .before .args .rows .now) in
+    let at-args = t .before .before .before .before .before .before .before .before .before .args in
+    let d = domainIn (at-args .rows .now) in
     ap (checkAnswer d) (c .check-refused .ensures)
     ∙ joined-stop d _ (l .i) (l .inv .1 .1 .1 .1)
     (sym (joined-bit d _ (l .i) (l .inv .1 .1 .1 .0) (omega arith)) ∙ sym (t .before .has .ensures) ∙ not-true _ (t .if2 .taken)) (omega arith)

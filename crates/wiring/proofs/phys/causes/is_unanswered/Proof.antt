@@ -34,7 +34,8 @@ returns-2 : tie.Need-returns-2
 unfolding unanswered
 returns-2 c =
     let a = c .before .before .before .before .before .before .before .args in
-    let f = c .before .before .before .before .phy-in-row .ensures ∙ phy-held _ _ _ (c .before .before .before .before .before .before .before .pre .1) in
+    let at-pre = c .before .before .before .before .before .before .before .pre in
+    let f = c .before .before .before .before .phy-in-row .ensures ∙ phy-held _ _ _ (at-pre .1) in
     let φ = phyAt (domainIn (a .rows .now)) (a .i .0) (a .p .0) in
     let e = c .before .before .before .phy-type .ensures ∙ ap typeOf f in
     let g = c .before .phy-attribute .ensures ∙ ap attributeOf f in
