@@ -20,7 +20,7 @@ use Rattle.files.specs.File.{parsed, unitTested}
 use Rattle.files.specs.UnitAnswers.{endsAt}
 use Rattle.files.proofs.CallResults.{never}
 use Rattle.files.proofs.OneMore.{set-next}
-use Rattle.cards.specs.Card.{unitOn, expanderOn}
+use Rattle.cards.specs.Card.{unitOn, expanderOn, headSize}
 use Rattle.cards.specs.CardRead.{phyRanged, physTested, unitFields, unitsTested}
 use Rattle.cards.specs.CardWalks.{rangedCount, afterCheck}
 use Rattle.cards.proofs.CardDomain.{count-phys}
@@ -88,7 +88,7 @@ module _ (most : Setting) (l used : List ℕ) (i at : ℕ) where
   unfolding expanderOn
   fields-on =
       ap (λ (c : ℕ). record { address = field 64 (drop at l); routeIndexes = field 16 (drop 64 (drop at l)); phys = c; configurable = field 1 (drop 80 (drop at l)) })
-      (count-phys (suc (field 7 (drop 81 (drop at l)))) (drop 88 (drop at l)))
+      (count-phys (suc (field 7 (drop 81 (drop at l)))) (drop headSize (drop at l)))
 
   unit-is : (e : Expander) (u : ExpanderUnit) (r : ℕ) → u ≡ unitFields e → r ≡ rangedCount (e .phys) → (k : Result Domain)
       → then (unitTested most (take i used) i u) (λ w. unless (leb (u .phys) r) (refusal 6 i r) k) ≡ then (unitTested most (take i used) i (unitFields e)) (λ w. physTested i 0 (e .phys) k)

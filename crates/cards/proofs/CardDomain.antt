@@ -25,7 +25,7 @@ use Rattle.files.specs.File.{unitTested}
 use Rattle.files.proofs.ListMembers.{and-right, is-true}
 use Rattle.files.proofs.SettingRanges.{range-iff}
 use Rattle.files.proofs.CallResults.{unless-good, good-unless, then-good, good-one, both}
-use Rattle.cards.specs.Card.{phyBits, physBits, headBits, expandersBits, cardBits, cardOf, presentSize, phySize, physSize, expandersSize, cardSize, presentOn, phyOn, physOn, expanderOn, expandersOn, domainOn}
+use Rattle.cards.specs.Card.{phyBits, physBits, headBits, expandersBits, cardBits, cardOf, presentSize, phySize, physSize, expandersSize, cardSize, presentOn, phyOn, physOn, expanderOn, expandersOn, domainOn, headSize}
 use Rattle.cards.specs.CardRead.{resultFine, resultsFine, allFine, formed, phyRanged, physTested, unitFields, unitsTested, cardReadBy, cardRead}
 use Rattle.cards.proofs.DomainRanges.{FieldsRange, PhyRange, PhysRange, ExpanderRange, ExpandersRange, Legal}
 use Rattle.cards.proofs.CardRoundTrip.{field-one, phy-by, bits-card, size-card}
@@ -150,23 +150,23 @@ count-phys zero l = refl
 count-phys (suc n) l = ap suc (count-phys n (drop (phySize (phyOn l)) l))
 
 -- an expander
-head-is : (l : List ℕ) → Bits l → 88 ≤ length l → headBits (expanderOn l) ≡ take 88 l
+head-is : (l : List ℕ) → Bits l → headSize ≤ length l → headBits (expanderOn l) ≡ take headSize l
 unfolding expanderOn
 head-is l h k =
     let n : ℕ = field 7 (drop 81 l) in
-    let c = count-phys (suc n) (drop 88 l) in
-    let m : length (physOn (suc n) (drop 88 l)) - 1 ≡ n = omega arith in
+    let c = count-phys (suc n) (drop headSize l) in
+    let m : length (physOn (suc n) (drop headSize l)) - 1 ≡ n = omega arith in
     let a = bits-back 64 l h (omega arith) in
     let b = bits-back 16 (drop 64 l) (bits-drop 64 l h) (omega (arith, length-drop 64 l)) in
     let e = bits-back 1 (drop 80 l) (bits-drop 80 l h) (omega (arith, length-drop 80 l)) in
     let f = bits-back 7 (drop 81 l) (bits-drop 81 l h) (omega (arith, length-drop 81 l)) in
-    let g : take 88 l ≡ take 64 l ++ (take 16 (drop 64 l) ++ (take 1 (drop 80 l) ++ take 7 (drop 81 l))) =
+    let g : take headSize l ≡ take 64 l ++ (take 16 (drop 64 l) ++ (take 1 (drop 80 l) ++ take 7 (drop 81 l))) =
     take-add 64 24 l ∙ ap (λ (m : List ℕ). take 64 l ++ m) (take-add 16 8 (drop 64 l)
     ∙ ap (λ (m : List ℕ). take 16 (drop 64 l) ++ m) (ap (take 8) (drop-drop 16 64 l) ∙ take-add 1 7 (drop 80 l)
     ∙ ap (λ (m : List ℕ). take 1 (drop 80 l) ++ take 7 m) (drop-drop 1 80 l))) in
     rw (m, a, b, e, f) (sym g)
 
-pub phys-in : (l : List ℕ) → expanderOn l .phys ≡ physOn (suc (field 7 (drop 81 l))) (drop 88 l)
+pub phys-in : (l : List ℕ) → expanderOn l .phys ≡ physOn (suc (field 7 (drop 81 l))) (drop headSize l)
 unfolding expanderOn
 phys-in l = refl
 
@@ -178,27 +178,27 @@ expanders-are zero l h k = refl
 expanders-are (suc n) l h k =
     let e : Expander = expanderOn l in
     let s : ℕ = physSize (e .phys) in
-    let m : List ℕ = drop (88 + s) l in
+    let m : List ℕ = drop (headSize + s) l in
     let r : ℕ = expandersSize (expandersOn n m) in
     let a = head-is l h (omega arith) in
     let b = phys-of l h (omega arith) in
-    let c = expanders-are n m (bits-drop (88 + s) l h) (omega (arith, length-drop (88 + s) l)) in
-    rw (a, b, c) (sym (take-add 88 (s + r) l ∙ ap (λ (v : List ℕ). take 88 l ++ v) (take-add s r (drop 88 l) ∙ ap (λ (v : List ℕ). take s (drop 88 l) ++ take r v) (drop-drop s 88 l))))
+    let c = expanders-are n m (bits-drop (headSize + s) l h) (omega (arith, length-drop (headSize + s) l)) in
+    rw (a, b, c) (sym (take-add headSize (s + r) l ∙ ap (λ (v : List ℕ). take headSize l ++ v) (take-add s r (drop headSize l) ∙ ap (λ (v : List ℕ). take s (drop headSize l) ++ take r v) (drop-drop s headSize l))))
   where
-    after : (l : List ℕ) → 88 + physSize (expanderOn l .phys) ≤ length l → physSize (expanderOn l .phys) ≤ length (drop 88 l)
-    after l k = omega (arith, length-drop 88 l)
+    after : (l : List ℕ) → headSize + physSize (expanderOn l .phys) ≤ length l → physSize (expanderOn l .phys) ≤ length (drop headSize l)
+    after l k = omega (arith, length-drop headSize l)
 
-    phys-of : (l : List ℕ) → Bits l → 88 + physSize (expanderOn l .phys) ≤ length l
-        → physBits (expanderOn l .phys) ≡ take (physSize (expanderOn l .phys)) (drop 88 l)
-    phys-of l h k = rw (phys-in l) (phys-are (suc (field 7 (drop 81 l))) (drop 88 l) (bits-drop 88 l h) (rw (phys-in l) at (after l k)))
+    phys-of : (l : List ℕ) → Bits l → headSize + physSize (expanderOn l .phys) ≤ length l
+        → physBits (expanderOn l .phys) ≡ take (physSize (expanderOn l .phys)) (drop headSize l)
+    phys-of l h k = rw (phys-in l) (phys-are (suc (field 7 (drop 81 l))) (drop headSize l) (bits-drop headSize l h) (rw (phys-in l) at (after l k)))
 
 expander-read : (l : List ℕ) → Bits l → resultsFine (expanderOn l .phys) ≡ true → ExpanderRange (expanderOn l)
 unfolding expanderOn
 expander-read l h k =
     let n : ℕ = suc (field 7 (drop 81 l)) in
     let f = field-lt 7 (drop 81 l) (bits-drop 81 l h) in
-    let c = count-phys n (drop 88 l) in
-    let p = phys-read n (drop 88 l) (bits-drop 88 l h) k in
+    let c = count-phys n (drop headSize l) in
+    let p = phys-read n (drop headSize l) (bits-drop headSize l h) k in
     record {
       own-address-in = field-lt 64 l h;
       route-indexes-in = field-lt 16 (drop 64 l) (bits-drop 64 l h);
@@ -212,14 +212,14 @@ expanders-read : (n : ℕ) (l : List ℕ) → Bits l → allFine (expandersOn n 
 unfolding expandersOn allFine
 expanders-read zero l h k = tt
 expanders-read (suc n) l h k =
-    let s : ℕ = 88 + physSize (expanderOn l .phys) in
+    let s : ℕ = headSize + physSize (expanderOn l .phys) in
     let t = both (resultsFine (expanderOn l .phys)) (allFine (expandersOn n (drop s l))) k in
     (expander-read l h (t .0), expanders-read n (drop s l) (bits-drop s l h) (t .1))
 
 pub count-expanders : (n : ℕ) (l : List ℕ) → length (expandersOn n l) ≡ n
 unfolding expandersOn
 count-expanders zero l = refl
-count-expanders (suc n) l = ap suc (count-expanders n (drop (88 + physSize (expanderOn l .phys)) l))
+count-expanders (suc n) l = ap suc (count-expanders n (drop (headSize + physSize (expanderOn l .phys)) l))
 
 -- a whole card
 module _ (l : List ℕ) (h : Bits l) where

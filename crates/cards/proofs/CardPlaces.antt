@@ -15,7 +15,7 @@ use Rattle.frames.proofs.PackedBits.{Bits, length-bitsOf, bits-drop}
 use Rattle.files.specs.declared.Phy.{Phy}
 use Rattle.files.specs.declared.Phy.the-variants.{Vacant, Present}
 use Rattle.files.specs.Domain.{Domain}
-use Rattle.cards.specs.Card.{phySize, physSize, cardSize, presentOn, phyOn, physOn, unitOn, expanderOn, expandersOn, domainOn}
+use Rattle.cards.specs.Card.{phySize, physSize, cardSize, presentOn, phyOn, physOn, unitOn, expanderOn, expandersOn, domainOn, headSize, mostPhySize}
 use Rattle.cards.specs.CardRead.{allFine, formed}
 use Rattle.frames.proofs.NumberBits.{field-lt, field-split}
 use Rattle.cards.proofs.CardRoundTrip.{phy-by}
@@ -84,20 +84,20 @@ module _ (l : List ℕ) (at : ℕ) where
 
   -- the next expander
   pub next-expanders : (n i : ℕ) → i < n → expandersOn (n - i) (drop at l)
-      ≡ expanderOn (drop at l) ∷ expandersOn (n - (i + 1)) (drop (at + (88 + physSize (expanderOn (drop at l) .phys))) l)
+      ≡ expanderOn (drop at l) ∷ expandersOn (n - (i + 1)) (drop (at + (headSize + physSize (expanderOn (drop at l) .phys))) l)
   unfolding expandersOn
   next-expanders n i h =
       let w : n - i ≡ suc (n - (i + 1)) = omega arith in
-      rw (w, drop-drop (88 + physSize (expanderOn (drop at l) .phys)) at l)
+      rw (w, drop-drop (headSize + physSize (expanderOn (drop at l) .phys)) at l)
 
   pub no-expanders : (n i : ℕ) → n ≤ i → expandersOn (n - i) (drop at l) ≡ []
   unfolding expandersOn
   no-expanders n i h = let w : n - i ≡ 0 = omega arith in rw w
 
-  pub phys-from : expanderOn (drop at l) .phys ≡ physOn (suc (field 7 (drop (at + 81) l))) (drop (at + 88) l)
-  phys-from = phys-in (drop at l) ∙ rw (drop-drop 81 at l, drop-drop 88 at l)
+  pub phys-from : expanderOn (drop at l) .phys ≡ physOn (suc (field 7 (drop (at + 81) l))) (drop (at + headSize) l)
+  phys-from = phys-in (drop at l) ∙ rw (drop-drop 81 at l, drop-drop headSize at l)
 
-pub sizes-few : (φs : List Phy) → physSize φs ≤ 78 * length φs
+pub sizes-few : (φs : List Phy) → physSize φs ≤ mostPhySize * length φs
 unfolding physSize
 sizes-few [] = omega arith
 sizes-few (φ ∷ φs) = let a = sizes-few φs in let b = phy-at-most φ in omega arith

@@ -17,11 +17,11 @@ use Rattle.files.specs.declared.Phy.the-variants.{Vacant, Present}
 use Rattle.files.specs.declared.PhyFields.{PhyFields}
 use Rattle.files.specs.Domain.{Expander, Domain, noExpander, expanderAt}
 use Rattle.files.proofs.OneMore.{drop-next}
-use Rattle.cards.specs.Card.{phyBits, physBits, headBits, expandersBits, cardBits, cardOf, presentSize, phySize, physSize, expandersSize, cardSize}
+use Rattle.cards.specs.Card.{phyBits, physBits, headBits, expandersBits, cardBits, cardOf, presentSize, phySize, physSize, expandersSize, cardSize, headSize, mostPhySize}
 use Rattle.cards.proofs.CardRoundTrip.{size-phy, size-phys, length-head, size-expanders, size-card, bits-card}
 use Rattle.cards.proofs.CardDomain.{zero-bits}
 
-pub size-more : (f : PhyFields) → (f .deviceType ≡ 0 → ⊥) → phySize (Present f) ≡ 78
+pub size-more : (f : PhyFields) → (f .deviceType ≡ 0 → ⊥) → phySize (Present f) ≡ mostPhySize
 size-more f e = rw (ne-eqb (f .deviceType) 0 e)
 
 spelled : (a b c e : ℕ) → ((numberBits 1 1 ++ (numberBits 3 a ++ numberBits 2 b)) ++ numberBits 64 c) ++ numberBits 8 e ≡ 1 ∷ (numberBits 3 a ++ (numberBits 2 b ++ (numberBits 64 c ++ numberBits 8 e)))
@@ -84,11 +84,11 @@ pub sizes-none : (φs : List Phy) (p : ℕ) → length φs ≤ p → physSize (d
 unfolding physSize
 sizes-none φs p h = rw (drop-of-length-le φs h)
 
-pub phy-at-most : (φ : Phy) → phySize φ ≤ 78
+pub phy-at-most : (φ : Phy) → phySize φ ≤ mostPhySize
 phy-at-most (Vacant r) = omega arith
 phy-at-most (Present f) = go (eqb (f .deviceType) 0)
   where
-    go : (b : Bool) → presentSize b ≤ 78
+    go : (b : Bool) → presentSize b ≤ mostPhySize
     go true = omega arith
     go false = omega arith
 
@@ -114,7 +114,7 @@ head-put-as e at l l1 l2 l3 l4 a b c n p q r s w x y z =
     head-put e at l l1 l2 l3 l4 (w ∙ ap (λ (k : ℕ). sets l at (numberBits 64 k)) p) (x ∙ ap (λ (k : ℕ). sets l1 (at + 64) (numberBits 16 k)) q)
     (y ∙ ap (λ (k : ℕ). sets l2 (at + 80) (numberBits 1 k)) r) (z ∙ ap (λ (k : ℕ). sets l3 (at + 81) (numberBits 7 k)) s)
 
-pub total-next : (d : Domain) (i : ℕ) → i < length d → expandersSize (drop i d) ≡ 88 + (physSize (expanderAt d i .phys) + expandersSize (drop (i + 1) d))
+pub total-next : (d : Domain) (i : ℕ) → i < length d → expandersSize (drop i d) ≡ headSize + (physSize (expanderAt d i .phys) + expandersSize (drop (i + 1) d))
 unfolding expandersSize
 total-next d i h = ap expandersSize (drop-next noExpander d i h)
 
@@ -124,14 +124,14 @@ total-none d i h = rw (drop-of-length-le d h)
 
 -- a turn of putting expanders, and the end
 pub expanders-turn : (d : Domain) (i at at′ : ℕ) (l m l′ v : List ℕ) → i < length d → sets l at (expandersBits (drop i d)) ≡ v
-    → m ≡ sets l at (headBits (expanderAt d i)) → l′ ≡ sets m (at + 88) (physBits (expanderAt d i .phys)) → at′ ≡ at + 88 + physSize (expanderAt d i .phys)
+    → m ≡ sets l at (headBits (expanderAt d i)) → l′ ≡ sets m (at + headSize) (physBits (expanderAt d i .phys)) → at′ ≡ at + headSize + physSize (expanderAt d i .phys)
     → sets l′ at′ (expandersBits (drop (i + 1) d)) ≡ v
 unfolding expandersBits
 expanders-turn d i at at′ l m l′ v h inv e f k =
     let x : Expander = expanderAt d i in
     let s : List ℕ = expandersBits (drop (i + 1) d) in
     let w : sets l at (expandersBits (drop i d)) ≡ sets l at (headBits x ++ (physBits (x .phys) ++ s)) = ap (λ (n : Domain). sets l at (expandersBits n)) (drop-next noExpander d i h) in
-    let p = sets-then l m l′ at (at + 88) (headBits x) (physBits (x .phys)) e f (omega (arith, length-head x)) in
+    let p = sets-then l m l′ at (at + headSize) (headBits x) (physBits (x .phys)) e f (omega (arith, length-head x)) in
     let n : at′ ≡ at + length (headBits x ++ physBits (x .phys)) = omega (arith, length-append (headBits x) (physBits (x .phys)), length-head x, size-phys (x .phys)) in
     sets-then l l′ (sets l′ at′ s) at at′ (headBits x ++ physBits (x .phys)) s p refl n
     ∙ ap (sets l at) (append-assoc (headBits x) (physBits (x .phys)) s) ∙ sym w ∙ inv

@@ -22,7 +22,7 @@ use Rattle.files.specs.Settings.{within, inRange}
 use Rattle.files.specs.Domain.{Expander, Domain}
 use Rattle.files.proofs.ListMembers.{is-true}
 use Rattle.files.proofs.SettingRanges.{range-iff}
-use Rattle.cards.specs.Card.{endBits, phyBits, physBits, headBits, expandersBits, cardBits, cardOf, presentSize, phySize, physSize, expandersSize, cardSize, phyBy, phyOn, physOn, expanderOn, expandersOn, domainOn}
+use Rattle.cards.specs.Card.{endBits, phyBits, physBits, headBits, expandersBits, cardBits, cardOf, presentSize, phySize, physSize, expandersSize, cardSize, phyBy, phyOn, physOn, expanderOn, expandersOn, domainOn, headSize}
 use Rattle.cards.specs.CardRead.{resultsFine, allFine, formed, cardRead}
 use Rattle.cards.proofs.DomainRanges.{FieldsRange, PhyRange, PhysRange, ExpanderRange, ExpandersRange, Legal}
 
@@ -104,7 +104,7 @@ expander-back e l φs h q =
     let k : field 7 (drop 81 (headBits e ++ l)) ≡ n = number-back 7 n l (omega (arith, h .few-phys)) in
     rw (a, b, c, k, m, q)
 
-pub length-head : (e : Expander) → length (headBits e) ≡ 88
+pub length-head : (e : Expander) → length (headBits e) ≡ headSize
 unfolding numberBits
 length-head e = refl
 
@@ -116,12 +116,12 @@ expanders-back (e ∷ d) rest h =
     let i = expander-back e (physBits (e .phys) ++ r) (e .phys) (h .0) (phys-back (e .phys) r (h .0 .phys-in)) in
     let s : (headBits e ++ (physBits (e .phys) ++ expandersBits d)) ++ rest ≡ headBits e ++ (physBits (e .phys) ++ r) =
     append-assoc (headBits e) (physBits (e .phys) ++ expandersBits d) rest ∙ ap (λ (l : List ℕ). headBits e ++ l) (append-assoc (physBits (e .phys)) (expandersBits d) rest) in
-    let t : drop (88 + physSize (e .phys)) (headBits e ++ (physBits (e .phys) ++ r)) ≡ r = skip-head e r in
+    let t : drop (headSize + physSize (e .phys)) (headBits e ++ (physBits (e .phys) ++ r)) ≡ r = skip-head e r in
     rw (s, i, t, expanders-back d rest (h .1))
   where
-    skip-head : (e : Expander) (r : List ℕ) → drop (88 + physSize (e .phys)) (headBits e ++ (physBits (e .phys) ++ r)) ≡ r
+    skip-head : (e : Expander) (r : List ℕ) → drop (headSize + physSize (e .phys)) (headBits e ++ (physBits (e .phys) ++ r)) ≡ r
     skip-head e r =
-        drop-past (headBits e) (physBits (e .phys) ++ r) (physSize (e .phys)) (88 + physSize (e .phys)) (omega (arith, length-head e))
+        drop-past (headBits e) (physBits (e .phys) ++ r) (physSize (e .phys)) (headSize + physSize (e .phys)) (omega (arith, length-head e))
         ∙ drop-at (physBits (e .phys)) r (physSize (e .phys)) (size-phys (e .phys))
 
 -- a whole card

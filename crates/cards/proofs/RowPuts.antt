@@ -21,7 +21,7 @@ use Rattle.files.specs.File.{unitTested}
 use Rattle.files.specs.Rows.{phyWord, phyWords, headWord, rowOf, rowsOf, rowWords}
 use Rattle.files.proofs.RowFilling.{length-phyWords, length-rowOf, stored-in-zeros}
 use Rattle.cards.specs.declared.PhysWalk.{PhysWalk}
-use Rattle.cards.specs.Card.{phySize, physSize, expandersSize, cardSize, phyOn, physOn, unitOn, expanderOn, expandersOn, domainOn}
+use Rattle.cards.specs.Card.{phySize, physSize, expandersSize, cardSize, phyOn, physOn, unitOn, expanderOn, expandersOn, domainOn, headSize, mostCardSize, mostPhysSize}
 use Rattle.cards.specs.CardRead.{resultFine, resultsFine, allFine, phyRanged, unitsTested}
 use Rattle.cards.specs.CardWalks.{rangedCount, afterCheck, PhysStored, RowStored, CardStored}
 use Rattle.frames.proofs.NumberBits.{field-lt}
@@ -72,20 +72,20 @@ module _ (l : List ℕ) (n p at : ℕ) where
 
 -- an expander's row
 pub row-made : (l : List ℕ) (at : ℕ) (row before after : List ℕ) (u : ExpanderUnit) (w : ℕ) (walk : PhysWalk) → u ≡ unitOn (drop at l) → u .phys ≤ 128 → w ≡ headWord (u .routeIndexes) (u .phys) (u .configurable)
-    → row ≡ replicate rowWords 0 → before ≡ set (set row 0 (u .address)) 1 w → PhysStored (physOn (u .phys) (drop (at + 88) l)) (at + 88) walk before after → RowStored (expanderOn (drop at l)) at walk after
+    → row ≡ replicate rowWords 0 → before ≡ set (set row 0 (u .address)) 1 w → PhysStored (physOn (u .phys) (drop (at + headSize) l)) (at + headSize) walk before after → RowStored (expanderOn (drop at l)) at walk after
 unfolding rowOf expanderOn
 row-made l at row before after u w walk qu h qw qr qb s =
     let m : List ℕ = drop at l in
-    let φs : List Phy = physOn (suc (field 7 (drop 81 m))) (drop 88 m) in
-    let c : length φs ≡ suc (field 7 (drop 81 m)) = count-phys (suc (field 7 (drop 81 m))) (drop 88 m) in
+    let φs : List Phy = physOn (suc (field 7 (drop 81 m))) (drop headSize m) in
+    let c : length φs ≡ suc (field 7 (drop 81 m)) = count-phys (suc (field 7 (drop 81 m))) (drop headSize m) in
     let n : u .phys ≡ suc (field 7 (drop 81 m)) = ap (λ (x : ExpanderUnit). x .phys) qu in
     let k : length (phyWords φs) ≡ 2 * length φs = length-phyWords φs in
-    let p : physOn (u .phys) (drop (at + 88) l) ≡ φs = ap (λ (x : ExpanderUnit). physOn (x .phys) (drop (at + 88) l)) qu ∙ ap (physOn (suc (field 7 (drop 81 m)))) (sym (drop-drop 88 at l)) in
+    let p : physOn (u .phys) (drop (at + headSize) l) ≡ φs = ap (λ (x : ExpanderUnit). physOn (x .phys) (drop (at + headSize) l)) qu ∙ ap (physOn (suc (field 7 (drop 81 m)))) (sym (drop-drop headSize at l)) in
     let v : w ≡ headWord (field 16 (drop 64 m)) (length φs) (field 1 (drop 80 m)) = qw ∙ ap (λ (x : ExpanderUnit). headWord (x .routeIndexes) (x .phys) (x .configurable)) qu ∙ ap (λ (x : ℕ). headWord (field 16 (drop 64 m)) x (field 1 (drop 80 m))) (sym c) in
     let a : u .address ≡ field 64 m = ap (λ (x : ExpanderUnit). x .address) qu in
     let d = ap (λ (x : List Phy). physSize x) p in
     record {
-      words = s .words ∙ ap (λ (x : List ℕ). sets x 2 (phyWords (physOn (u .phys) (drop (at + 88) l)))) qb ∙ ap (λ (x : List Phy). sets (set (set row 0 (u .address)) 1 w) 2 (phyWords x)) p ∙ stored-in-zeros row (u .address) w (phyWords φs) qr (omega arith)
+      words = s .words ∙ ap (λ (x : List ℕ). sets x 2 (phyWords (physOn (u .phys) (drop (at + headSize) l)))) qb ∙ ap (λ (x : List Phy). sets (set (set row 0 (u .address)) 1 w) 2 (phyWords x)) p ∙ stored-in-zeros row (u .address) w (phyWords φs) qr (omega arith)
           ∙ ap (λ (x : ℕ). x ∷ w ∷ (phyWords φs ++ replicate (256 - length (phyWords φs)) 0)) a ∙ ap (λ (x : ℕ). field 64 m ∷ x ∷ (phyWords φs ++ replicate (256 - length (phyWords φs)) 0)) v;
       place = omega (arith, s .place);
       results = s .results ∙ ap resultsFine p;
@@ -95,7 +95,7 @@ row-made l at row before after u w walk qu h qw qr qb s =
 phys-few : (l : List ℕ) (at : ℕ) → Bits l → length (expanderOn (drop at l) .phys) ≤ 128
 phys-few l at b =
     let f = field-lt 7 (drop 81 (drop at l)) (bits-drop 81 (drop at l) (bits-drop at l b)) in
-    let c : length (expanderOn (drop at l) .phys) ≡ suc (field 7 (drop 81 (drop at l))) = ap length (phys-in (drop at l)) ∙ count-phys (suc (field 7 (drop 81 (drop at l)))) (drop 88 (drop at l)) in
+    let c : length (expanderOn (drop at l) .phys) ≡ suc (field 7 (drop 81 (drop at l))) = ap length (phys-in (drop at l)) ∙ count-phys (suc (field 7 (drop 81 (drop at l)))) (drop headSize (drop at l)) in
     omega arith
 
 -- what a walk through the expanders before expander i of a card's domain d holds, where `rest` are those to come
@@ -127,7 +127,7 @@ module _ (most : Setting) (l before : List ℕ) (d : Domain) (n i at : ℕ) (row
       → ((k : Result Domain) → afterCheck unit k ≡ then (unitTested most (take i used) i u) (λ w. unless (leb (u .phys) (walk .ranged)) (refusal 6 i (walk .ranged)) k))
       → ((k : Result Domain) → afterCheck both k ≡ afterCheck check (afterCheck unit k)) → i < length used → a ≡ rowWords * i → k ≡ rowWords → rowWords * i + rowWords ≤ length rows
       → Walking most before d (i + 1) (walk .next) (take a rows ++ (r ++ drop k (drop a rows))) (set used i (u .address)) (fine && walk .fine) both (expandersOn (n - (i + 1)) (drop (walk .next) l))
-      × (walk .next ≤ at + 10072)
+      × (walk .next ≤ at + (headSize + mostPhysSize))
   unfolding rowsOf expandersSize allFine
   walk-goes b u walk r a k unit both g s qu f o h qa qk m =
       let e : Expander = expanderOn (drop at l) in
@@ -150,7 +150,7 @@ module _ (most : Setting) (l before : List ℕ) (d : Domain) (n i at : ℕ) (row
         omega (arith, s .place),
       )
 
-  pub walk-ends : n ≤ i → at ≤ 644624 → CardStored most d (record { at = at; fine = fine; check = check }) before rows
+  pub walk-ends : n ≤ i → at ≤ mostCardSize → CardStored most d (record { at = at; fine = fine; check = check }) before rows
   unfolding rowsOf expandersSize allFine unitsTested
   walk-ends h f =
       let w : expandersOn (n - i) (drop at l) ≡ [] = no-expanders l at n i h in

@@ -1,5 +1,5 @@
 -- Rig cards: a domain as a row of bits, most significant first, and back.
-use Prim.Native.Nat.{ℕ, zero, suc, _+_, _-_}
+use Prim.Native.Nat.{ℕ, zero, suc, _+_, _*_, _-_}
 use mathlib.Core.Bool.{Bool, true, false}
 use mathlib.Core.List.{List, [], _∷_, _++_}
 use lib.ListN.{length, drop}
@@ -10,6 +10,7 @@ use Rattle.files.specs.declared.Phy.the-variants.{Vacant, Present}
 use Rattle.files.specs.declared.PhyFields.{PhyFields}
 use Rattle.files.specs.declared.ExpanderUnit.{ExpanderUnit}
 use Rattle.files.specs.Domain.{Expander, Domain}
+use Rattle.files.specs.Settings.{mostExpanders, mostPhys}
 use Rattle.files.specs.File.{expanderOf}
 
 -- attached address and attached phy, when the type isn't 0
@@ -43,10 +44,17 @@ cardBits d = numberBits 4 2 ++ (numberBits 6 (length d - 1) ++ (numberBits 6 0 +
 abbrev pub cardOf : Domain → List ℕ
 cardOf d = packed (cardBits d)
 
--- how many bits they take: `size-card` (proofs/CardRoundTrip)
+-- how many bits they take: `size-card` (proofs/CardRoundTrip). A phy takes the most where something is attached: a bit, type, attribute, address and phy
+abbrev pub mostPhySize : ℕ
+mostPhySize = 78
+
+-- an expander's address, R, configurable and phys less 1
+abbrev pub headSize : ℕ
+headSize = 88
+
 abbrev pub presentSize : Bool → ℕ
 presentSize true = 6
-presentSize false = 78
+presentSize false = mostPhySize
 
 abbrev pub phySize : Phy → ℕ
 phySize (Vacant result) = 9
@@ -58,10 +66,17 @@ physSize (φ ∷ φs) = phySize φ + physSize φs
 
 unfoldable pub expandersSize : Domain → ℕ
 expandersSize [] = 0
-expandersSize (e ∷ d) = 88 + (physSize (e .phys) + expandersSize d)
+expandersSize (e ∷ d) = headSize + (physSize (e .phys) + expandersSize d)
 
 abbrev pub cardSize : Domain → ℕ
 cardSize d = 16 + expandersSize d
+
+-- the most that the phys of an expander take, and a card
+abbrev pub mostPhysSize : ℕ
+mostPhysSize = mostPhySize * mostPhys
+
+abbrev pub mostCardSize : ℕ
+mostCardSize = 16 + (headSize + mostPhysSize) * mostExpanders
 
 -- back: any row of bits has a domain, where bits past the end are 0; types above 3 and attribute 3 are kept
 abbrev pub presentOn : Bool → List ℕ → PhyFields
@@ -84,11 +99,11 @@ abbrev pub unitOn : List ℕ → ExpanderUnit
 unitOn l = record { address = field 64 l; routeIndexes = field 16 (drop 64 l); phys = suc (field 7 (drop 81 l)); configurable = field 1 (drop 80 l) }
 
 unfoldable pub expanderOn : List ℕ → Expander
-expanderOn l = expanderOf (unitOn l) (physOn (suc (field 7 (drop 81 l))) (drop 88 l))
+expanderOn l = expanderOf (unitOn l) (physOn (suc (field 7 (drop 81 l))) (drop headSize l))
 
 unfoldable pub expandersOn : ℕ → List ℕ → Domain
 expandersOn zero l = []
-expandersOn (suc count) l = expanderOn l ∷ expandersOn count (drop (88 + physSize (expanderOn l .phys)) l)
+expandersOn (suc count) l = expanderOn l ∷ expandersOn count (drop (headSize + physSize (expanderOn l .phys)) l)
 
 unfoldable pub domainOn : List ℕ → Domain
 domainOn l = expandersOn (suc (field 6 (drop 4 l))) (drop 16 l)

@@ -13,7 +13,7 @@ use Rattle.files.specs.Domain.{Expander, Domain}
 use Rattle.files.specs.Rows.{phyWords, rowOf, rowsOf}
 use Rattle.cards.specs.declared.PhysWalk.{PhysWalk}
 use Rattle.cards.specs.declared.CardWalk.{CardWalk}
-use Rattle.cards.specs.Card.{physSize, cardSize}
+use Rattle.cards.specs.Card.{physSize, cardSize, headSize, mostCardSize}
 use Rattle.cards.specs.CardRead.{resultsFine, allFine, phyRanged, unitsTested}
 
 -- how many phys come before the first of which 6 holds
@@ -36,7 +36,7 @@ pub record PhysStored (φs : List Phy) (at : ℕ) (walk : PhysWalk) (before afte
 -- an expander that starts at bit `at`: its row, and the same of its phys
 pub record RowStored (e : Expander) (at : ℕ) (walk : PhysWalk) (after : List ℕ) : Type 0 where
   pub words : after ≡ rowOf e
-  pub place : walk .next ≡ at + (88 + physSize (e .phys))
+  pub place : walk .next ≡ at + (headSize + physSize (e .phys))
   pub results : walk .fine ≡ resultsFine (e .phys)
   pub tests : walk .ranged ≡ rangedCount (e .phys)
 
@@ -44,6 +44,6 @@ pub record RowStored (e : Expander) (at : ℕ) (walk : PhysWalk) (after : List �
 pub record CardStored (most : Setting) (d : Domain) (walk : CardWalk) (before after : List ℕ) : Type 0 where
   pub words : after ≡ sets before 0 (rowsOf d)
   pub place : walk .at ≡ cardSize d
-  pub few : walk .at ≤ 644624
+  pub few : walk .at ≤ mostCardSize
   pub results : walk .fine ≡ allFine d
   pub tests : (k : Result Domain) → afterCheck (walk .check) k ≡ unitsTested most 0 [] d k

@@ -3,7 +3,7 @@ ghost use mathlib.Core.Path.{_≡_};
 ghost use Prim.Native.Nat.{_+_, _-_, _*_, _%_, _^_, _≤_, _<_};
 ghost use lib.ListN.{drop, set};
 ghost use lib.Seq.{sets};
-ghost use Rattle.frames.specs.Bits.{numberBits, field, bitsOf, withBit};
+ghost use Rattle.frames.specs.Bits.{numberBits, field, bitsOf};
 
 // The eight bits from bit `at` on, by the byte that it stands in and the next one; bits past the end count as 0.
 pub(crate) fn byte_from(s: &[u8], at: usize) -> u64

@@ -90,7 +90,7 @@ fn put_row(row: &mut [u64], card: &[u8], u: ExpanderUnit, at: usize) -> PhysWalk
     wiring::clear(row);
     row[0] = u.address;
     row[1] = w;
-    put_phys(row, card, at + 88, u.phys)
+    put_phys(row, card, at + crate::HEAD_SIZE, u.phys)
 }
 
 // 3 and 4 of expander i, whose fields are u, then 6, where `ranged` of its phys come before the first of which it holds.

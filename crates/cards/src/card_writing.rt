@@ -16,7 +16,7 @@ ghost use Rattle.frames.specs.Bits.{bitsOf, bytesFor};
 ghost use Rattle.files.specs.declared.Phy.the-variants.{Present};
 ghost use Rattle.files.specs.Domain.{expanderAt};
 ghost use Rattle.files.specs.Rows.{domainIn};
-ghost use Rattle.cards.specs.Card.{phyBits, physBits, headBits, expandersBits, physSize, cardSize, cardOf};
+ghost use Rattle.cards.specs.Card.{phyBits, physBits, headBits, expandersBits, physSize, cardSize, cardOf, mostCardSize, mostPhysSize};
 ghost use Rattle.cards.specs.Calls.{cardFor, MadeDone};
 
 // A count less 1; 0 where it is 0.
@@ -63,7 +63,7 @@ fn put_phy(card: &mut [u8], at: usize, f: Phy)
 // Puts the bits of expander i's phys from bit `at` on, and yields the place after them.
 fn put_phys(card: &mut [u8], at: usize, rows: &[u64], i: ExpanderNumber) -> usize
     requires { ⌜ at < 900000 ⌝ }
-    ensures { λ r. ⌜ (bitsOf (now (card .exit)) ≡ sets (bitsOf (now (card .entry))) at (physBits (expanderAt (domainIn (now (rows .entry))) (i .0) .phys))) × ((r ≡ at + physSize (expanderAt (domainIn (now (rows .entry))) (i .0) .phys)) × (r ≤ at + 9984)) ⌝ }
+    ensures { λ r. ⌜ (bitsOf (now (card .exit)) ≡ sets (bitsOf (now (card .entry))) at (physBits (expanderAt (domainIn (now (rows .entry))) (i .0) .phys))) × ((r ≡ at + physSize (expanderAt (domainIn (now (rows .entry))) (i .0) .phys)) × (r ≤ at + mostPhysSize)) ⌝ }
 {
     let n = wiring::phy_count(rows, i);
     let mut next = at;
@@ -90,7 +90,7 @@ fn put_head(card: &mut [u8], at: usize, rows: &[u64], i: ExpanderNumber)
 
 // Puts the bits of all expanders from bit 16 on, and yields the place after them.
 fn put_expanders(card: &mut [u8], rows: &[u64]) -> usize
-    ensures { λ r. ⌜ (bitsOf (now (card .exit)) ≡ sets (bitsOf (now (card .entry))) 16 (expandersBits (domainIn (now (rows .entry))))) × ((r ≡ cardSize (domainIn (now (rows .entry)))) × (r ≤ 644624)) ⌝ }
+    ensures { λ r. ⌜ (bitsOf (now (card .exit)) ≡ sets (bitsOf (now (card .entry))) 16 (expandersBits (domainIn (now (rows .entry))))) × ((r ≡ cardSize (domainIn (now (rows .entry)))) × (r ≤ mostCardSize)) ⌝ }
 {
     let n = wiring::expander_count(rows);
     let mut at: usize = 16;
@@ -98,7 +98,7 @@ fn put_expanders(card: &mut [u8], rows: &[u64]) -> usize
     while i < n {
         let e = ExpanderNumber(i);
         put_head(card, at, rows, e);
-        at = put_phys(card, at + 88, rows, e);
+        at = put_phys(card, at + crate::HEAD_SIZE, rows, e);
         i += 1;
     }
     at

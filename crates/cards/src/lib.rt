@@ -17,6 +17,12 @@ pub use file_writing::file_of_rows;
 use wiring::Check;
 use wiring::Refusal;
 
+// How many bits an expander takes before its phys: address, R, configurable and phys less 1.
+pub(crate) const HEAD_SIZE: usize = 88;
+
+// How many bits a phy takes at most: one with something attached.
+pub(crate) const MOST_PHY_SIZE: usize = 78;
+
 // What making a card or a file answers: its length in bytes.
 pub enum Made {
     Refused(Refusal),

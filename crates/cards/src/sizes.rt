@@ -6,11 +6,11 @@ ghost use mathlib.Core.Path.{_≡_};
 ghost use Prim.Native.Nat.{_≤_};
 ghost use Rattle.files.specs.Domain.{expanderAt};
 ghost use Rattle.files.specs.Rows.{domainIn};
-ghost use Rattle.cards.specs.Card.{phySize, physSize, cardSize};
+ghost use Rattle.cards.specs.Card.{phySize, physSize, cardSize, mostCardSize, mostPhySize, mostPhysSize};
 
 // The bits of a phy.
 pub(crate) fn phy_size(f: Phy) -> usize
-    ensures { λ r. ⌜ (r ≡ phySize f) × (r ≤ 78) ⌝ }
+    ensures { λ r. ⌜ (r ≡ phySize f) × (r ≤ mostPhySize) ⌝ }
 {
     match f {
         Phy::Vacant(_) => 9,
@@ -18,14 +18,14 @@ pub(crate) fn phy_size(f: Phy) -> usize
             if x.deviceType == 0 {
                 return 6;
             }
-            78
+            crate::MOST_PHY_SIZE
         }
     }
 }
 
 // The bits of expander i's phys.
 fn phys_size(rows: &[u64], i: ExpanderNumber) -> usize
-    ensures { λ r. ⌜ (r ≡ physSize (expanderAt (domainIn (now (rows .entry))) (i .0) .phys)) × (r ≤ 9984) ⌝ }
+    ensures { λ r. ⌜ (r ≡ physSize (expanderAt (domainIn (now (rows .entry))) (i .0) .phys)) × (r ≤ mostPhysSize) ⌝ }
 {
     let n = wiring::phy_count(rows, i);
     let mut sum: usize = 0;
@@ -39,13 +39,13 @@ fn phys_size(rows: &[u64], i: ExpanderNumber) -> usize
 
 // The bits of a domain.
 pub(crate) fn card_size(rows: &[u64]) -> usize
-    ensures { λ r. ⌜ (r ≡ cardSize (domainIn (now (rows .entry)))) × (r ≤ 644624) ⌝ }
+    ensures { λ r. ⌜ (r ≡ cardSize (domainIn (now (rows .entry)))) × (r ≤ mostCardSize) ⌝ }
 {
     let n = wiring::expander_count(rows);
     let mut sum: usize = 16;
     let mut i: u8 = 0;
     while i < n {
-        sum += 88 + phys_size(rows, ExpanderNumber(i));
+        sum += crate::HEAD_SIZE + phys_size(rows, ExpanderNumber(i));
         i += 1;
     }
     sum

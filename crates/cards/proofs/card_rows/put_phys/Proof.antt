@@ -12,7 +12,7 @@ use Rattle.frames.specs.Bits.{bitsOf}
 use Rattle.files.specs.declared.Phy.{Phy}
 use Rattle.files.specs.Domain.{addressOf}
 use Rattle.files.specs.Rows.{phyWord, phyWords}
-use Rattle.cards.specs.Card.{phySize, physSize, physOn}
+use Rattle.cards.specs.Card.{phySize, physSize, physOn, mostPhySize}
 use Rattle.cards.specs.CardRead.{resultFine, resultsFine, phyRanged}
 use Rattle.cards.specs.CardWalks.{rangedCount}
 use Rattle.cards.proofs.RowPuts.{past-next, past-none, stored-go, stored-end, fine-go, fine-end, count-go, count-end}
@@ -21,7 +21,7 @@ use Rattle.cards.proofs.card_rows.put_phys.Tie as tie
 
 abbrev Inv-loop : tie.InvT-loop
 Inv-loop row₀ card at n next₀ fine₀ ranged₀ p₀ row next fine ranged p =
-    ((p ≤ n) × ((length row ≡ length row₀) × ((next ≤ at + 78 * p) × (ranged ≤ p))))
+    ((p ≤ n) × ((length row ≡ length row₀) × ((next ≤ at + mostPhySize * p) × (ranged ≤ p))))
     × ((next + physSize (physOn (n - p) (drop next (bitsOf card))) ≡ at + physSize (physOn n (drop at (bitsOf card))))
     × ((sets row (2 + 2 * p) (phyWords (physOn (n - p) (drop next (bitsOf card)))) ≡ sets row₀ 2 (phyWords (physOn n (drop at (bitsOf card)))))
     × (((fine && resultsFine (physOn (n - p) (drop next (bitsOf card)))) ≡ resultsFine (physOn n (drop at (bitsOf card))))

@@ -8,7 +8,7 @@ use Rattle.files.specs.Rows.{rowWords}
 use borrow.Author.Needs.{needs}
 use borrow.Rule.Slice.PartMut.{same-len-mid}
 use Rattle.frames.specs.Bits.{bitsOf}
-use Rattle.cards.specs.Card.{expandersOn, domainOn}
+use Rattle.cards.specs.Card.{expandersOn, domainOn, headSize, mostPhysSize}
 use Rattle.frames.proofs.PackedRows.{bits-bitsOf}
 use Rattle.cards.proofs.RowPuts.{Walking, walk-starts, walk-goes, walk-ends}
 use Rattle.cards.proofs.card_rows.walk_card.Statement.{statement}
@@ -16,7 +16,7 @@ use Rattle.cards.proofs.card_rows.walk_card.Tie as tie
 
 abbrev Inv-loop : tie.InvT-loop
 Inv-loop rows₀ most card n used₀ at₀ fine₀ check₀ i₀ rows used at fine check i =
-    (((i ≤ n) × (length used ≡ 64)) × ((length rows ≡ length rows₀) × (at ≤ 16 + 10072 * i)))
+    (((i ≤ n) × (length used ≡ 64)) × ((length rows ≡ length rows₀) × (at ≤ 16 + (headSize + mostPhysSize) * i)))
     × Walking most rows₀ (domainOn (bitsOf card)) i at rows used fine check (expandersOn (n - i) (drop at (bitsOf card)))
 
 abbrev μ-loop : tie.MeasureT-loop

@@ -8,14 +8,14 @@ use lib.Seq.{sets}
 use Rattle.files.specs.Domain.{Domain}
 use Rattle.files.specs.Rows.{domainIn}
 use Rattle.frames.specs.Bits.{bitsOf}
-use Rattle.cards.specs.Card.{expandersBits, expandersSize, cardSize}
+use Rattle.cards.specs.Card.{expandersBits, expandersSize, cardSize, headSize, mostPhysSize}
 use Rattle.cards.proofs.CardPuts.{total-next, total-none, expanders-turn, expanders-end}
 use Rattle.cards.proofs.card_writing.put_expanders.Statement.{statement}
 use Rattle.cards.proofs.card_writing.put_expanders.Tie as tie
 
 abbrev Inv-loop : tie.InvT-loop
 Inv-loop card₀ rows n at₀ i₀ card at i =
-    (i ≤ n) × ((n ≡ length (domainIn rows)) × ((n ≤ 64) × ((length card ≡ length card₀) × ((at ≤ 16 + 10072 * i)
+    (i ≤ n) × ((n ≡ length (domainIn rows)) × ((n ≤ 64) × ((length card ≡ length card₀) × ((at ≤ 16 + (headSize + mostPhysSize) * i)
     × ((at + expandersSize (drop i (domainIn rows)) ≡ cardSize (domainIn rows))
     × (sets (bitsOf card) at (expandersBits (drop i (domainIn rows))) ≡ sets (bitsOf card₀) 16 (expandersBits (domainIn rows))))))))
 

@@ -10,14 +10,14 @@ use Rattle.files.specs.declared.Phy.{Phy}
 use Rattle.files.specs.Domain.{expanderAt, phyAt}
 use Rattle.files.specs.Rows.{domainIn}
 use Rattle.frames.specs.Bits.{bitsOf}
-use Rattle.cards.specs.Card.{phyBits, physBits, phySize, physSize}
+use Rattle.cards.specs.Card.{phyBits, physBits, phySize, physSize, mostPhySize}
 use Rattle.cards.proofs.CardPuts.{sizes-next, sizes-none, phys-turn, phys-end}
 use Rattle.cards.proofs.card_writing.put_phys.Statement.{statement}
 use Rattle.cards.proofs.card_writing.put_phys.Tie as tie
 
 abbrev Inv-loop : tie.InvT-loop
 Inv-loop card₀ at rows i n next₀ p₀ card next p =
-    (p ≤ n) × ((n ≡ length (expanderAt (domainIn rows) (i .0) .phys)) × ((n ≤ 128) × ((length card ≡ length card₀) × ((next ≤ at + 78 * p)
+    (p ≤ n) × ((n ≡ length (expanderAt (domainIn rows) (i .0) .phys)) × ((n ≤ 128) × ((length card ≡ length card₀) × ((next ≤ at + mostPhySize * p)
     × ((next + physSize (drop p (expanderAt (domainIn rows) (i .0) .phys)) ≡ at + physSize (expanderAt (domainIn rows) (i .0) .phys))
     × (sets (bitsOf card) next (physBits (drop p (expanderAt (domainIn rows) (i .0) .phys))) ≡ sets (bitsOf card₀) at (physBits (expanderAt (domainIn rows) (i .0) .phys))))))))
 

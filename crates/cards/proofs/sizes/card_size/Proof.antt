@@ -5,7 +5,7 @@ use Prim.Native.Nat.{_+_, _-_, _*_, _≤_}
 use mathlib.Core.Path.{_≡_, refl}
 use lib.ListN.{length, drop}
 use Rattle.files.specs.Rows.{domainIn}
-use Rattle.cards.specs.Card.{expandersSize, cardSize}
+use Rattle.cards.specs.Card.{expandersSize, cardSize, headSize, mostPhysSize}
 use Rattle.cards.proofs.CardPuts.{total-next, total-none}
 use Rattle.cards.proofs.sizes.card_size.Statement.{statement}
 use Rattle.cards.proofs.sizes.card_size.Tie as tie
@@ -13,7 +13,7 @@ use Rattle.cards.proofs.sizes.card_size.Tie as tie
 abbrev Inv-loop : tie.InvT-loop
 Inv-loop rows n sum₀ i₀ sum i =
     (i ≤ n) × ((n ≡ length (domainIn rows)) × ((n ≤ 64)
-    × ((sum + expandersSize (drop i (domainIn rows)) ≡ cardSize (domainIn rows)) × (sum ≤ 16 + 10072 * i))))
+    × ((sum + expandersSize (drop i (domainIn rows)) ≡ cardSize (domainIn rows)) × (sum ≤ 16 + (headSize + mostPhysSize) * i))))
 
 abbrev μ-loop : tie.MeasureT-loop
 μ-loop rows n sum₀ i₀ sum i = n - i

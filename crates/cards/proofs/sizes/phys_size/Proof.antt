@@ -8,7 +8,7 @@ use lib.ListN.{length, drop}
 use Rattle.files.specs.declared.Phy.{Phy}
 use Rattle.files.specs.Domain.{expanderAt, phyAt}
 use Rattle.files.specs.Rows.{domainIn}
-use Rattle.cards.specs.Card.{phySize, physSize}
+use Rattle.cards.specs.Card.{phySize, physSize, mostPhySize}
 use Rattle.cards.proofs.CardPuts.{sizes-next, sizes-none}
 use Rattle.cards.proofs.sizes.phys_size.Statement.{statement}
 use Rattle.cards.proofs.sizes.phys_size.Tie as tie
@@ -16,7 +16,7 @@ use Rattle.cards.proofs.sizes.phys_size.Tie as tie
 abbrev Inv-loop : tie.InvT-loop
 Inv-loop rows i n sum₀ p₀ sum p =
     (p ≤ n) × ((n ≡ length (expanderAt (domainIn rows) (i .0) .phys)) × ((n ≤ 128)
-    × ((sum + physSize (drop p (expanderAt (domainIn rows) (i .0) .phys)) ≡ physSize (expanderAt (domainIn rows) (i .0) .phys)) × (sum ≤ 78 * p))))
+    × ((sum + physSize (drop p (expanderAt (domainIn rows) (i .0) .phys)) ≡ physSize (expanderAt (domainIn rows) (i .0) .phys)) × (sum ≤ mostPhySize * p))))
 
 abbrev μ-loop : tie.MeasureT-loop
 μ-loop rows i n sum₀ p₀ sum p = n - p
