@@ -1,5 +1,6 @@
 -- put_few meets its contract: the room is enough for 8 expanders.
-use Prim.Native.Nat.{ℕ}
+use Rattle.tables.specs.lists.PreparedLists.{ownListWords, downstreamBytes, mostDownstream}
+use Prim.Native.Nat.{ℕ, _*_, _+_}
 use lib.ListN.{length-replicate}
 use borrow.Author.Needs.{needs}
 use native.Mathlib.Omega.{arith}
@@ -18,7 +19,7 @@ slice-aggregate-put-all-in-3 c = search needs
 put-all-in-requires : tie.Need-put-all-in-requires
 put-all-in-requires c κs =
     let at-pre = c .before .before .before .before .before .before .before .before .pre in
-    (at-pre .1 .0, (record { lists = omega (arith, length-replicate {A = ℕ} 1032 0, at-pre .0); downstream = omega (arith, length-replicate {A = ℕ} 528 0, at-pre .0); order = omega (arith, length-replicate {A = ℕ} 521 0, at-pre .0) }, at-pre .1 .1))
+    (at-pre .1 .0, (record { lists = omega (arith, length-replicate {A = ℕ} (8 * ownListWords) 0, at-pre .0); downstream = omega (arith, length-replicate {A = ℕ} (8 * downstreamBytes) 0, at-pre .0); order = omega (arith, length-replicate {A = ℕ} (8 * mostDownstream + 1) 0, at-pre .0) }, at-pre .1 .1))
 
 same-length : tie.Need-same-length
 same-length c = search needs

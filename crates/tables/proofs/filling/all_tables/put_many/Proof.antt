@@ -1,5 +1,7 @@
 -- put_many meets its contract: words give at most 64 expanders.
-use Prim.Native.Nat.{ℕ}
+use Rattle.files.specs.Settings.{mostExpanders}
+use Rattle.tables.specs.lists.PreparedLists.{orderBytes, ownListWords, downstreamBytes}
+use Prim.Native.Nat.{ℕ, _*_}
 use lib.ListN.{length-replicate}
 use Rattle.files.proofs.RowsAsDomain.{domain-few}
 use borrow.Author.Needs.{needs}
@@ -21,7 +23,7 @@ put-all-in-requires c κs =
     let at-args = c .before .before .before .before .before .before .before .before .args in
     let at-pre = c .before .before .before .before .before .before .before .before .pre in
     let h = domain-few (at-args .rows .now) in
-    (at-pre .0, (record { lists = omega (arith, length-replicate {A = ℕ} 8256 0); downstream = omega (arith, length-replicate {A = ℕ} 4224 0); order = omega (arith, length-replicate {A = ℕ} 4161 0) }, at-pre .1))
+    (at-pre .0, (record { lists = omega (arith, length-replicate {A = ℕ} (mostExpanders * ownListWords) 0); downstream = omega (arith, length-replicate {A = ℕ} (mostExpanders * downstreamBytes) 0); order = omega (arith, length-replicate {A = ℕ} orderBytes 0) }, at-pre .1))
 
 same-length : tie.Need-same-length
 same-length c = search needs

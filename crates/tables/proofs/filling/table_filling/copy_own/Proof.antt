@@ -7,7 +7,7 @@ use lib.ListN.{length, getD, take, drop}
 use Rattle.files.specs.Domain.{Domain}
 use Rattle.files.specs.Rows.{domainIn}
 use Rattle.tables.specs.lists.OwnLists.{ownWords}
-use Rattle.tables.specs.lists.PreparedLists.{OwnListsHeld}
+use Rattle.tables.specs.lists.PreparedLists.{OwnListsHeld, ownListWords}
 use Rattle.tables.proofs.lists.GrowingLists.{grown-kept, grown-same}
 use Rattle.tables.proofs.lists.OwnListLoops.{own-count, own-list, own-fits, own-none, own-few}
 use Rattle.tables.proofs.filling.WordsChanged.{replaced-none}
@@ -17,10 +17,10 @@ use Rattle.tables.proofs.filling.table_filling.copy_own.Tie as tie
 
 -- expander i's own list as a part of the lent words
 part-own : (d : Domain) (words : List ℕ) → OwnListsHeld d words → (i : ℕ) → i < length d
-    → take (129 * i + 1 + getD words (129 * i) 0 - (129 * i + 1)) (drop (129 * i + 1) words) ≡ ownWords d i
+    → take (ownListWords * i + 1 + getD words (ownListWords * i) 0 - (ownListWords * i + 1)) (drop (ownListWords * i + 1) words) ≡ ownWords d i
 part-own d words held i h =
-    let k : 129 * i + 1 + getD words (129 * i) 0 - (129 * i + 1) ≡ length (ownWords d i) = omega (arith, own-count d words held i h) in
-    ap (λ (m : ℕ). take m (drop (129 * i + 1) words)) k ∙ own-list d words held i h
+    let k : ownListWords * i + 1 + getD words (ownListWords * i) 0 - (ownListWords * i + 1) ≡ length (ownWords d i) = omega (arith, own-count d words held i h) in
+    ap (λ (m : ℕ). take m (drop (ownListWords * i + 1) words)) k ∙ own-list d words held i h
 
 expander-count-requires : tie.Need-expander-count-requires
 expander-count-requires c κs = search needs
