@@ -1,12 +1,11 @@
 -- The edited file reads as the edited domain: every unit but the one named has the bytes that it had, and ends where it ended.
 use mathlib.Core.Path.{_≡_, refl, sym, ap, ap₂, subst, _∙_}
-use mathlib.Core.Logic.{_⊎_, inl, inr, ⊎-elim, _≢_, by-cases}
+use mathlib.Core.Logic.{_⊎_, inl, inr, ⊎-elim, _≢_}
 use mathlib.Core.List.{List, [], _∷_, _++_}
-use mathlib.Core.Bool.{Bool, true, false, cond, not, _||_, _&&_}
+use mathlib.Core.Bool.{Bool, true, false, cond, not, _&&_}
 use Prim.Native.Nat.{ℕ, zero, suc, _+_, _*_, _-_, _/_, _%_, _^_, _≤_, _<_}
 use native.Mathlib.Nat.{pow-suc}
 use native.Mathlib.Omega.{arith}
-use native.Mathlib.Decide.{ℕ-discrete, decLt}
 use lib.ListN.{length, getD, take, drop, set, length-set, length-drop, List·getD-append}
 use lib.Seq.{sets, ext-getD, getD-drop, getD-take, getD-at, getD-set-same, getD-set-other, length-sets, length-take-le}
 use lib.Dec.{T, eqb, leb, eqb→eq}
@@ -15,10 +14,9 @@ use Rattle.frames.specs.Bytes.{byte, bits, numberAt, bytesOf}
 use Rattle.frames.specs.Refusals.{Result, refused, good, unless, then, refusal}
 use Rattle.frames.specs.Sizes.{shortSize, longSize, longLength, sizeStated, frameSize}
 use Rattle.frames.specs.ReportGeneral.{generalFixed, generalFields, generalIn, generalRead}
-use Rattle.frames.specs.Discovery.{Discovered, vacant, fields, discoverFixed, discoverFields, byResult, discovered, discoverIn, discoverRead}
+use Rattle.frames.specs.Discovery.{Discovered, vacant, fields, discoverFixed, discoverFields, byResult, discoverRead}
 use Rattle.frames.specs.declared.General.{General}
 use Rattle.frames.specs.declared.Discover.{Discover}
-use Rattle.frames.specs.declared.Refusal.{Refusal}
 use Rattle.frames.specs.declared.Response.{Response}
 use Rattle.frames.specs.declared.Response.the-variants.{ReportGeneral, Discover as DiscoverResponse}
 use Rattle.frames.proofs.ByteNumbers.{length-bytesOf}
@@ -31,11 +29,11 @@ use Rattle.files.specs.declared.Phy.{Phy}
 use Rattle.files.specs.declared.Phy.the-variants.{Vacant, Present}
 use Rattle.files.specs.Lists.{isIn}
 use Rattle.files.specs.Settings.{within, inRange}
-use Rattle.files.specs.Domain.{Expander, Domain, expanderAt, phyAt}
+use Rattle.files.specs.Domain.{Domain, expanderAt, phyAt}
 use Rattle.files.specs.PhyReplaced.{withPhy, setPhy}
-use Rattle.files.specs.File.{Parsed, parsed, placed, sizeAt, frameAt, fieldsOf, ranged, phyOf, phyUnit, phyUnits, unitOf, unitTested, expanderUnit, expanderOf, expanders, headerUnit, domainRead}
+use Rattle.files.specs.File.{Parsed, parsed, placed, sizeAt, fieldsOf, ranged, phyOf, phyUnit, phyUnits, unitOf, unitTested, expanderUnit, expanderOf, expanders, headerUnit, domainRead}
 use Rattle.files.specs.UnitAnswers.{endsAt}
-use Rattle.files.proofs.ListMembers.{is-true, is-false, and-left, and-right}
+use Rattle.files.proofs.ListMembers.{is-true, and-left, and-right}
 use Rattle.files.proofs.CallResults.{never, good-one, unless-good, good-unless, then-good, good-then}
 use Rattle.files.proofs.UnitReading.{unitAt, unit-cut, unit-by, size-whole, size-within}
 use Rattle.files.proofs.Domains.{phy-range}

@@ -27,7 +27,7 @@ use Rattle.events.specs.declared.Event.{Event}
 use Rattle.events.specs.declared.EventAnswer.{EventAnswer}
 use Rattle.events.specs.declared.EventAnswer.the-variants.{Refused as EventRefused, Counts as EventCounts}
 use Rattle.events.specs.EventFile.{frameEdited}
-use Rattle.events.specs.Calls.{eventCall, eventAnswer, EventDone}
+use Rattle.events.specs.Calls.{eventCall, EventDone}
 use Rattle.events.proofs.EventsByOwnLists.{call-refused, call-is, rows-done, file-counted, file-refused, frame-within}
 
 -- a file that was read as domain d, with room for who has which address, and what the call over rows did

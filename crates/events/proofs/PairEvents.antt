@@ -28,7 +28,6 @@ use Rattle.tables.specs.JudgingCall.{overlong, judgedDomain}
 use Rattle.tables.specs.events.TouchedTables.{touched, renewed, refilled, moved}
 use Rattle.tables.specs.filling.WordsChanged.{changed}
 use Rattle.events.specs.declared.Event.{Event}
-use Rattle.events.specs.Events.{edited}
 use Rattle.events.specs.EventFile.{frameEdited, fileEdited}
 use Rattle.offsets.specs.Offsets.{physAfter, expandersAfter}
 use Rattle.events.specs.Calls.{eventCall}

@@ -6,7 +6,7 @@ use mathlib.Core.Bool.{Bool, true, false, cond}
 use Prim.Native.Nat.{ℕ, zero, suc, _+_, _*_, _-_, _≤_, _<_, _^_}
 use native.Mathlib.Omega.{arith}
 use lib.ListN.{length, take, drop, replicate, length-append, length-drop, length-map}
-use lib.Seq.{take-at, drop-at, drop-drop, length-take-le}
+use lib.Seq.{take-at, drop-at, drop-drop}
 use lib.Dec.{T}
 use Rattle.frames.specs.Bits.{bitsOf, packedIn, zeroBit, zeroBits}
 use Rattle.frames.specs.Refusals.{good}
@@ -14,7 +14,7 @@ use Rattle.frames.proofs.PackedBits.{Bits, length-bitsOf, bits-drop}
 use Rattle.frames.proofs.NumberBits.{bits-append}
 use Rattle.frames.proofs.PackedRows.{bits-bitsOf, unpacked}
 use Rattle.files.specs.declared.Setting.{Setting}
-use Rattle.files.specs.Lists.{In, any, keep, isIn}
+use Rattle.files.specs.Lists.{In, any, isIn}
 use Rattle.files.specs.Domain.{Domain, expanderAt, phyAt, isTable, toExpander}
 use Rattle.wiring.specs.phys.PhyCauses.{Place, place, places}
 use Rattle.files.proofs.ListMembers.{is-true, was-true, and-left, and-right}

@@ -1,31 +1,29 @@
 -- Writing the touched tables afresh over configured entries is configuring afresh: a level list is the own lists of its levels, one after
 -- the other, and an event changes the own list of the named expander alone.
 use mathlib.Core.Path.{_≡_, refl, sym, ap, ap₂, subst, _∙_}
-use mathlib.Core.Logic.{_⊎_, inl, inr}
-use mathlib.Core.List.{List, [], _∷_, _++_, map, flatMap, append-assoc, append-nil, map-append}
+use mathlib.Core.Logic.{inl, inr}
+use mathlib.Core.List.{List, [], _∷_, _++_, flatMap, append-assoc, map-append}
 use mathlib.Core.Bool.{Bool, true, false, cond}
-use Prim.Native.Nat.{ℕ, _+_, _*_, _-_, _/_, _≤_, _<_}
+use Prim.Native.Nat.{ℕ, _+_, _*_, _-_, _≤_}
 use native.Mathlib.Omega.{arith}
-use lib.ListN.{length, getD, take, drop, replicate, length-append, length-drop, length-map}
+use lib.ListN.{length, take, drop, replicate, length-append, length-map}
 use lib.Seq.{take-at, drop-at}
-use lib.Dec.{T, eqb}
+use lib.Dec.{T}
 use Rattle.frames.specs.Bits.{bitsOf, packedIn, bytesFor, packed, zeroBit, zeroBits, marked}
-use Rattle.frames.proofs.PackedBits.{Bits, length-packedIn}
 use Rattle.frames.proofs.PackedRows.{Bytes, bytes-append, bytes-drop, bitsOf-append, packed-back, unpacked, bytes-packedIn}
 use Rattle.frames.proofs.DisableBits.{bits-zeroBits, marked-room, length-marked}
-use Rattle.files.specs.declared.Phy.{Phy}
-use Rattle.files.specs.Lists.{In, isIn}
+use Rattle.files.specs.Lists.{In}
 use Rattle.files.specs.Domain.{Domain, expanderAt, phyAt, isTable}
-use Rattle.wiring.specs.phys.PhyCauses.{Place, place, places}
+use Rattle.wiring.specs.phys.PhyCauses.{Place, places}
 use Rattle.files.specs.PhyReplaced.{setPhy}
 use Rattle.wiring.specs.WiringCauses.{Linked}
-use Rattle.files.proofs.ListMembers.{is-true, kept, isIn-of, by-test}
+use Rattle.files.proofs.ListMembers.{is-true, kept, isIn-of}
 use Rattle.wiring.proofs.phys.WiredPhys.{Wired}
 use Rattle.tables.specs.levels.Levels.{levels}
-use Rattle.tables.specs.filling.Tables.{levelList, table, tablePlaces, tables, size, needed}
-use Rattle.tables.specs.filling.Entries.{Entries, entries, roomOf, Enough, putBefore}
+use Rattle.tables.specs.filling.Tables.{levelList, table, tablePlaces, tables, size}
+use Rattle.tables.specs.filling.Entries.{Entries, entries, putBefore}
 use Rattle.tables.specs.lists.OwnLists.{ownWords, ownWordsOfLevels}
-use Rattle.tables.specs.events.TouchedTables.{touched, tableAt, renewed, refilledBy, refilled}
+use Rattle.tables.specs.events.TouchedTables.{touched, tableAt, renewed, refilled}
 use Rattle.tables.specs.events.ReplugCall.{pluggable, replug}
 use Rattle.tables.proofs.lists.LevelListLaw.{law}
 use Rattle.tables.proofs.filling.FilledTable.{length-filled}

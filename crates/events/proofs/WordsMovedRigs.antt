@@ -1,7 +1,7 @@
 -- Document 02, paper 10, worked by computing: a rig on which the bound is reached, and why the paper says "direct".
 use Prim.Native.Nat.{ℕ}
 use mathlib.Core.Path.{_≡_, refl}
-use mathlib.Core.List.{List, [], _∷_, flatMap}
+use mathlib.Core.List.{[], _∷_, flatMap}
 use lib.ListN.{length}
 use Rattle.frames.specs.Bits.{numberBits, field, bitsOf, packedIn}
 use Rattle.frames.specs.Refusals.{good}

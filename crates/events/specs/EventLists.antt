@@ -3,15 +3,15 @@ use Prim.Native.Nat.{ℕ}
 use mathlib.Core.Path.{_≡_}
 use mathlib.Core.Bool.{cond}
 use mathlib.Core.List.{List}
-use lib.ListN.{take, drop}
+use lib.ListN.{drop}
 use lib.Dec.{T}
 use Rattle.frames.specs.Bits.{bitsOf, zeroBits}
 use Rattle.frames.specs.Refusals.{good}
 use Rattle.files.specs.declared.Setting.{Setting}
-use Rattle.files.specs.Domain.{Domain, expanderAt, phyAt, isTable}
+use Rattle.files.specs.Domain.{Domain, phyAt, isTable}
 use Rattle.wiring.specs.phys.PhyCauses.{place}
 use Rattle.tables.specs.levels.Levels.{levels}
-use Rattle.tables.specs.filling.Tables.{table, tables, needed, offset, stretch}
+use Rattle.tables.specs.filling.Tables.{table, tables, needed, stretch}
 use Rattle.tables.specs.filling.Entries.{Entries, roomOf, Enough, putBefore}
 use Rattle.tables.specs.JudgingCall.{judged, tableCall, TablesDone}
 use Rattle.tables.specs.events.TouchedTables.{touched}

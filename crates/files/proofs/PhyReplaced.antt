@@ -1,10 +1,10 @@
 -- Rows with the two words of one phy replaced hold the domain with that phy replaced.
-use Prim.Native.Nat.{ℕ, zero, suc, _+_, _*_, _/_, _%_, _≤_, _<_, min}
+use Prim.Native.Nat.{ℕ, _+_, _*_, _/_, _%_, _≤_, _<_, min}
 use mathlib.Core.Path.{_≡_, refl, sym, _∙_, ap, ap₂, subst}
 use mathlib.Core.Logic.{_≢_, by-cases}
 use mathlib.Core.List.{List}
 use native.Mathlib.Omega.{arith}
-use native.Mathlib.Decide.{ℕ-discrete, decLt}
+use native.Mathlib.Decide.{ℕ-discrete}
 use lib.ListN.{length, getD, drop, set, length-set}
 use lib.Seq.{ext-getD, getD-drop, getD-set-same, getD-set-other, set-out, set-getD}
 use borrow.Author.Tests.{lt-ltb, le-ltb}
@@ -13,7 +13,7 @@ use Rattle.files.specs.declared.Phy.the-variants.{Vacant}
 use Rattle.files.specs.Domain.{Expander, Domain, noExpander, expanderAt, addressOf}
 use Rattle.files.specs.Rows.{phyWord, phyIn, physIn, rowIn, domainIn, rowWords}
 use Rattle.files.specs.PhyReplaced.{withPhy, setPhy, phyFromWords, withWords, PhySet}
-use Rattle.files.proofs.RowsAsDomain.{length-physIn, phy-in, row-at, count-of, head-in, no-expander}
+use Rattle.files.proofs.RowsAsDomain.{length-physIn, phy-in, row-at, count-of, head-in}
 use Rattle.files.proofs.Domains.{expander-range}
 use Rattle.files.specs.ReadDomain.{ReadPhy, FitsPhy}
 use Rattle.files.proofs.RowsRoundTrip.{phy-back}

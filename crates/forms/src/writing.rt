@@ -6,11 +6,10 @@ ghost use mathlib.Core.Path.{_≡_};
 ghost use mathlib.Core.List.{_++_};
 ghost use Prim.Native.Nat.{_+_, _*_, _≤_, _<_};
 ghost use lib.ListN.{length, drop};
-ghost use lib.Seq.{sets};
 ghost use Rattle.files.specs.Domain.{expanderAt, phyAt};
 ghost use Rattle.files.specs.Rows.{domainIn, mostRowWords};
 ghost use Rattle.wiring.specs.index.AddressIndex.{IndexedFirst};
-ghost use Rattle.forms.specs.Form.{headField, phyField, formPhy, formPhys, formOf, FormPhysPut};
+ghost use Rattle.forms.specs.Form.{headField, phyField, formPhy, formOf, FormPhysPut};
 
 // The second word of a phy that is not vacant.
 pub(crate) fn pack(deviceType: u8, attribute: u8, expander: u8, attachedPhy: u8) -> u64

@@ -1,6 +1,6 @@
 -- Decoding by cases is the field of the definitions.
 use Prim.Native.Nat.{ℕ, zero, suc, _/_, _-_, _^_, _≤_, _<_}
-use mathlib.Core.Path.{_≡_, refl, sym, _∙_, ap}
+use mathlib.Core.Path.{_≡_, sym, _∙_, ap}
 use mathlib.Core.List.{List}
 use native.Mathlib.Omega.{arith}
 use lib.Bits.{bitAnd, mask-lt}

@@ -1,10 +1,10 @@
 -- The bits of a number and the number of bits: cut, joined, and back.
 use Prim.Native.Nat.{ℕ, zero, suc, _+_, _*_, _/_, _%_, _-_, _^_, _≤_, _<_}
 use mathlib.Core.Path.{_≡_, refl, sym, _∙_, ap}
-use mathlib.Core.List.{List, [], _∷_, _++_, append-assoc}
+use mathlib.Core.List.{List, [], _∷_, _++_}
 use native.Mathlib.Omega.{arith}
 use native.Mathlib.Nat.{mul-add-div-right, mul-assoc, mod-eq-of-lt, add-mul-mod-self-right, add-comm, add-mul}
-use lib.ListN.{length, getD, take, drop, set}
+use lib.ListN.{length, take, drop, set}
 use lib.Pow.{pow-add, pow-pos, mod-pow-add, high, shr-shr}
 use lib.Seq.{set-at, drop-nil}
 use Rattle.frames.specs.Bits.{numberBits, field}

@@ -5,11 +5,10 @@ use mathlib.Core.Logic.{by-cases}
 use mathlib.Core.List.{List, [], _∷_, _++_}
 use native.Mathlib.Decide.{ℕ-discrete}
 use native.Mathlib.Omega.{arith}
-use native.Mathlib.Numerals.{add-one}
 use native.Mathlib.Nat.{mul-assoc, mul-comm, div-eq-of-lt}
 use lib.ListN.{length, getD, drop, length-append, List·getD-append, List·getD-eq-default}
 use lib.Seq.{getD-append-add, getD-drop, drop-drop}
-use lib.Pow.{pow-add, pow-pos, pow-mono, shl-exact, shr-shr}
+use lib.Pow.{pow-add, pow-pos, shl-exact, shr-shr}
 use Rattle.frames.specs.Bits.{numberBits, field, bitsOf, packedIn}
 
 -- every member is a bit

@@ -1,12 +1,12 @@
 -- Bytes as rows of bits, and back: packed of their own bits, and the bits of packed ones.
-use Prim.Native.Nat.{ℕ, zero, suc, _+_, _*_, _/_, _%_, _-_, _^_, _≤_, _<_}
+use Prim.Native.Nat.{ℕ, zero, suc, _+_, _*_, _-_, _≤_, _<_}
 use mathlib.Core.Path.{_≡_, refl, sym, _∙_, ap}
 use mathlib.Core.List.{List, [], _∷_, _++_, append-assoc}
 use native.Mathlib.Omega.{arith}
 use native.Mathlib.Nat.{mod-eq-of-lt}
 use lib.ListN.{length, getD, drop, set, replicate, length-append, length-replicate, take-append-drop, length-drop}
 use lib.Seq.{drop-at, drop-append-add, drop-nil, getD-drop}
-use Rattle.frames.specs.Bits.{numberBits, field, bitsOf, packedIn, packed}
+use Rattle.frames.specs.Bits.{numberBits, field, bitsOf, packedIn}
 use Rattle.frames.proofs.PackedBits.{Bits, length-numberBits, length-bitsOf, bits-drop}
 use Rattle.frames.proofs.NumberBits.{bits-numberBits, bits-append, field-back, bits-back, field-lt}
 

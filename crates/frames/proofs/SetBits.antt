@@ -4,9 +4,9 @@ use mathlib.Core.Path.{_≡_, sym, _∙_, ap, subst}
 use mathlib.Core.List.{List, [], _∷_}
 use native.Mathlib.Omega.{arith}
 use native.Mathlib.Numerals.{add-one}
-use native.Mathlib.Nat.{mod-lt, mul-le-mul-right, one-mul, div-mul-le-self, add-comm}
+use native.Mathlib.Nat.{mod-lt, mul-le-mul-right, add-comm}
 use lib.Bits.{bitAnd, and-high}
-use lib.Pow.{pow-pos, pow-add, pow-mono, split, mod-pow-add, shr-lt, shl-exact}
+use lib.Pow.{pow-pos, pow-add, split, mod-pow-add, shr-lt}
 use lib.ListN.{length, getD, set}
 use lib.Seq.{set-append-left}
 use Rattle.frames.specs.Bits.{numberBits, bitsOf, withBit}

@@ -2,13 +2,13 @@
 use Prim.Native.Nat.{ℕ, zero, suc, _+_, _*_, _/_, _%_, _≤_, _<_}
 use mathlib.Core.Path.{_≡_, refl, sym, ap, ap₂, subst, _∙_}
 use mathlib.Core.Bool.{Bool, true, false, cond, not}
-use mathlib.Core.Logic.{_≢_, by-cases}
+use mathlib.Core.Logic.{by-cases}
 use native.Mathlib.Decide.{ℕ-discrete}
 use mathlib.Core.List.{List, [], _∷_, _++_, flatMap}
 use native.Mathlib.Omega.{arith}
 use lib.ListN.{length, getD, take, drop, length-append, List·getD-eq-default}
 use lib.Dec.{T, eqb, leb, ltb, leb→le}
-use borrow.Author.Tests.{eq-eqb, ne-eqb, le-leb, lt-leb}
+use borrow.Author.Tests.{ne-eqb, le-leb, lt-leb}
 use Rattle.wiring.specs.FrameDefinitions.{bytesFor, Refusal, Result, refused, good, unless, then, refusal}
 use Rattle.files.specs.declared.Phy.{Phy}
 use Rattle.files.specs.declared.Phy.the-variants.{Vacant, Present}
@@ -16,8 +16,8 @@ use Rattle.files.specs.Domain.{Domain, expanderAt, phyAt, addressOf, toExpander
 use Rattle.wiring.specs.declared.Check.{Check}
 use Rattle.wiring.specs.declared.Check.the-variants.{Refused}
 use Rattle.wiring.specs.phys.Checks.{checkAnswer, checkedIn}
-use Rattle.files.specs.Rows.{phyIn, phyWord, phyInRow, domainIn, rowWords}
-use Rattle.wiring.specs.index.AddressIndex.{numberIn, slotOf, attachedExpander}
+use Rattle.files.specs.Rows.{phyIn, phyInRow, domainIn, rowWords}
+use Rattle.wiring.specs.index.AddressIndex.{slotOf}
 use Rattle.files.specs.PhyReplaced.{setPhy, withWords, phyFromWords, PhySet}
 use Rattle.wiring.specs.phys.PhyCauses.{clashing, firstIn, firstOf}
 use Rattle.files.proofs.CallResults.{unless-good, then-good}

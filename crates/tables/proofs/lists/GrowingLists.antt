@@ -2,13 +2,13 @@
 -- `inv` is the loop's invariant; a turn takes `piece` from what is left, `rest ≡ piece ++ rest'`.
 use Prim.Native.Nat.{ℕ, _+_, _-_, _≤_, _<_}
 use mathlib.Core.Path.{_≡_, refl, sym, _∙_, ap}
-use mathlib.Core.Bool.{Bool, true, false, cond, _||_}
+use mathlib.Core.Bool.{Bool, cond, _||_}
 use mathlib.Core.List.{List, [], _∷_, _++_, flatMap, append-nil, append-assoc}
 use native.Mathlib.Omega.{arith}
 use lib.ListN.{length, getD, take, drop, set, replicate, length-set, length-append, length-replicate}
 use lib.ListN.{drop-of-length-le, take-append-drop, replicate-append-replicate}
 use lib.Seq.{set-at, length-take-le}
-use lib.Dec.{eqb, leb}
+use lib.Dec.{leb}
 use Rattle.files.specs.declared.Phy.{Phy}
 use Rattle.files.specs.Lists.{isIn}
 use Rattle.files.specs.Domain.{Domain}

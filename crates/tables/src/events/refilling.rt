@@ -12,17 +12,15 @@ ghost use mathlib.Core.List.{[], _∷_};
 ghost use Prim.Native.Nat.{_+_, _-_, _*_, _%_, _^_, _≤_, _<_};
 ghost use lib.ListN.{length, set};
 ghost use lib.Seq.{sets};
-ghost use Rattle.wiring.specs.FrameDefinitions.{bitsOf, zeroBit, zeroBits, good};
+ghost use Rattle.wiring.specs.FrameDefinitions.{bitsOf, zeroBit, zeroBits};
 ghost use Rattle.files.specs.Domain.{phyAt};
 ghost use Rattle.wiring.specs.phys.PhyCauses.{place};
 ghost use Rattle.files.specs.Rows.{domainIn};
-ghost use Rattle.tables.specs.filling.Entries.{entries, roomOf, Enough};
-ghost use Rattle.tables.specs.filling.Tables.{size, sizes, needed};
+ghost use Rattle.tables.specs.filling.Entries.{entries, roomOf};
+ghost use Rattle.tables.specs.filling.Tables.{size};
 ghost use Rattle.tables.specs.lists.GrowingLists.{placesAt};
-ghost use Rattle.tables.specs.lists.PreparedLists.{AttachedExpandersKnown, OwnListsHeld, DownstreamListsHeld, orderOf, ownWordsOfOrder, filledTo, Fillable, FilledFrom, mostDownstream};
-ghost use Rattle.tables.specs.events.TouchedTables.{movedBy};
+ghost use Rattle.tables.specs.lists.PreparedLists.{ownWordsOfOrder, filledTo, FilledFrom};
 ghost use Rattle.tables.specs.filling.WordsChanged.{changed};
-ghost use Rattle.tables.specs.events.ReplugCall.{ownTouched, ownRefilled, replugAnswer};
 ghost use Rattle.tables.specs.events.TablesRewritten.{tableLink, Passed, TallyBounds, Rewritten, RefillReady, RefillsReady, RefillAllReady, RefilledAll};
 
 // How far the tables gone through reach, how many of them were touched, and how many words changed.

@@ -14,21 +14,17 @@ use wiring::PhyId;
 ghost use mathlib.Core.Path.{_≡_};
 ghost use Prim.Native.Nat.{_≤_};
 ghost use mathlib.Core.Bool.{cond};
-ghost use lib.Dec.{T, eqb};
+ghost use lib.Dec.{eqb};
 ghost use lib.ListN.{length};
-ghost use Rattle.wiring.specs.FrameDefinitions.{refusal, unless, then};
 ghost use Rattle.wiring.specs.phys.Checks.{checkAnswer};
 ghost use Rattle.files.specs.Domain.{phyAt};
 ghost use Rattle.files.specs.Rows.{domainIn};
 ghost use Rattle.files.specs.PhyReplaced.{withWords};
 ghost use Rattle.wiring.specs.index.AddressIndex.{Indexed, IndexLeft};
-ghost use Rattle.tables.specs.filling.Entries.{entries, roomOf, Enough};
+ghost use Rattle.tables.specs.filling.Entries.{entries, roomOf};
 ghost use Rattle.tables.specs.filling.Tables.{needed};
-ghost use Rattle.tables.specs.JudgingCall.{tablesFor};
-ghost use Rattle.tables.specs.lists.OwnLists.{ownWords};
 ghost use Rattle.tables.specs.lists.PreparedLists.{FillRoom, orderBytes};
-ghost use Rattle.tables.specs.events.ReplugCall.{pluggable, replug, replugged, retested, admitted, replugCall, rowsAfter, ReplugDone, ReplugReady, ReplugRun, admitting, ReplugAdmitted};
-ghost use Rattle.tables.specs.declared.Replugged.the-variants.{Refused as NotReplugged};
+ghost use Rattle.tables.specs.events.ReplugCall.{pluggable, replug, replugged, retested, admitted, replugCall, rowsAfter, ReplugDone, ReplugRun, admitting, ReplugAdmitted};
 
 // Whether a drive can be plugged into the phy or pulled from it: 20 does not hold.
 fn is_pluggable(f: Phy) -> bool

@@ -12,12 +12,12 @@ ghost use lib.ListN.{length};
 ghost use lib.Dec.{ltb};
 ghost use Rattle.files.specs.Lists.{any};
 ghost use Rattle.files.specs.Domain.{expanderAt, bears, numberOf};
-ghost use Rattle.wiring.specs.phys.PhyCauses.{clash, clashing, firstIn, firstOf};
+ghost use Rattle.wiring.specs.phys.PhyCauses.{clash, clashing};
 ghost use Rattle.wiring.specs.phys.Checks.{checkAnswer, FirstOfAll, FirstOfExpander};
 ghost use Rattle.files.specs.Rows.{domainIn};
-ghost use Rattle.tables.specs.lists.GrowingLists.{Grown, placesAt};
+ghost use Rattle.tables.specs.lists.GrowingLists.{Grown};
 ghost use Rattle.tables.specs.lists.OwnLists.{lower, owns, ownWords};
-ghost use Rattle.tables.specs.lists.PreparedLists.{AttachedExpandersKnown, OwnListsHeld, OwnListCounts, DownstreamListsHeld, ownOverlong, mostDownstream, orderBytes, OverlongByLists};
+ghost use Rattle.tables.specs.lists.PreparedLists.{OwnListsHeld, OwnListCounts, ownOverlong, OverlongByLists};
 ghost use Rattle.tables.specs.events.ReplugCall.{claimedWith, retested, OwnListsHeldBut, ReplugReady};
 ghost use Rattle.tables.specs.events.EndDeviceTests.{isEnd, endsAt, isFound};
 

@@ -10,13 +10,12 @@ ghost use mathlib.Core.Path.{_≡_};
 ghost use mathlib.Core.List.{[], _∷_, _++_};
 ghost use Prim.Native.Nat.{_+_, _*_, _^_, _≤_, _<_};
 ghost use lib.ListN.{length, take, drop};
-ghost use Rattle.files.specs.Domain.{expanderAt, phyAt, isTable};
+ghost use Rattle.files.specs.Domain.{phyAt, isTable};
 ghost use Rattle.wiring.specs.phys.PhyCauses.{place, placesFrom};
 ghost use Rattle.files.specs.Rows.{domainIn};
 ghost use Rattle.tables.specs.filling.Tables.{tablePlaces, size, sizes, needed};
 ghost use Rattle.tables.specs.lists.GrowingLists.{placesAt, withTables, WordsPut};
-ghost use Rattle.tables.specs.lists.PreparedLists.{ownTablesOf, ownTables, FillRoom, Fillable, TableReady, TablesReady, AllReady, wordsAt, AllRoom};
-ghost use Rattle.wiring.specs.index.AddressIndex.{Indexed};
+ghost use Rattle.tables.specs.lists.PreparedLists.{ownTablesOf, ownTables, TableReady, TablesReady, AllReady, wordsAt, AllRoom};
 
 // Whether phy p of expander i is a non-vacant table phy.
 pub(crate) fn is_table(rows: &[u64], i: ExpanderNumber, p: PhyId) -> bool

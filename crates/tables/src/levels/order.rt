@@ -4,15 +4,13 @@ use crate::levels::wide_links;
 use wiring::ExpanderNumber;
 use wiring::Phy;
 use wiring::PhyId;
-ghost use mathlib.Core.Path.{_≡_};
 ghost use mathlib.Core.List.{[], _∷_, _++_};
 ghost use Prim.Native.Nat.{_+_, _*_, _≤_, _<_};
 ghost use lib.ListN.{length, take};
-ghost use Rattle.files.specs.Domain.{phyAt};
 ghost use Rattle.files.specs.Rows.{domainIn};
 ghost use Rattle.tables.specs.levels.Levels.{downstreamOfPhys};
 ghost use Rattle.tables.specs.lists.GrowingLists.{Grown};
-ghost use Rattle.tables.specs.lists.PreparedLists.{DownstreamListsHeld, downstreamOnce, orderOf, PhyIndexed, OrderReady, OrderKept, mostDownstream, OrderAfter};
+ghost use Rattle.tables.specs.lists.PreparedLists.{DownstreamListsHeld, downstreamOnce, orderOf, PhyIndexed, OrderReady, mostDownstream, OrderAfter};
 
 // Copies the numbers after the first m of `order`, and yields how many there are then.
 fn append_numbers(order: &mut [u8], m: usize, more: &[u8]) -> usize

@@ -10,16 +10,13 @@ use wiring::PhyId;
 ghost use mathlib.Core.Path.{_≡_};
 ghost use mathlib.Core.Bool.{false};
 ghost use mathlib.Core.List.{flatMap};
-ghost use Prim.Native.Nat.{ℕ, _*_, _≤_, _<_};
+ghost use Prim.Native.Nat.{_≤_, _<_};
 ghost use lib.ListN.{length};
-ghost use Rattle.wiring.specs.phys.PhyCauses.{firstIn, firstOf};
-ghost use Rattle.wiring.specs.phys.Checks.{checkAnswer, FirstOfAll, FirstOfExpander};
-ghost use Rattle.files.specs.Domain.{phyAt};
+ghost use Rattle.wiring.specs.phys.Checks.{FirstOfAll, FirstOfExpander};
 ghost use Rattle.files.specs.Rows.{domainIn};
 ghost use Rattle.wiring.specs.index.AddressIndex.{Indexed};
-ghost use Rattle.tables.specs.lists.GrowingLists.{placesAt};
 ghost use Rattle.tables.specs.lists.OwnLists.{ownWords};
-ghost use Rattle.tables.specs.lists.PreparedLists.{AttachedExpandersKnown, OwnListCounts, DownstreamListsHeld, ownOverlong, LowerOnLink, downstreamBytes, mostDownstream, orderBytes, OverlongPhyReady, OverlongReady, OverlongRoom};
+ghost use Rattle.tables.specs.lists.PreparedLists.{OwnListCounts, ownOverlong, orderBytes, OverlongPhyReady, OverlongReady, OverlongRoom};
 
 // How many words the own lists of these expanders have.
 fn count_words(rows: &[u64], counts: &[u8], order: &[u8]) -> usize

@@ -6,8 +6,8 @@ ghost use Prim.Native.Nat.{_<_};
 ghost use lib.ListN.{length};
 ghost use Rattle.files.specs.Lists.{upTo};
 ghost use Rattle.files.specs.Rows.{domainIn};
-ghost use Rattle.wiring.specs.graph.Neighbours.{neighbours, setOf};
-ghost use Rattle.wiring.specs.graph.Rounds.{hasBit, members, SetBelow, NeighbourWordsHeld, nextTest, nextSet, RoundsRun, roundSet};
+ghost use Rattle.wiring.specs.graph.Neighbours.{setOf};
+ghost use Rattle.wiring.specs.graph.Rounds.{hasBit, SetBelow, NeighbourWordsHeld, nextTest, RoundsRun, roundSet};
 
 // Whether expander j is in a set.
 pub(crate) fn has(set: u64, j: ExpanderNumber) -> bool

@@ -9,7 +9,7 @@ ghost use mathlib.Core.Bool.{cond};
 ghost use Prim.Native.Nat.{_+_, _-_, _*_, _≤_, _<_};
 ghost use lib.Dec.{eqb};
 ghost use lib.ListN.{length, getD};
-ghost use Rattle.files.specs.Domain.{expanderAt, phyAt, numberOf};
+ghost use Rattle.files.specs.Domain.{numberOf};
 ghost use Rattle.files.specs.Rows.{domainIn};
 ghost use Rattle.wiring.specs.index.SearchTree.{keyIn, WalkTo};
 ghost use Rattle.wiring.specs.index.AddressIndex.{slotsBefore, slotOf, slotWord, addressFrom, attachedExpander, lowestPhy, tells, attachedAt, EntriesKeptBut, IndexRoom, IndexPut, mostSlots, PhyThere};

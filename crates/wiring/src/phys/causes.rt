@@ -12,7 +12,7 @@ ghost use lib.ListN.{length};
 ghost use Rattle.files.specs.Domain.{expanderAt};
 ghost use Rattle.wiring.specs.index.AddressIndex.{IndexedFirst, Indexed};
 ghost use Rattle.files.specs.Rows.{domainIn};
-ghost use Rattle.wiring.specs.phys.PhyCauses.{names, unanswered, claimed, fixed, firstOf, wiredDomain};
+ghost use Rattle.wiring.specs.phys.PhyCauses.{names, unanswered, claimed, fixed, wiredDomain};
 ghost use Rattle.wiring.specs.phys.Checks.{checkAnswer, causeOf, firstAt, Testable, FirstOfAll};
 
 // Whether f names phy p of the expander with this address.

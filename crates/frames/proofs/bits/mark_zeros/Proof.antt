@@ -1,8 +1,8 @@
 -- mark_zeros puts byte after byte; its loop's invariant: the bytes with those still to come put behind are the marked bytes.
 use native.Mathlib.Omega.{arith}
 use borrow.Author.Needs.{needs}
-use Prim.Native.Nat.{ℕ, _+_, _*_, _^_, _≤_, _<_, _-_}
-use mathlib.Core.Path.{_≡_, refl, sym, _∙_}
+use Prim.Native.Nat.{_*_, _≤_, _-_}
+use mathlib.Core.Path.{_≡_, refl, sym}
 use lib.ListN.{length, drop, length-set}
 use lib.Seq.{sets}
 use Rattle.frames.specs.Bits.{packedIn, bytesFor, zeroBits, marked}

@@ -1,7 +1,7 @@
 -- zero_byte's loop holds the number of the first k of eight bits.
 use native.Mathlib.Omega.{arith}
 use borrow.Author.Needs.{needs}
-use Prim.Native.Nat.{ℕ, _+_, _*_, _^_, _≤_, _<_, _-_}
+use Prim.Native.Nat.{_+_, _^_, _≤_, _<_, _-_}
 use mathlib.Core.Path.{_≡_}
 use lib.ListN.{drop}
 use Rattle.frames.specs.Bits.{field, zeroBits}

@@ -1,5 +1,4 @@
 -- disable_byte is the definition's choice.
-use mathlib.Core.Path.{refl}
 use Rattle.frames.proofs.configure_route.disable_byte.Statement.{statement}
 use Rattle.frames.proofs.configure_route.disable_byte.Tie as tie
 

@@ -1,5 +1,5 @@
 -- is_table_link is `tableLink` of the phy, test by test.
-use mathlib.Core.Path.{subst, sym, _≡_}
+use mathlib.Core.Path.{subst, _≡_}
 use native.Mathlib.Omega.{arith}
 use borrow.Author.Tests.{eq-eqb, ne-eqb}
 use mathlib.Core.Bool.{false}

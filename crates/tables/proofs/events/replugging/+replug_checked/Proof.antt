@@ -1,11 +1,9 @@
 -- replug_checked meets its contract: each room is chosen for so many expanders, and at phys from 128 on the refusal is that of phy 128.
 use Prim.Native.Nat.{ℕ, _<_}
 use native.Mathlib.Omega.{arith}
-use lib.ListN.{length}
 use borrow.Author.Needs.{needs}
 use borrow.Fn.Kinds.{In}
 use borrow.Fn.PlainCycle.{Measures, is, falls, and}
-use Rattle.files.specs.Rows.{domainIn}
 use Rattle.tables.proofs.events.ReplugOutcomes.{run-past}
 use Rattle.tables.proofs.events.replugging.replug_checked.Reads as replug-checked
 use Rattle.tables.proofs.events.replugging.replug_checked.Kinds as replug-checked-kinds
