@@ -1,25 +1,27 @@
--- The offset of a stretch: the words of the expanders before its own, and of the phys below its own.
+-- The offset of a stretch: the words of the expanders before its own, and of the phys below its own. What is among its words.
 use Prim.Native.Nat.{ℕ, zero, suc, _+_, _-_, _≤_, _<_}
 use mathlib.Core.Path.{_≡_, refl, sym, _∙_, ap}
-use mathlib.Core.Bool.{Bool, true, false, cond, not, _||_, _&&_}
+use mathlib.Core.Bool.{Bool, true, false, cond, not, _||_, _&&_, true≢false}
 use mathlib.Core.List.{List, [], _∷_, _++_}
 use mathlib.Core.Logic.{by-cases}
 use native.Mathlib.Decide.{ℕ-discrete}
 use native.Mathlib.Omega.{arith}
-use native.Mathlib.Nat.{add-zero, zero-add}
+use native.Mathlib.Nat.{add-zero, zero-add, sub-zero}
 use native.Mathlib.Numerals.{add-one}
 use lib.ListN.{length, getD, take, drop, drop-of-length-le}
+use lib.Seq.{take-add, drop-drop}
 use lib.Dec.{eqb}
-use borrow.Author.Tests.{eq-eqb, ne-eqb}
+use borrow.Author.Tests.{eq-eqb, ne-eqb, eqb-false}
 use Rattle.tables.specs.WiringDefinitions.{Domain, Expander, noExpander, expanderAt}
 use Rattle.tables.specs.WiringDefinitions.{bitsOf, any, isIn}
 use Rattle.tables.specs.WiringDefinitions.{Place, place, phyPlaces, placesFrom}
 use Rattle.tables.specs.filling.Tables.{size, sizes, offsetIn, offset}
 use Rattle.tables.specs.filling.Entries.{entries, counted}
-use Rattle.tables.proofs.filling.CountedWords.{counted-at}
+use Rattle.tables.proofs.filling.CountedWords.{counted-at, counted-length}
 use Rattle.tables.proofs.filling.TablesPut.{sizes-append}
 use Rattle.tracing.specs.Answers.{wordsBefore}
 use Rattle.files.proofs.OneMore.{drop-next}
+use Rattle.files.proofs.ListMembers.{any-append}
 
 -- the words of the phys of expander i below a phy, one more at a time
 phys-last : (d : Domain) (i q p : ℕ) → sizes d (phyPlaces i q (suc p)) ≡ sizes d (phyPlaces i q p) + size d (place i (q + p))
@@ -143,3 +145,28 @@ module _ (words bits : List ℕ) (k s : ℕ) (h : k < length words) where
       go : (b : Bool) → eqb (getD (bitsOf bits) k 0) 0 ≡ b → not (eqb (getD (bitsOf bits) k 0) 0) ≡ eqb (getD (counted (entries words bits)) k 0) s
       go true f = ap not f ∙ sym (ne-eqb (getD (counted (entries words bits)) k 0) s (λ g. e (sym (entry-by f) ∙ g)))
       go false f = ap not f ∙ sym (eq-eqb (getD (counted (entries words bits)) k 0) s (entry-by f ∙ sym z))
+
+-- r words without s and eight more without it
+pub passed-more : (s r at : ℕ) (l : List ℕ) → isIn s (take r (drop at l)) ≡ false → isIn s (take 8 (drop (at + r) l)) ≡ false
+    → isIn s (take (r + 8) (drop at l)) ≡ false
+unfolding isIn
+passed-more s r at l h e =
+    let m : List ℕ = take r (drop at l) in
+    let d : take 8 (drop r (drop at l)) ≡ take 8 (drop (at + r) l) = ap (take 8) (drop-drop r at l) in
+    ap (any (eqb s)) (take-add r 8 (drop at l)) ∙ any-append (eqb s) m (take 8 (drop r (drop at l))) ∙ rw (h, d, e)
+
+-- where s is not 0, it is among the words that count exactly when it is among those after r words without it
+module _ (words bits : List ℕ) (s : ℕ) (z : s ≡ 0 → ⊥) where
+  pub passed : (r at n : ℕ) → isIn s (take r (drop at words)) ≡ false → r ≤ n → r ≤ length words - at
+      → isIn s (take (n - r) (drop (at + r) (counted (entries words bits)))) ≡ isIn s (take n (drop at (counted (entries words bits))))
+  passed zero at n e h k = rw (add-zero at, sub-zero n) refl
+  passed (suc r) at n e h k =
+      let l : List ℕ = counted (entries words bits) in
+      let c : length l ≡ length words = counted-length (bitsOf bits) words in
+      let f : getD words at 0 ≡ s → ⊥ = λ q. true≢false (lists-stop s (suc r) at words e q (omega arith) (omega arith)) in
+      let g : getD l at 0 ≡ s → ⊥ = eqb-false (getD l at 0) s (sym (entry-other words bits at s (omega arith) f z)) in
+      let a : suc r - 1 ≡ r = omega arith in
+      let rest = rw a at (lists-go s (suc r) at words e f (omega arith) (omega arith)) in
+      let b : n - 1 - r ≡ n - suc r = omega arith in
+      let d : at + 1 + r ≡ at + suc r = omega arith in
+      rw (b, d) at (passed r (at + 1) (n - 1) rest (omega arith) (omega arith)) ∙ lists-go s n at l refl g (omega arith) (omega arith)

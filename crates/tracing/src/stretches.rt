@@ -3,7 +3,8 @@ use tables::ExpanderNumber;
 use tables::PhyId;
 use tables::words_before;
 ghost use mathlib.Core.Path.{_≡_};
-ghost use Prim.Native.Nat.{_<_, _^_};
+ghost use Prim.Native.Nat.{_+_, _-_, _≤_, _<_, _^_};
+ghost use mathlib.Core.Bool.{false, not};
 ghost use lib.ListN.{length, getD, take, drop};
 ghost use lib.Dec.{eqb};
 ghost use Rattle.tables.specs.WiringDefinitions.{domainIn, expanderAt, isIn};
@@ -28,8 +29,8 @@ fn is_entry(words: &[u64], bits: &[u8], k: usize, s: u64) -> bool
     tables::bit_at(bits, k) != 0
 }
 
-// Whether s is among the n words that count from `at` on.
-pub(crate) fn lists(words: &[u64], bits: &[u8], at: usize, n: usize, s: u64) -> bool
+// Whether s is among the n words that count from `at` on, word by word.
+fn lists_from(words: &[u64], bits: &[u8], at: usize, n: usize, s: u64) -> bool
     ensures { λ r. ⌜ r ≡ isIn s (take n (drop at (counted (entries (now (words .entry)) (now (bits .entry)))))) ⌝ }
 {
     let mut k = at;
@@ -45,6 +46,55 @@ pub(crate) fn lists(words: &[u64], bits: &[u8], at: usize, n: usize, s: u64) -> 
         left -= 1;
     }
     false
+}
+
+// Whether none of the eight words from k on is s.
+fn eight_lack(words: &[u64], k: usize, s: u64) -> bool
+    requires { ⌜ k + 8 ≤ length (now words) ⌝ }
+    ensures { λ r. ⌜ r ≡ not (isIn s (take 8 (drop k (now (words .entry))))) ⌝ }
+{
+    let mut j: usize = 0;
+    while j < 8 {
+        if words[k + j] == s {
+            return false;
+        }
+        j += 1;
+    }
+    true
+}
+
+// How many of the n words from `at` on are passed over, eight at a time, until s is among the next eight or fewer than eight are left.
+// None of them is s.
+fn passed_over(words: &[u64], at: usize, n: usize, s: u64) -> usize
+    ensures { λ r. ⌜ (r ≤ n) × ((r ≤ length (now (words .entry)) - at) × (isIn s (take r (drop at (now (words .entry)))) ≡ false)) ⌝ }
+{
+    if words.len() <= at {
+        return 0;
+    }
+    let room = words.len() - at;
+    let mut r: usize = 0;
+    while 8 <= n - r {
+        if room - r < 8 {
+            return r;
+        }
+        if !eight_lack(words, at + r, s) {
+            return r;
+        }
+        r += 8;
+    }
+    r
+}
+
+// Whether s is among the n words that count from `at` on. Where s is not 0, a word that is not s does not count as s, whatever
+// its bit; so words without s are passed over first.
+pub(crate) fn lists(words: &[u64], bits: &[u8], at: usize, n: usize, s: u64) -> bool
+    ensures { λ r. ⌜ r ≡ isIn s (take n (drop at (counted (entries (now (words .entry)) (now (bits .entry)))))) ⌝ }
+{
+    if s == 0 {
+        return lists_from(words, bits, at, n, s);
+    }
+    let r = passed_over(words, at, n, s);
+    lists_from(words, bits, at + r, n - r, s)
 }
 
 // Where the stretch of phy p of expander i starts, by the words before the expander and those of the phys below.
