@@ -3,16 +3,19 @@
 use Prim.Native.Nat.{ℕ, zero, suc, _+_, _*_, _-_, _^_, _≤_, _<_}
 use mathlib.Core.Path.{_≡_, refl, sym, _∙_, ap}
 use mathlib.Core.List.{List, [], _∷_, _++_}
-use mathlib.Core.Bool.{Bool, true, false, cond}
+use mathlib.Core.Bool.{Bool, true, false, cond, not, Bool·beq, true≢false}
+use mathlib.Core.Logic.{by-cases}
+use native.Mathlib.Decide.{ℕ-discrete}
 use native.Mathlib.Omega.{arith}
 use native.Mathlib.Numerals.{add-one}
 use lib.ListN.{length, getD, drop, set, length-map, length-append, length-drop, List·getD-eq-default}
-use lib.Seq.{sets, getD-drop, drop-drop, drop-at}
+use lib.Seq.{sets, getD-drop, drop-drop, drop-at, drop-cons}
 use lib.Dec.{eqb, leb}
-use lib.Pow.{pow-mono}
+use lib.Pow.{pow-mono, pow-pos}
 use borrow.Author.Tests.{eq-eqb, ne-eqb, le-leb, lt-leb, leb-true}
 use Rattle.frames.specs.Bits.{field, bitsOf, packedIn, bytesFor, packed, zeroBit, zeroBits, marked}
-use Rattle.frames.proofs.PackedBits.{Bits, pow-suc, field-next, length-packedIn, bit-packed}
+use Rattle.frames.proofs.PackedBits.{Bits, pow-suc, field-next, length-packedIn, bits-drop, bit-packed}
+use Rattle.frames.proofs.NumberBits.{field-lt}
 use Rattle.frames.proofs.ValuesPut.{sets-front}
 
 -- the disable bit of word i
@@ -52,6 +55,53 @@ field-none (b ∷ l) = refl
 
 pub field-more : (k at : ℕ) (l : List ℕ) (x b : ℕ) → x ≡ field k (drop at l) → b ≡ getD l (at + k) 0 → 2 * x + b ≡ field (k + 1) (drop at l)
 field-more k at l x b e f = rw add-one (sym (field-next k (drop at l) ∙ rw (← e, getD-drop at l k 0, ← f)))
+
+-- whether a bit and the n after it, whose number is f, are all set (`z`) or all clear: as the n are where the bit is so, and no
+-- where it is not
+same-bit : (b z : Bool) (n f : ℕ) → not (Bool·beq b z) ≡ false → eqb (cond b 1 0 * 2 ^ n + f) (cond z (2 ^ suc n - 1) 0) ≡ eqb f (cond z (2 ^ n - 1) 0)
+same-bit true true n f e =
+    let p = pow-suc n in
+    let q = pow-pos n in
+    by-cases (ℕ-discrete f (2 ^ n - 1)) (λ h. eq-eqb (1 * 2 ^ n + f) (2 ^ suc n - 1) (omega arith) ∙ sym (eq-eqb f (2 ^ n - 1) h))
+    (λ h. ne-eqb (1 * 2 ^ n + f) (2 ^ suc n - 1) (λ g. h (omega arith)) ∙ sym (ne-eqb f (2 ^ n - 1) h))
+same-bit true false n f e = absurd (true≢false e)
+same-bit false true n f e = absurd (true≢false e)
+same-bit false false n f e = let q : 0 * 2 ^ n + f ≡ f = omega arith in rw q refl
+
+other-bit : (b z : Bool) (n f : ℕ) → not (Bool·beq b z) ≡ true → f < 2 ^ n → eqb (cond b 1 0 * 2 ^ n + f) (cond z (2 ^ suc n - 1) 0) ≡ false
+other-bit true true n f e h = absurd (true≢false (sym e))
+other-bit true false n f e h = ne-eqb (1 * 2 ^ n + f) 0 (λ g. omega arith)
+other-bit false true n f e h = let p = pow-suc n in ne-eqb (0 * 2 ^ n + f) (2 ^ suc n - 1) (λ g. omega arith)
+other-bit false false n f e h = absurd (true≢false (sym e))
+
+-- whether n disable bits from k on are all set (`z`) or all clear: `inv` is the loop's invariant
+module _ (z : Bool) (words : List ℕ) (n k : ℕ) {v : Bool} (inv : eqb (field n (drop k (zeroBits words))) (cond z (2 ^ n - 1) 0) ≡ v) where
+  alike-next : 0 < n → k < length words
+      → eqb (zeroBit (getD words k 0) * 2 ^ (n - 1) + field (n - 1) (drop (k + 1) (zeroBits words))) (cond z (2 ^ suc (n - 1) - 1) 0) ≡ v
+  unfolding field
+  alike-next h g =
+      let l : List ℕ = zeroBits words in
+      let e : n ≡ suc (n - 1) = omega arith in
+      let d : drop k l ≡ zeroBit (getD words k 0) ∷ drop (k + 1) l = rw add-one (drop-cons l k 0 (omega (arith, length-map words zeroBit)) ∙ rw (zero-is words k g)) in
+      sym (ap (λ (m : ℕ). eqb (field m (drop k l)) (cond z (2 ^ m - 1) 0)) e ∙ ap (λ (m : List ℕ). eqb (field (suc (n - 1)) m) (cond z (2 ^ suc (n - 1) - 1) 0)) d) ∙ inv
+
+  pub alike-go : not (Bool·beq (eqb (getD words k 0) 0) z) ≡ false → 0 < n → k < length words
+      → eqb (field (n - 1) (drop (k + 1) (zeroBits words))) (cond z (2 ^ (n - 1) - 1) 0) ≡ v
+  alike-go e h g = sym (same-bit (eqb (getD words k 0) 0) z (n - 1) (field (n - 1) (drop (k + 1) (zeroBits words))) e) ∙ alike-next h g
+
+  pub alike-stop : not (Bool·beq (eqb (getD words k 0) 0) z) ≡ true → 0 < n → k < length words → false ≡ v
+  alike-stop e h g =
+      let l : List ℕ = drop (k + 1) (zeroBits words) in
+      sym (other-bit (eqb (getD words k 0) 0) z (n - 1) (field (n - 1) l) e (field-lt (n - 1) l (bits-drop (k + 1) (zeroBits words) (bits-zeroBits words)))) ∙ alike-next h g
+
+  pub alike-end : n ≤ 0 → true ≡ v
+  alike-end h =
+      let e : n ≡ 0 = omega arith in
+      sym (ap (λ (m : ℕ). eqb (field m (drop k (zeroBits words))) (cond z (2 ^ m - 1) 0)) e ∙ rw (← field-none (drop k (zeroBits words))) (none z)) ∙ inv
+    where
+      none : (b : Bool) → eqb 0 (cond b (2 ^ 0 - 1) 0) ≡ true
+      none true = refl
+      none false = refl
 
 -- putting byte after byte: a turn, the start and the end
 pub mark-turn : (v s l : List ℕ) (i n b : ℕ) → i < n → sets s i (packedIn (n - i) (drop (8 * i) l)) ≡ v → b ≡ field 8 (drop (8 * i) l)

@@ -1,7 +1,9 @@
 // Bits packed into bytes, most significant bit first: reading one, and the disable bits of table words.
 ghost use mathlib.Core.Path.{_≡_};
-ghost use Prim.Native.Nat.{_+_, _-_, _%_, _^_, _<_};
-ghost use lib.ListN.{getD, drop};
+ghost use mathlib.Core.Bool.{cond};
+ghost use Prim.Native.Nat.{_+_, _-_, _%_, _^_, _≤_, _<_};
+ghost use lib.ListN.{length, getD, drop};
+ghost use lib.Dec.{eqb};
 ghost use Rattle.frames.specs.Bits.{withBit, field, bitsOf, bytesFor, zeroBits, marked};
 
 // The weight of bit k in its byte.
@@ -66,6 +68,38 @@ fn zero_byte(words: &[u64], at: usize) -> u8
     x
 }
 
+// Whether the eight words from `at` on are all zero, where `zero` is set; otherwise whether none of them is.
+fn eight_alike(words: &[u64], at: usize, zero: bool) -> bool
+    requires { ⌜ at + 8 ≤ length (now words) ⌝ }
+    ensures { λ r. ⌜ r ≡ eqb (field 8 (drop at (zeroBits (now (words .entry))))) (cond zero 255 0) ⌝ }
+{
+    let mut k: usize = 0;
+    while k < 8 {
+        if (words[at + k] == 0) != zero {
+            return false;
+        }
+        k += 1;
+    }
+    true
+}
+
+// The byte with the disable bits of the eight words from `at` on: 0 where none of them is zero, 255 where all are, and bit by bit otherwise.
+fn byte_of_eight(words: &[u64], at: usize) -> u8
+    requires { ⌜ at + 8 < 2 ^ 64 ⌝ }
+    ensures { λ r. ⌜ r ≡ field 8 (drop at (zeroBits (now (words .entry)))) ⌝ }
+{
+    if words.len() < at + 8 {
+        return zero_byte(words, at);
+    }
+    if eight_alike(words, at, false) {
+        return 0;
+    }
+    if eight_alike(words, at, true) {
+        return 255;
+    }
+    zero_byte(words, at)
+}
+
 // Sets a bit exactly where the word is zero, and clears the others and the padding bits of the last byte. The bytes after
 // stay, and all of them where there are too few.
 pub fn mark_zeros(words: &[u64], bits: &mut [u8])
@@ -77,7 +111,7 @@ pub fn mark_zeros(words: &[u64], bits: &mut [u8])
     }
     let mut i: usize = 0;
     while i < n {
-        bits[i] = zero_byte(words, 8 * i);
+        bits[i] = byte_of_eight(words, 8 * i);
         i += 1;
     }
 }

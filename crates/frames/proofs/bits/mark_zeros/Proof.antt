@@ -27,11 +27,11 @@ returns c = sym (marked-short (c .before .before .before .before .args .words .n
 loop-holds : tie.Need-loop-holds Inv-loop μ-loop
 loop-holds c = (omega arith, (c .before .bytes-for .ensures, (refl, mark-start (c .before .before .before .before .args .words .now) (c .before .before .before .before .args .bits .now) _ (c .before .bytes-for .ensures) (omega arith))))
 
-mul-zero-byte : tie.Need-mul-zero-byte Inv-loop μ-loop
-mul-zero-byte c = omega arith
+mul-byte-of-eight : tie.Need-mul-byte-of-eight Inv-loop μ-loop
+mul-byte-of-eight c = omega arith
 
-zero-byte-requires : tie.Need-zero-byte-requires Inv-loop μ-loop
-zero-byte-requires c κs = omega arith
+byte-of-eight-requires : tie.Need-byte-of-eight-requires Inv-loop μ-loop
+byte-of-eight-requires c κs = omega arith
 
 slice-write-bits : tie.Need-slice-write-bits Inv-loop μ-loop
 slice-write-bits c = omega arith
@@ -46,7 +46,7 @@ loop-again : tie.Need-loop-again Inv-loop μ-loop
 loop-again c =
     let at-args = c .before .before .before .before .before .before .before .args in
     let l = c .before .before .loop in
-    (omega arith, (l .inv .1 .0, (simp length-set (l .inv .1 .1 .0), mark-turn _ (l .bits) (zeroBits (at-args .words .now)) (l .i) _ _ (omega arith) (l .inv .1 .1 .1) (c .zero-byte .ensures))))
+    (omega arith, (l .inv .1 .0, (simp length-set (l .inv .1 .1 .0), mark-turn _ (l .bits) (zeroBits (at-args .words .now)) (l .i) _ _ (omega arith) (l .inv .1 .1 .1) (c .byte-of-eight .ensures))))
 
 same-length : tie.Need-same-length Inv-loop μ-loop
 same-length c = c .before .loop .inv .1 .1 .0
@@ -57,4 +57,4 @@ returns-2 c =
     mark-end _ (c .before .loop .bits) (zeroBits (at-args .words .now)) (c .before .loop .i) _ (c .loop-test .left) (c .before .loop .inv .1 .1 .1)
 
 pub mark-zeros-spec : {M : Type 1} → statement M
-mark-zeros-spec = tie.close (tie.spec Inv-loop μ-loop bytes-for-requires returns loop-holds mul-zero-byte zero-byte-requires slice-write-bits add-i loop-less loop-again same-length returns-2)
+mark-zeros-spec = tie.close (tie.spec Inv-loop μ-loop bytes-for-requires returns loop-holds mul-byte-of-eight byte-of-eight-requires slice-write-bits add-i loop-less loop-again same-length returns-2)
