@@ -16,18 +16,19 @@ ghost use Rattle.tables.specs.levels.Levels.{downstreamOfPhys};
 ghost use Rattle.tables.specs.lists.GrowingLists.{Grown, Added};
 ghost use Rattle.tables.specs.lists.PreparedLists.{AttachedExpandersKnown, downstreamOnce, DownstreamListsHeld, downstreamBytes, mostDownstream};
 
-// Whether the number is among these.
+// Whether the number is among these. It goes through all of them, so that many can be compared at once.
 pub(crate) fn has_number(l: &[u8], j: ExpanderNumber) -> bool
     ensures { λ r. ⌜ r ≡ isIn (j .0) (now (l .entry)) ⌝ }
 {
+    let mut found = false;
     let mut i: usize = 0;
     while i < l.len() {
         if l[i] == j.0 {
-            return true;
+            found = true;
         }
         i += 1;
     }
-    false
+    found
 }
 
 // Adds a number to the m numbers in `part`, unless it is among these or there is no room. The answer is how
