@@ -2,7 +2,7 @@
 -- and the expanders of a phy's levels in their order.
 use Prim.Native.Nat.{ℕ, zero, suc, _*_, _≤_, _<_, _+_}
 use mathlib.Core.Path.{_≡_}
-use mathlib.Core.Bool.{Bool, false, _||_, _&&_}
+use mathlib.Core.Bool.{Bool, true, false, _||_, _&&_}
 use mathlib.Core.List.{List, [], _∷_, _++_, flatMap}
 use lib.ListN.{length, getD, take, drop, replicate}
 use lib.Dec.{T, eqb, ltb}
@@ -115,9 +115,10 @@ pub record FillRoom (d : Domain) (words bytes numbers : List ℕ) : Type 0 where
   pub downstream : downstreamBytes * length d ≤ length bytes
   pub order : mostDownstream * length d < length numbers
 
--- writing the table of phy p of expander i from `at` on rests on these: own lists, the phy's order, and room
+-- writing the table of phy p of expander i, a table phy, from `at` on rests on these: own lists, the phy's order, and room
 abbrev pub TableReady : Domain → List ℕ → List ℕ → ℕ → ℕ → List ℕ → ℕ → Type 0
-TableReady d lists order i p words at = OwnListsHeld d lists × ((order ≡ orderOf d (phyAt d i p)) × (Fillable d × (at + size d (place i p) ≤ length words)))
+TableReady d lists order i p words at =
+    OwnListsHeld d lists × ((order ≡ orderOf d (phyAt d i p)) × ((isTable (phyAt d i p) ≡ true) × (Fillable d × (at + size d (place i p) ≤ length words))))
 
 -- writing all tables: who has which address, and room
 abbrev pub AllReady : Domain → List ℕ → List ℕ → List ℕ → Type 0

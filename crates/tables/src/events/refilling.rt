@@ -142,24 +142,23 @@ fn refill_table(
     }
 }
 
-// Whether phy p of expander i is a table phy attached to an expander: no other has levels.
-fn is_table_link(rows: &[u64], i: ExpanderNumber, p: PhyId) -> bool
-    ensures { λ r. ⌜ r ≡ tableLink (phyAt (domainIn (now (rows .entry))) (i .0) (p .0)) ⌝ }
+// Whether it is a table phy attached to an expander: no other has levels.
+fn is_table_link(f: Phy) -> bool
+    ensures { λ r. ⌜ r ≡ tableLink f ⌝ }
 {
-    let f = wiring::phy_at(rows, i, p);
     if wiring::phy_attribute(f) != 2 {
         return false;
     }
     wiring::phy_type(f) >= 2
 }
 
-// Passes over the table of a phy that has no levels.
-fn pass_over(rows: &[u64], i: ExpanderNumber, p: PhyId, s: Tally) -> Tally
-    requires { ⌜ s .at + size (domainIn (now rows)) (place (i .0) (p .0)) < 2 ^ 64 ⌝ }
+// Passes over the table of f, phy p of expander i, which has no levels.
+fn pass_over(rows: &[u64], i: ExpanderNumber, p: PhyId, f: Phy, s: Tally) -> Tally
+    requires { ⌜ (f ≡ phyAt (domainIn (now rows)) (i .0) (p .0)) × (s .at + size (domainIn (now rows)) (place (i .0) (p .0)) < 2 ^ 64) ⌝ }
     ensures { λ r. ⌜ Passed (domainIn (now (rows .entry))) (place (i .0) (p .0)) s r ⌝ }
 {
     Tally {
-        at: s.at + word_places::size_at(rows, i, p) as usize,
+        at: s.at + word_places::size_of(rows, i, f) as usize,
         tables: s.tables,
         words: s.words,
     }
@@ -189,12 +188,12 @@ fn refill_at(
     let mut m: usize = 0;
     let mut p: u8 = 0;
     while p < n {
-        if !is_table_link(rows, i, PhyId(p)) {
-            t = pass_over(rows, i, PhyId(p), t);
+        let f = wiring::phy_in_row(rows, i, PhyId(p));
+        if !is_table_link(f) {
+            t = pass_over(rows, i, PhyId(p), f, t);
             p += 1;
             continue;
         }
-        let f = wiring::phy_in_row(rows, i, PhyId(p));
         m = order::order_for(rows, first, downstream, q, g, m, i, PhyId(p), f, order);
         q = PhyId(p);
         g = f;

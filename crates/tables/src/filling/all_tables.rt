@@ -83,7 +83,7 @@ pub fn needed_words(rows: &[u64]) -> usize
     words_before(rows, ExpanderNumber(wiring::expander_count(rows)))
 }
 
-// Writes the table of phy p of expander i from `at` on, and yields the place after it. `lists` has the
+// Writes the table of phy p of expander i, a table phy, from `at` on, and yields the place after it. `lists` has the
 // own lists, `order` the expanders of the phy's levels.
 fn put_table(
     rows: &[u64],
@@ -98,9 +98,6 @@ fn put_table(
     ensures { λ r. ⌜ WordsPut (now (words .entry)) (now (words .exit)) at r
         (ownTablesOf (domainIn (now (rows .entry))) (place (i .0) (p .0) ∷ [])) ⌝ }
 {
-    if !is_table(rows, i, p) {
-        return at;
-    }
     let e = at + wiring::route_indexes(rows, i) as usize;
     table_filling::fill_table(rows, lists, order, i, p, &mut words[at..e]);
     e
@@ -130,6 +127,10 @@ fn put_tables(
     let mut p: u8 = 0;
     while p < n {
         let f = wiring::phy_in_row(rows, i, PhyId(p));
+        if wiring::phy_attribute(f) != 2 {
+            p += 1;
+            continue;
+        }
         m = order::order_for(rows, first, downstream, q, g, m, i, PhyId(p), f, order);
         q = PhyId(p);
         g = f;

@@ -1,13 +1,15 @@
 // Which expander, phy and route index a word of the tables belongs to.
 use crate::Entry;
 use crate::WordPlace;
-use crate::filling::all_tables::is_table;
 use wiring::ExpanderNumber;
+use wiring::Phy;
 use wiring::PhyId;
 use wiring::RouteIndex;
 ghost use mathlib.Core.Path.{_≡_};
+ghost use mathlib.Core.Bool.{cond};
 ghost use Prim.Native.Nat.{_<_};
 ghost use Rattle.wiring.specs.phys.PhyCauses.{place};
+ghost use Rattle.files.specs.Domain.{expanderAt, isTable};
 ghost use Rattle.files.specs.Rows.{domainIn};
 ghost use Rattle.tables.specs.filling.Tables.{size};
 ghost use Rattle.tables.specs.filling.WordEntries.{wordPlace, wordAnswer, SoughtAt};
@@ -18,14 +20,21 @@ enum Sought {
     Left(u64),
 }
 
+// How many words the table of a phy of expander i has; 0 where that is no table phy.
+pub(crate) fn size_of(rows: &[u64], i: ExpanderNumber, f: Phy) -> u64
+    ensures { λ r. ⌜ (r ≡ cond (isTable f) (expanderAt (domainIn (now (rows .entry))) (i .0) .routeIndexes) 0) × (r < 65536) ⌝ }
+{
+    if wiring::phy_attribute(f) != 2 {
+        return 0;
+    }
+    wiring::route_indexes(rows, i) as u64
+}
+
 // How many words the table of phy p of expander i has; 0 where that is no table phy.
 pub fn size_at(rows: &[u64], i: ExpanderNumber, p: PhyId) -> u64
     ensures { λ r. ⌜ (r ≡ size (domainIn (now (rows .entry))) (place (i .0) (p .0))) × (r < 65536) ⌝ }
 {
-    if !is_table(rows, i, p) {
-        return 0;
-    }
-    wiring::route_indexes(rows, i) as u64
+    size_of(rows, i, wiring::phy_at(rows, i, p))
 }
 
 // Word k of the tables from expander i on, as far as it is one of expander i's.

@@ -1,26 +1,17 @@
 -- put_table meets its contract: the part of the words from `at` on, R words, is filled.
 use Prim.Native.Nat.{ℕ, _+_, _-_}
-use mathlib.Core.Path.{sym, _∙_, ap}
+use mathlib.Core.Path.{_∙_, ap}
 use lib.ListN.{drop, length-drop}
 use lib.Seq.{length-take-le}
-use borrow.Author.Tests.{not-true, not-false}
 use Rattle.files.specs.Domain.{Domain}
 use Rattle.files.specs.Rows.{domainIn}
 use Rattle.files.proofs.ListMembers.{was-true}
 use Rattle.tables.specs.lists.PreparedLists.{ownWordsOfOrder, filledTo}
-use Rattle.tables.proofs.filling.TablesPut.{size-by, put-none, put-one}
+use Rattle.tables.proofs.filling.TablesPut.{size-by, put-one}
 use borrow.Author.Needs.{needs}
 use native.Mathlib.Omega.{arith}
 use Rattle.tables.proofs.filling.all_tables.put_table.Statement.{statement}
 use Rattle.tables.proofs.filling.all_tables.put_table.Tie as tie
-
-is-table-requires : tie.Need-is-table-requires
-is-table-requires c κs = search needs
-
-returns : tie.Need-returns
-returns c =
-    let at-args = c .before .before .before .before .before .before .args in
-    put-none (domainIn (at-args .rows .now)) (at-args .i .0) (at-args .p .0) (at-args .words .now) (at-args .at) (sym ((c .before .is-table) .ensures) ∙ not-true _ (c .if1 .taken))
 
 route-indexes-requires : tie.Need-route-indexes-requires
 route-indexes-requires c κs = search needs
@@ -30,8 +21,8 @@ cast-e c = search needs
 
 add-e : tie.Need-add-e
 add-e c =
-    let a = (c .before .before .before .before .before .before .before .args) in
-    let s = size-by (domainIn (a .rows .now)) (a .i .0) (a .p .0) (sym ((c .before .before .is-table) .ensures) ∙ not-false _ ((c .before .if1) .left)) in
+    let a = c .before .before .before .before .before .args in
+    let s = size-by (domainIn (a .rows .now)) (a .i .0) (a .p .0) (c .before .before .before .before .before .pre .1 .1 .0) in
     omega arith
 
 mul-fill-table : tie.Need-mul-fill-table
@@ -45,34 +36,33 @@ part-fill-table-start c = search needs
 
 part-fill-table-end : tie.Need-part-fill-table-end
 part-fill-table-end c =
-    let a = (c .before .before .before .before .before .before .before .args) in
-    let s = size-by (domainIn (a .rows .now)) (a .i .0) (a .p .0) (sym ((c .before .before .is-table) .ensures) ∙ not-false _ ((c .before .if1) .left)) in
+    let a = c .before .before .before .before .before .args in
+    let s = size-by (domainIn (a .rows .now)) (a .i .0) (a .p .0) (c .before .before .before .before .before .pre .1 .1 .0) in
     omega arith
 
 fill-table-requires : tie.Need-fill-table-requires
 fill-table-requires c κs =
-    let at-pre = c .before .before .before .before .before .before .before .before .pre in
-    let a = (c .before .before .before .before .before .before .before .before .args) in
-    let t = sym ((c .before .before .before .is-table) .ensures) ∙ not-false _ ((c .before .before .if1) .left) in
-    let s = size-by (domainIn (a .rows .now)) (a .i .0) (a .p .0) t in
-    let k : ℕ = a .at + (c .before .route-indexes) .result - a .at in
+    let at-pre = c .before .before .before .before .before .before .pre in
+    let a = c .before .before .before .before .before .before .args in
+    let s = size-by (domainIn (a .rows .now)) (a .i .0) (a .p .0) (at-pre .1 .1 .0) in
+    let k : ℕ = a .at + c .before .route-indexes .result - a .at in
     let n = length-take-le k (drop (a .at) (a .words .now)) (simp length-drop (omega arith)) in
-    record { held = at-pre .0; ordered = at-pre .1 .0; fits = omega (arith, at-pre .1 .1 .0 (a .i .0) (a .p .0) (was-true _ t)) }
+    record { held = at-pre .0; ordered = at-pre .1 .0; fits = omega (arith, at-pre .1 .1 .1 .0 (a .i .0) (a .p .0) (was-true _ (at-pre .1 .1 .0))) }
 
 same-length : tie.Need-same-length
 same-length c = search needs
 
-returns-2 : tie.Need-returns-2
-returns-2 c =
-    let at-is-table = c .before .before .before .before .before .before .is-table in
-    let a = (c .before .before .before .before .before .before .before .before .before .before .before .args) in
+returns : tie.Need-returns
+returns c =
+    let at-pre = c .before .before .before .before .before .before .before .before .before .pre in
+    let a = c .before .before .before .before .before .before .before .before .before .args in
     let d : Domain = domainIn (a .rows .now) in
-    let t = sym (at-is-table .ensures) ∙ not-false _ ((c .before .before .before .before .before .if1) .left) in
+    let t = at-pre .1 .1 .0 in
     let s = size-by d (a .i .0) (a .p .0) t in
-    let r : ℕ = (c .before .before .before .before .route-indexes) .result in
+    let r : ℕ = c .before .before .before .before .route-indexes .result in
     let k : ℕ = a .at + r - a .at in
     let z = length-take-le k (drop (a .at) (a .words .now)) (simp length-drop (omega arith)) in
-    put-one d (a .i .0) (a .p .0) (a .words .now) (a .at) k ((c .before .before .fill-table) .ensures .0 ∙ ap (λ (n : ℕ). filledTo n (ownWordsOfOrder d (a .i .0) (a .p .0))) z) t (omega arith) (a .at + r) (omega arith) (omega arith)
+    put-one d (a .i .0) (a .p .0) (a .words .now) (a .at) k (c .before .before .fill-table .ensures .0 ∙ ap (λ (n : ℕ). filledTo n (ownWordsOfOrder d (a .i .0) (a .p .0))) z) t (omega arith) (a .at + r) (omega arith) (omega arith)
 
 pub put-table-spec : {M : Type 1} → statement M
-put-table-spec = tie.close (tie.spec is-table-requires returns route-indexes-requires cast-e add-e mul-fill-table sub-fill-table part-fill-table-start part-fill-table-end fill-table-requires same-length returns-2)
+put-table-spec = tie.close (tie.spec route-indexes-requires cast-e add-e mul-fill-table sub-fill-table part-fill-table-start part-fill-table-end fill-table-requires same-length returns)

@@ -5,7 +5,6 @@ use Rattle.files.specs.Rows.{domainIn}
 use Rattle.tables.proofs.filling.FilledTable.{filled-room, order-filled}
 use Rattle.tables.proofs.filling.WordsChanged.{all-counted}
 use borrow.Author.Needs.{needs}
-use borrow.Author.Needs.{needs}
 use Rattle.tables.proofs.filling.table_filling.fill_table.Statement.{statement}
 use Rattle.tables.proofs.filling.table_filling.fill_table.Tie as tie
 

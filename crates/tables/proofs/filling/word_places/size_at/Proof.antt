@@ -1,36 +1,23 @@
--- size_at is `size` by its test: R of the expander where the phy is a table phy.
-use mathlib.Core.Path.{sym, _∙_}
-use native.Mathlib.Omega.{arith}
-use borrow.Author.Tests.{not-true, not-false}
-use Rattle.files.specs.Domain.{Domain}
+-- size_at is `size`: what size_of says of the phy.
+use mathlib.Core.Path.{sym, _∙_, ap}
+use Rattle.files.specs.Domain.{isTable}
 use Rattle.files.specs.Rows.{domainIn}
 use Rattle.tables.proofs.filling.TablesPut.{size-by}
 use borrow.Author.Needs.{needs}
 use Rattle.tables.proofs.filling.word_places.size_at.Statement.{statement}
 use Rattle.tables.proofs.filling.word_places.size_at.Tie as tie
 
-is-table-requires : tie.Need-is-table-requires
-is-table-requires c κs = search needs
+phy-at-requires : tie.Need-phy-at-requires
+phy-at-requires c κs = search needs
+
+size-of-requires : tie.Need-size-of-requires
+size-of-requires c κs = search needs
 
 returns : tie.Need-returns
 returns c =
     let a = c .before .before .before .args in
-    let d : Domain = domainIn (a .rows .now) in
-    let e = size-by d (a .i .0) (a .p .0) (sym (c .before .is-table .ensures) ∙ not-true _ (c .if1 .taken)) in
-    omega arith
-
-route-indexes-requires : tie.Need-route-indexes-requires
-route-indexes-requires c κs = search needs
-
-cast-result : tie.Need-cast-result
-cast-result c = search needs
-
-returns-2 : tie.Need-returns-2
-returns-2 c =
-    let a = c .before .before .before .before .args in
-    let d : Domain = domainIn (a .rows .now) in
-    let e = size-by d (a .i .0) (a .p .0) (sym (c .before .before .is-table .ensures) ∙ not-false _ (c .before .if1 .left)) in
-    omega arith
+    let z = c .size-of .ensures in
+    (z .0 ∙ sym (size-by (domainIn (a .rows .now)) (a .i .0) (a .p .0) (ap isTable (sym (c .before .phy-at .ensures)))), z .1)
 
 pub size-at-spec : {M : Type 1} → statement M
-size-at-spec = tie.close (tie.spec is-table-requires returns route-indexes-requires cast-result returns-2)
+size-at-spec = tie.close (tie.spec phy-at-requires size-of-requires returns)
