@@ -50,8 +50,10 @@ pub struct Request {
 }
 
 impl Request {
+    /// The arrival phy as the calls take it. No expander has phy 254 or 255, and 255
+    /// is the expander itself there: so phy 255 is given as 254, and refused with 15.
     pub(crate) fn arrival_byte(self) -> u8 {
-        self.arrival.map_or(NONE, |phy| phy.0)
+        self.arrival.map_or(NONE, |phy| phy.0.min(NONE - 1))
     }
 }
 

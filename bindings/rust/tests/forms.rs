@@ -199,6 +199,7 @@ fn tables_and_a_trace() {
     for (request, room, cause) in [
         (request(2, None, A1), 0, Cause::Request),
         (request(0, Some(0), A1), 2, Cause::Request),
+        (request(0, Some(255), A1), 2, Cause::Request),
         (request(0, None, 0), 1, Cause::Room),
         (request(0, None, 0), 2, Cause::AddressZero),
     ] {
@@ -234,6 +235,7 @@ fn a_list_of_requests() {
         ),
         (Err(refused(Cause::Request)), request(2, None, B1)),
         (Err(refused(Cause::Request)), request(1, Some(2), 0)),
+        (Err(refused(Cause::Request)), request(0, Some(255), B1)),
         (Err(refused(Cause::AddressZero)), request(1, None, 0)),
     ]
     .into_iter()

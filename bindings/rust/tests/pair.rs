@@ -180,6 +180,14 @@ fn traces_refused_and_disabled() {
     let refusals = [
         (ask(&WORDS, &BITS, request(2, None, B1)), Cause::Request),
         (ask(&WORDS, &BITS, request(0, Some(0), B1)), Cause::Request),
+        (
+            ask(&WORDS, &BITS, request(0, Some(254), B1)),
+            Cause::Request,
+        ),
+        (
+            ask(&WORDS, &BITS, request(0, Some(255), B1)),
+            Cause::Request,
+        ),
         (ask(&WORDS[..3], &BITS, to_b1), Cause::Room),
         (ask(&WORDS, &[], to_b1), Cause::BitRoom),
         (ask(&WORDS, &BITS, request(0, None, 0)), Cause::AddressZero),
@@ -231,6 +239,10 @@ fn steps_refused() {
     for (got, cause) in [
         (ask(&WORDS, &BITS, request(2, None, B1)), Cause::Request),
         (ask(&WORDS, &BITS, request(1, Some(2), B1)), Cause::Request),
+        (
+            ask(&WORDS, &BITS, request(0, Some(255), B1)),
+            Cause::Request,
+        ),
         (ask(&WORDS[..3], &BITS, request(0, None, B1)), Cause::Room),
         (ask(&WORDS, &[], request(0, None, B1)), Cause::BitRoom),
         (ask(&WORDS, &BITS, request(0, None, 0)), Cause::AddressZero),
