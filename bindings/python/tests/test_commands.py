@@ -424,11 +424,14 @@ class Status(FolderTest):
             self.assertEqual(3, ran.returncode)
 
     def test_build_and_print_need_no_library(self):
-        with self.command(
-            "build", PAIR_RIG, self.folder / "out", env={"METZURGO_LIBRARY": "none"}
-        ) as ran:
-            self.assertEqual("", ran.stderr.read())
-        self.assertEqual(0, ran.returncode)
+        out = self.folder / "out"
+        for words in (["build", PAIR_RIG, out], ["print", PAIR_RIG], ["print", out]):
+            with self.subTest(words=words):
+                none = {"METZURGO_LIBRARY": "none"}
+                with self.command(*words, env=none, stdout=subprocess.PIPE) as ran:
+                    printed, told = ran.communicate()
+                self.assertEqual((0, ""), (ran.returncode, told))
+                self.assertEqual(words[0] == "print", "expander" in printed)
 
     def test_version(self):
         ran = run("--version")

@@ -50,9 +50,10 @@ def load_tests(loader, tests, pattern):
 
 class Calls(FolderTest):
     def test_the_calls_are_those_of_the_header(self):
-        """Each call is declared with the parameters that include/metzurgo.h gives it."""
+        """Each call of include/metzurgo.h is declared with its parameters, and no other call."""
         header = (ROOT / "include/metzurgo.h").read_text(encoding="utf-8")
         found = dict(re.findall(r"^uint64_t (metzurgo_\w+)\(([^)]*)\);", header, re.M))
+        self.assertEqual(sorted(found), sorted(library.CALLS))
         for name, parameters in library.CALLS.items():
             with self.subTest(call=name):
                 declared = [parameter.strip() for parameter in found[name].split(",")]
