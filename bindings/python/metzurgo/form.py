@@ -17,7 +17,8 @@ from array import array
 from typing import Iterable, Iterator, List, NamedTuple, Sequence, Tuple, Union
 
 from .answers import NO_PHY, WIDEST, Needed, Refusal, Setting, Traced, checked
-from .library import library
+from .arguments import array_of
+from .library import ADDRESS, library
 from .rig import Rig, Table, Tables
 
 NO_FORM = 1  # the refusal of words that are the form of no accepted rig
@@ -66,7 +67,7 @@ class Form:
     """
 
     def __init__(self, words: Iterable[int], setting: Setting = WIDEST) -> None:
-        self.words: Sequence[int] = array("Q", words)
+        self.words: Sequence[int] = array_of(words)
         self.setting = setting
         self._calls = library()
         try:
@@ -150,7 +151,7 @@ class Form:
         """
         words = array("Q")
         for start, arrival, address in requests:
-            words.extend((first_word(start, arrival), address))
+            words.extend((first_word(start, arrival), ADDRESS.number(address)))
         return [end_of(answer) for answer in self.answers(tables, words)]
 
     def answers(self, tables: Tables, requests: Sequence[int]) -> Sequence[int]:

@@ -8,12 +8,14 @@ the system keeps libraries.
 import ctypes
 import ctypes.util
 import os
-from array import array
-from ctypes import POINTER, c_char_p, c_size_t, c_uint8, c_uint16, c_uint32, c_uint64, c_void_p
+from ctypes import c_uint8, c_uint16, c_uint64
 from pathlib import Path
-from typing import Any, List, Optional, Sequence, Tuple
+from types import SimpleNamespace
+from typing import Any, Dict, List, Optional, Sequence, Tuple
 
 from .answers import (
+    NO_INDEX,
+    NO_PHY,
     Discovered,
     General,
     Moved,
@@ -25,6 +27,21 @@ from .answers import (
     Traced,
     checked,
 )
+from .arguments import (
+    Bits,
+    Bytes,
+    Content,
+    Course,
+    Flag,
+    Held,
+    Lent,
+    Number,
+    Parameter,
+    ShelfWords,
+    Words,
+    bytes_of,
+    words_of as words_of,
+)
 
 FILE_NAME = "libmetzurgo.so"
 FRAME = 40  # the bytes of a CONFIGURE ROUTE INFORMATION request
@@ -33,47 +50,91 @@ LONGEST_CARD = 80578  # the bytes of the longest card
 LONGEST_CARD_FILE = 428290  # and of the longest file that is made of a card
 LONGEST_EXERCISE = 6782  # and of the longest file of an exercise
 
-_SETTING = [c_uint32]
-_BYTES = [c_char_p, c_size_t]  # read only
-_LENT = [POINTER(c_uint8), c_size_t]
-_WORDS = [POINTER(c_uint64), c_size_t]
-_REQUEST = [c_uint8, c_uint8, c_uint64]  # start, arrival phy, address
-_EVENT = [c_uint8, c_uint8, c_uint64]  # expander, phy, address
-_END = _BYTES + [c_uint8, c_uint8]  # a file, and an expander and phy of it
+# The third argument is what a number out of range is given as: no rig, frame or shelf has it.
+ADDRESS = Number("address", c_uint64)
+ROUTE_INDEX = Number("index", c_uint16)
+KIND = Number("kinds", c_uint8, 255)  # of a phy of a shelf
+_ARRIVAL = Number("arrival", c_uint8, NO_PHY - 1)  # NO_PHY is the expander itself
+_EXPANDER = Number("expander", c_uint8, 255)
+_PHY = Number("phy", c_uint8, NO_PHY)
+_PLACE = [_EXPANDER, _PHY]
+_REQUEST = [Number("start", c_uint8, 255), _ARRIVAL, ADDRESS]
+_ENTRY = [_PHY, Number("index", c_uint16, NO_INDEX)]
+_LENGTH = Number("length", c_uint8, 255)
+_WORD = Number("word", c_uint64, (1 << 64) - 1)
+
+_SETTING = Course()
+_FILE = Content("file")
+_FRAME = Content("frame")
+_SHELF = Held()
+_ROOM = Lent("room", c_uint8)
+_FILLED = [Lent("words", c_uint64), Lent("bits", c_uint8)]
+_TABLES = [Words("words"), Bits()]
 
 # Each call and its parameters. Every answer is a 64-bit number.
-CALLS = {
+PARAMETERS: Dict[str, List[Parameter]] = {
     "metzurgo_version": [],
-    "metzurgo_wire": _SETTING + _BYTES + _WORDS,
-    "metzurgo_judge": _SETTING + _BYTES,
-    "metzurgo_needed": _SETTING + _BYTES,
-    "metzurgo_word_place": _SETTING + _BYTES + [c_uint64],
-    "metzurgo_tables": _SETTING + _BYTES + _WORDS + _LENT,
-    "metzurgo_trace": _SETTING + _BYTES + _WORDS + _LENT + _REQUEST + _LENT,
-    "metzurgo_step": _SETTING + _BYTES + _WORDS + _LENT + _REQUEST,
-    "metzurgo_compact": _SETTING + _BYTES + _WORDS,
-    "metzurgo_compact_tables": _SETTING + _WORDS + _WORDS + _LENT,
-    "metzurgo_compact_trace": _SETTING + _WORDS + _WORDS + _LENT + _REQUEST + _LENT,
-    "metzurgo_compact_trace_many": _SETTING + _WORDS + _WORDS + _LENT + _WORDS + _WORDS,
-    "metzurgo_event": _SETTING + _LENT + _WORDS + _LENT + _EVENT,
-    "metzurgo_card_of_file": _SETTING + _BYTES + _LENT,
-    "metzurgo_file_of_card": _SETTING + _BYTES + _LENT,
-    "metzurgo_join": _SETTING + _END + _END + _LENT,
-    "metzurgo_make": [c_uint64, c_uint64] + _WORDS + _LENT,
-    "metzurgo_write_route": _LENT + [c_uint8, c_uint8, c_uint16, c_uint64, c_uint8],
-    "metzurgo_read_route": _BYTES,
-    "metzurgo_read_route_address": _BYTES,
-    "metzurgo_read_general": _BYTES,
-    "metzurgo_read_general_sas2": _BYTES,
-    "metzurgo_read_discover": _BYTES,
-    "metzurgo_discover_own": _BYTES,
-    "metzurgo_discover_attached": _BYTES,
+    "metzurgo_wire": [_SETTING, _FILE, Lent("words", c_uint64)],
+    "metzurgo_judge": [_SETTING, _FILE],
+    "metzurgo_needed": [_SETTING, _FILE],
+    "metzurgo_word_place": [_SETTING, _FILE, _WORD],
+    "metzurgo_tables": [_SETTING, _FILE, *_FILLED],
+    "metzurgo_trace": [_SETTING, _FILE, *_TABLES, *_REQUEST, _ROOM],
+    "metzurgo_step": [_SETTING, _FILE, *_TABLES, _EXPANDER, _ARRIVAL, ADDRESS],
+    "metzurgo_compact": [_SETTING, _FILE, Lent("form", c_uint64)],
+    "metzurgo_compact_tables": [_SETTING, Words("form"), *_FILLED],
+    "metzurgo_compact_trace": [_SETTING, Words("form"), *_TABLES, *_REQUEST, _ROOM],
+    "metzurgo_compact_trace_many": [
+        _SETTING,
+        Words("form"),
+        *_TABLES,
+        Words("requests"),
+        Lent("answers", c_uint64),
+    ],
+    "metzurgo_event": [_SETTING, Lent("file", c_uint8), *_FILLED, *_PLACE, ADDRESS],
+    "metzurgo_card_of_file": [_SETTING, _FILE, _ROOM],
+    "metzurgo_file_of_card": [_SETTING, Content("card"), _ROOM],
+    "metzurgo_join": [_SETTING, Content("first"), *_PLACE, Content("second"), *_PLACE, _ROOM],
+    "metzurgo_make": [Number("first", c_uint64), Number("second", c_uint64), Words("words"), _ROOM],
+    "metzurgo_write_route": [_ROOM, _LENGTH, _PHY, ROUTE_INDEX, ADDRESS, Flag("disabled")],
+    "metzurgo_read_route": [_FRAME],
+    "metzurgo_read_route_address": [_FRAME],
+    "metzurgo_read_general": [_FRAME],
+    "metzurgo_read_general_sas2": [_FRAME],
+    "metzurgo_read_discover": [_FRAME],
+    "metzurgo_discover_own": [_FRAME],
+    "metzurgo_discover_attached": [_FRAME],
     "metzurgo_shelf_size": [],
-    "metzurgo_shelf_fresh": [c_void_p, c_uint8, c_uint16] + _BYTES,
-    "metzurgo_shelf_obey": [c_void_p] + _BYTES,
-    "metzurgo_shelf_entry": [c_void_p, c_uint8, c_uint16],
-    "metzurgo_shelf_disabled": [c_void_p, c_uint8, c_uint16],
+    "metzurgo_shelf_fresh": [
+        _SHELF,
+        Number("phys", c_uint8, 255),
+        Number("indexes", c_uint16, NO_INDEX),
+        Content("kinds"),
+    ],
+    "metzurgo_shelf_obey": [_SHELF, _FRAME],
+    "metzurgo_shelf_entry": [_SHELF, *_ENTRY],
+    "metzurgo_shelf_disabled": [_SHELF, *_ENTRY],
 }
+# The same with the types that the header has.
+CALLS = {
+    name: [kind for parameter in parameters for kind in parameter.types]
+    for name, parameters in PARAMETERS.items()
+}
+
+
+class Call:
+    """A call of the library, with an argument for each of its parameters."""
+
+    def __init__(self, function: Any, name: str) -> None:
+        self.function, self.parameters = function, PARAMETERS[name]
+        function.argtypes, function.restype = CALLS[name], c_uint64
+
+    def __call__(self, *arguments: Any) -> int:
+        given: List[Any] = []
+        for parameter, argument in zip(self.parameters, arguments):
+            given.extend(parameter.given(argument))
+        answer: int = self.function(*given)
+        return answer
 
 
 class LibraryMissing(Exception):
@@ -99,19 +160,10 @@ def find_library() -> str:
     return candidates()[0]
 
 
-def words_of(words: Sequence[int]) -> Any:
-    """Words as they are lent: those of an array are lent where they are.
-
-    >>> list(words_of([1, 2])), list(words_of(array("Q", [3])))
-    ([1, 2], [3])
-    """
-    lent = c_uint64 * len(words)
-    return lent.from_buffer(words) if isinstance(words, array) and words else lent(*words)
-
-
-def counted(file: bytes) -> int:
+def counted(file: Bytes) -> int:
     """The number of expanders that the header of a file counts: a buffer has so many elements."""
-    return file[1] if len(file) > 1 else 0
+    content = bytes_of(file, "file")
+    return content[1] if len(content) > 1 else 0
 
 
 class Library:
@@ -125,15 +177,14 @@ class Library:
     def __init__(self, path: Optional[str] = None) -> None:
         self.path = path or find_library()
         try:
-            self._calls = ctypes.CDLL(self.path)
-            for name, parameters in CALLS.items():
-                call = getattr(self._calls, name)
-                call.argtypes, call.restype = parameters, c_uint64
+            loaded = ctypes.CDLL(self.path)
+            calls = {name: Call(getattr(loaded, name), name) for name in CALLS}
         except (OSError, AttributeError) as error:
             raise LibraryMissing(
                 f"{self.path}: the library cannot be loaded ({error});"
                 " METZURGO_LIBRARY names another file"
             ) from error
+        self._calls = SimpleNamespace(**calls)
 
     def version(self) -> Tuple[int, int, int]:
         answer = self._calls.metzurgo_version()
@@ -141,39 +192,34 @@ class Library:
 
     # Calls on a file.
 
-    def judge(self, setting: Setting, file: bytes) -> int:
+    def judge(self, setting: Setting, file: Bytes) -> int:
         """The number of expanders."""
-        return checked(self._calls.metzurgo_judge(setting.packed(), file, len(file)))
+        return checked(self._calls.metzurgo_judge(setting, file))
 
-    def wire(self, setting: Setting, file: bytes) -> List[int]:
+    def wire(self, setting: Setting, file: Bytes) -> List[int]:
         """The neighbours of each expander, as bits of a word. Loops are not refused."""
         words = (c_uint64 * counted(file))()
-        checked(self._calls.metzurgo_wire(setting.packed(), file, len(file), words, len(words)))
+        checked(self._calls.metzurgo_wire(setting, file, words))
         return list(words)
 
-    def needed(self, setting: Setting, file: bytes) -> Needed:
-        return Needed.of(checked(self._calls.metzurgo_needed(setting.packed(), file, len(file))))
+    def needed(self, setting: Setting, file: Bytes) -> Needed:
+        return Needed.of(checked(self._calls.metzurgo_needed(setting, file)))
 
-    def word_place(self, setting: Setting, file: bytes, word: int) -> Place:
-        answer = self._calls.metzurgo_word_place(setting.packed(), file, len(file), word)
-        return Place.of(checked(answer))
+    def word_place(self, setting: Setting, file: Bytes, word: int) -> Place:
+        return Place.of(checked(self._calls.metzurgo_word_place(setting, file, word)))
 
-    def tables(self, setting: Setting, file: bytes) -> Tuple[Any, Any]:
+    def tables(self, setting: Setting, file: Bytes) -> Tuple[Any, Any]:
         """The words of all tables, and their disable bits, as they are lent to a trace."""
         needed = self.needed(setting, file)
         words = (c_uint64 * needed.words)()
         bits = (c_uint8 * ((needed.words + 7) // 8))()
-        checked(
-            self._calls.metzurgo_tables(
-                setting.packed(), file, len(file), words, len(words), bits, len(bits)
-            )
-        )
+        checked(self._calls.metzurgo_tables(setting, file, words, bits))
         return words, bits
 
     def trace(
         self,
         setting: Setting,
-        file: bytes,
+        file: Bytes,
         words: Any,
         bits: Any,
         start: int,
@@ -182,26 +228,14 @@ class Library:
     ) -> Traced:
         """Follows a request over words and bits."""
         passed = (c_uint8 * counted(file))()
-        lent = (words, len(words), bits, len(bits))
-        answer = checked(
-            self._calls.metzurgo_trace(
-                setting.packed(),
-                file,
-                len(file),
-                *lent,
-                start,
-                arrival,
-                address,
-                passed,
-                len(passed),
-            )
-        )
-        return Traced.of(answer, passed)
+        request = (start, arrival, address, passed)
+        answer = self._calls.metzurgo_trace(setting, file, words, bits, *request)
+        return Traced.of(checked(answer), passed)
 
     def step(
         self,
         setting: Setting,
-        file: bytes,
+        file: Bytes,
         words: Any,
         bits: Any,
         expander: int,
@@ -209,21 +243,16 @@ class Library:
         address: int,
     ) -> Step:
         """What one expander does with a request."""
-        lent = (words, len(words), bits, len(bits))
-        return Step.of(
-            checked(
-                self._calls.metzurgo_step(
-                    setting.packed(), file, len(file), *lent, expander, arrival, address
-                )
-            )
-        )
+        request = (expander, arrival, address)
+        answer = self._calls.metzurgo_step(setting, file, words, bits, *request)
+        return Step.of(checked(answer))
 
     # Drives plugged and pulled.
 
     def event(
         self,
         setting: Setting,
-        file: bytes,
+        file: Bytes,
         words: Any,
         bits: Any,
         place: Tuple[int, int],
@@ -233,26 +262,26 @@ class Library:
 
         Words and bits are edited where they are.
         """
-        edited = (c_uint8 * len(file)).from_buffer_copy(file)
-        lent = (edited, len(edited), words, len(words), bits, len(bits))
-        answer = checked(self._calls.metzurgo_event(setting.packed(), *lent, *place, address))
+        expander, phy = place
+        content = bytes_of(file, "file")
+        edited = (c_uint8 * len(content)).from_buffer_copy(content)
+        call = self._calls.metzurgo_event
+        answer = checked(call(setting, edited, words, bits, expander, phy, address))
         return bytes(edited), Moved.of(answer)
 
     # Compact forms. Forms and requests are words, as words_of takes them.
 
-    def compact(self, setting: Setting, file: bytes) -> List[int]:
+    def compact(self, setting: Setting, file: Bytes) -> List[int]:
         """The form of a domain file."""
         room = (c_uint64 * LONGEST_FORM)()
-        call = self._calls.metzurgo_compact
-        answer = checked(call(setting.packed(), file, len(file), room, len(room)))
+        answer = checked(self._calls.metzurgo_compact(setting, file, room))
         return room[: answer & 0xFFFFFFFF]
 
     def compact_tables(self, setting: Setting, form: Sequence[int], count: int) -> Tuple[Any, Any]:
         """The words of all tables over a form, so many of them, and their disable bits."""
         words = (c_uint64 * count)()
         bits = (c_uint8 * ((count + 7) // 8))()
-        lent = (words_of(form), len(form), words, len(words), bits, len(bits))
-        checked(self._calls.metzurgo_compact_tables(setting.packed(), *lent))
+        checked(self._calls.metzurgo_compact_tables(setting, form, words, bits))
         return words, bits
 
     def compact_trace(
@@ -268,9 +297,8 @@ class Library:
     ) -> Traced:
         """Follows a request over a form of so many expanders, and over words and bits."""
         passed = (c_uint8 * expanders)()
-        lent = (words_of(form), len(form), words, len(words), bits, len(bits))
-        request = (start, arrival, address, passed, len(passed))
-        answer = self._calls.metzurgo_compact_trace(setting.packed(), *lent, *request)
+        request = (start, arrival, address, passed)
+        answer = self._calls.metzurgo_compact_trace(setting, form, words, bits, *request)
         return Traced.of(checked(answer), passed)
 
     def compact_trace_many(
@@ -278,9 +306,8 @@ class Library:
     ) -> Any:
         """The answers to a list of requests, two words each."""
         answers = (c_uint64 * (len(requests) // 2))()
-        lent = (words_of(form), len(form), words, len(words), bits, len(bits))
-        given = (words_of(requests), len(requests), answers, len(answers))
-        checked(self._calls.metzurgo_compact_trace_many(setting.packed(), *lent, *given))
+        call = self._calls.metzurgo_compact_trace_many
+        checked(call(setting, form, words, bits, requests, answers))
         return answers
 
     # Two rigs.
@@ -288,43 +315,36 @@ class Library:
     def join(
         self,
         setting: Setting,
-        first: bytes,
+        first: Bytes,
         place: Tuple[int, int],
-        second: bytes,
+        second: Bytes,
         other: Tuple[int, int],
     ) -> bytes:
         """The file of two rigs joined by a cable between a phy of each: expander and phy."""
+        (expander, phy), (far_expander, far_phy) = place, other
+        first, second = bytes_of(first, "first"), bytes_of(second, "second")
         room = (c_uint8 * (len(first) + len(second)))()
-        near, far = (first, len(first), *place), (second, len(second), *other)
-        call = self._calls.metzurgo_join
-        count = checked(call(setting.packed(), *near, *far, room, len(room)))
-        return bytes(room[:count])
+        near, far = (first, expander, phy), (second, far_expander, far_phy)
+        return bytes(room[: checked(self._calls.metzurgo_join(setting, *near, *far, room))])
 
     # Rig cards.
 
-    def card_of_file(self, setting: Setting, file: bytes) -> bytes:
+    def card_of_file(self, setting: Setting, file: Bytes) -> bytes:
         """The card of a domain file."""
         room = (c_uint8 * LONGEST_CARD)()
-        call = self._calls.metzurgo_card_of_file
-        count = checked(call(setting.packed(), file, len(file), room, len(room)))
-        return bytes(room[:count])
+        return bytes(room[: checked(self._calls.metzurgo_card_of_file(setting, file, room))])
 
-    def file_of_card(self, setting: Setting, card: bytes) -> bytes:
+    def file_of_card(self, setting: Setting, card: Bytes) -> bytes:
         """The domain file of a card: short frames, and zero what a card does not say."""
         room = (c_uint8 * LONGEST_CARD_FILE)()
-        call = self._calls.metzurgo_file_of_card
-        count = checked(call(setting.packed(), card, len(card), room, len(room)))
-        return bytes(room[:count])
+        return bytes(room[: checked(self._calls.metzurgo_file_of_card(setting, card, room))])
 
     # Exercises.
 
     def make(self, first: int, second: int, words: Sequence[int]) -> bytes:
         """The domain file of two expanders, with these addresses, whose one table is the words."""
-        lent = (c_uint64 * len(words))(*words)
         room = (c_uint8 * LONGEST_EXERCISE)()
-        call = self._calls.metzurgo_make
-        count = checked(call(first, second, lent, len(lent), room, len(room)))
-        return bytes(room[:count])
+        return bytes(room[: checked(self._calls.metzurgo_make(first, second, words, room))])
 
     # Calls on one frame.
 
@@ -333,46 +353,44 @@ class Library:
     ) -> bytes:
         """A CONFIGURE ROUTE INFORMATION request."""
         frame = (c_uint8 * FRAME)()
-        checked(
-            self._calls.metzurgo_write_route(
-                frame, FRAME, length, phy, index, address, int(disabled)
-            )
-        )
+        # The call refuses no index, so one that it cannot be given goes with a phy that it refuses.
+        if not ROUTE_INDEX.holds(index):
+            phy, index = NO_PHY, 0
+        checked(self._calls.metzurgo_write_route(frame, length, phy, index, address, disabled))
         return bytes(frame)
 
-    def read_route(self, frame: bytes) -> Route:
+    def read_route(self, frame: Bytes) -> Route:
         """The fields of a CONFIGURE ROUTE INFORMATION request."""
-        answer = checked(self._calls.metzurgo_read_route(frame, len(frame)))
-        return Route.of(answer, self._calls.metzurgo_read_route_address(frame, len(frame)))
+        answer = checked(self._calls.metzurgo_read_route(frame))
+        return Route.of(answer, self._calls.metzurgo_read_route_address(frame))
 
-    def read_general(self, frame: bytes) -> General:
-        return General.of(checked(self._calls.metzurgo_read_general_sas2(frame, len(frame))))
+    def read_general(self, frame: Bytes) -> General:
+        return General.of(checked(self._calls.metzurgo_read_general_sas2(frame)))
 
-    def read_discover(self, frame: bytes) -> Discovered:
+    def read_discover(self, frame: Bytes) -> Discovered:
         return Discovered.of(
-            checked(self._calls.metzurgo_read_discover(frame, len(frame))),
-            self._calls.metzurgo_discover_own(frame, len(frame)),
-            self._calls.metzurgo_discover_attached(frame, len(frame)),
+            checked(self._calls.metzurgo_read_discover(frame)),
+            self._calls.metzurgo_discover_own(frame),
+            self._calls.metzurgo_discover_attached(frame),
         )
 
-    # Calls on a shelf, which is words of shelf_words.
+    # Calls on a shelf.
 
-    def shelf_words(self) -> Any:
-        """The words of a shelf, all zero: one without phys."""
-        return (c_uint64 * (self._calls.metzurgo_shelf_size() // 8))()
+    def shelf_words(self) -> ShelfWords:
+        return ShelfWords(self._calls.metzurgo_shelf_size() // 8)
 
-    def shelf_fresh(self, shelf: Any, phys: int, indexes: int, kinds: bytes) -> None:
-        checked(self._calls.metzurgo_shelf_fresh(shelf, phys, indexes, kinds, len(kinds)))
+    def shelf_fresh(self, shelf: ShelfWords, phys: int, indexes: int, kinds: Bytes) -> None:
+        checked(self._calls.metzurgo_shelf_fresh(shelf, phys, indexes, kinds))
 
-    def shelf_obey(self, shelf: Any, frame: bytes) -> int:
+    def shelf_obey(self, shelf: ShelfWords, frame: Bytes) -> int:
         """The function result."""
-        return checked(self._calls.metzurgo_shelf_obey(shelf, frame, len(frame)))
+        return checked(self._calls.metzurgo_shelf_obey(shelf, frame))
 
-    def shelf_entry(self, shelf: Any, phy: int, index: int) -> int:
+    def shelf_entry(self, shelf: ShelfWords, phy: int, index: int) -> int:
         answer: int = self._calls.metzurgo_shelf_entry(shelf, phy, index)
         return answer
 
-    def shelf_disabled(self, shelf: Any, phy: int, index: int) -> int:
+    def shelf_disabled(self, shelf: ShelfWords, phy: int, index: int) -> int:
         answer: int = self._calls.metzurgo_shelf_disabled(shelf, phy, index)
         return answer
 

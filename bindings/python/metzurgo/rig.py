@@ -22,8 +22,9 @@ from typing import (
 )
 
 from . import rigtext
-from .answers import NO_PHY, WIDEST, Discovered, Moved, Needed, Refusal, Setting, Step, Traced
-from .library import Library, counted, library, words_of
+from .answers import WIDEST, Discovered, Moved, Needed, Refusal, Setting, Step, Traced
+from .arguments import Bytes, bytes_of, words_of
+from .library import Library, counted, library
 
 ATTRIBUTES = ("direct", "subtractive", "table")
 NOTHING, END_DEVICE, EDGE_EXPANDER, FANOUT_EXPANDER = 0, 1, 2, 3
@@ -250,8 +251,8 @@ class Rig:
     printed).
     """
 
-    def __init__(self, file: bytes, source: str = "rig", setting: Setting = WIDEST) -> None:
-        self.file, self.source, self.setting = file, source, setting
+    def __init__(self, file: Bytes, source: str = "rig", setting: Setting = WIDEST) -> None:
+        self.file, self.source, self.setting = bytes_of(file, "file"), source, setting
         self.text: Optional[rigtext.Rig] = None
         self.card: Optional[bytes] = None  # where the rig was loaded from a card
         self.warnings: List[str] = []
@@ -275,7 +276,7 @@ class Rig:
         return rig
 
     @classmethod
-    def of_card(cls, card: bytes, source: str = "card", setting: Setting = WIDEST) -> "Rig":
+    def of_card(cls, card: Bytes, source: str = "card", setting: Setting = WIDEST) -> "Rig":
         """The rig of a card; CardRefused where no file can be made of it.
 
         A card with more expanders or phys than the setting allows is a rig that is refused
@@ -286,7 +287,7 @@ class Rig:
         'E1'
         """
         rig = cls(b"", source, setting)
-        rig.card = card
+        rig.card = bytes_of(card, "card")
         try:
             rig.file = library().file_of_card(setting, card)
         except Refusal as refusal:
@@ -636,13 +637,13 @@ class Rig:
     def steps(self, tables: Tables, start: int, arrival: int, address: int) -> List[Passed]:
         """What each expander does that a request passes."""
         passed: List[Passed] = []
-        expander: Optional[int] = start
-        by: Optional[int] = arrival
-        while expander is not None and len(passed) < len(self.expanders):
-            at = NO_PHY if by is None else by
+        expander, by = start, arrival
+        while len(passed) < len(self.expanders):
             step = library().step(
-                self.setting, self.file, tables.words, tables.bits, expander, at, address
+                self.setting, self.file, tables.words, tables.bits, expander, by, address
             )
-            passed.append(Passed(expander, at, step))
+            passed.append(Passed(expander, by, step))
+            if step.next is None or step.arrival is None:
+                break
             expander, by = step.next, step.arrival
         return passed

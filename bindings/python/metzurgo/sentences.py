@@ -613,11 +613,11 @@ def tell_join(rig: Rig, expander: int, phy: int) -> Optional[Told]:
 def missing_phy(rig: Rig, expander: int, phy: int) -> Optional[Told]:
     """That there is no such expander, or no such phy of it."""
     count = len(rig.expanders)
-    if expander >= count:
+    if not 0 <= expander < count:
         most = f"expanders 0 to {count - 1}" if count > 1 else "expander 0 alone"
         return Told(f"there is no expander {expander}", f"the rig has {most}")
     count = len(rig.expanders[expander].phys)
-    if phy >= count:
+    if not 0 <= phy < count:
         most = f"phys 0 to {count - 1}" if count > 1 else "phy 0 alone"
         name = rig.expander_name(expander)
         return Told(f"expander {name} has no phy {phy}", f"it has {most}", rig.line_of(expander))

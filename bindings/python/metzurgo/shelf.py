@@ -14,7 +14,8 @@
 
 from typing import List, Optional, Sequence
 
-from .library import library
+from .arguments import Bytes
+from .library import KIND, library
 from .rig import Expander, Phy, Table
 
 VACANT, TABLE, OTHER = 0, 1, 2
@@ -43,17 +44,15 @@ class Shelf:
         self.kinds, self.indexes = list(kinds), indexes
         self._calls = library()
         self._words = self._calls.shelf_words()
-        # A number that the call cannot be given is out of range, as the largest is that it can.
-        told = bytes(kind if 0 <= kind < 255 else 255 for kind in kinds)
-        phys = min(len(told), 255)
-        self._calls.shelf_fresh(self._words, phys, indexes if 0 <= indexes < 65535 else 65535, told)
+        told = bytes(map(KIND.number, kinds))
+        self._calls.shelf_fresh(self._words, len(told), indexes, told)
 
     @classmethod
     def of(cls, expander: Expander) -> "Shelf":
         """A shelf with the phys and R of an expander of a rig."""
         return cls([kind_of(phy) for phy in expander.phys], expander.indexes)
 
-    def obey(self, frame: bytes) -> int:
+    def obey(self, frame: Bytes) -> int:
         """The function result of a frame of 40 bytes; Refusal where it cannot be read.
 
         Nothing changes unless the result is 00h.
@@ -68,8 +67,6 @@ class Shelf:
 
     def disabled(self, phy: int, index: int) -> Optional[bool]:
         """Whether an entry is disabled; None where there is no such entry."""
-        if not (0 <= phy < 256 and 0 <= index < 65536):
-            return None
         answer = self._calls.shelf_disabled(self._words, phy, index)
         return None if answer == 2 else answer == 1
 
