@@ -22,7 +22,39 @@ mkdir -p "$top/bin" "$top/share/man"
 
 "$root/tools/make_library.sh" "$top"
 cp "$routes" "$top/bin/"
-cp -r "$root/samples" "$root/docs" "$root/README.md" "$root/CHANGES.md" "$top/"
+cp -r "$root/samples" "$root/docs" "$root/CHANGES.md" "$top/"
+# The README is that of the checkout, but for its use, which needs the toolchain there.
+{
+    sed '/^## Use$/,$d' "$root/README.md"
+    cat <<'EOF'
+## Use
+
+`INSTALL` says what the command needs, and how it is installed. Rigs are written as texts
+([docs/RIG-TEXT.md](docs/RIG-TEXT.md)). `samples/` has some that work, and at least one for every refusal
+number. The command `metzurgo` ([docs/COMMAND.md](docs/COMMAND.md)) takes such texts, and asks the proved
+library for every answer about a rig:
+
+    $ bin/metzurgo trace samples/pair.rig top B1
+    arrived at B1 by phy 1 of bottom, 2 expanders passed
+    top     (iii) entry 0 of phy 0 has the address: on by phy 0 to phy 0 of bottom
+    bottom  (ii) phy 1 has the address attached: arrived
+    $ bin/metzurgo draw samples/comb.rig --trace B2 A0 -o comb.svg
+
+![The comb rig, and a request from B2 to A0](docs/comb.svg)
+
+The program `routes` lists the routing tables of a domain file, a line for each entry with expander, phy, index
+and entry, then the totals:
+
+    $ bin/metzurgo build samples/pair.rig | bin/routes
+    0 0 0 50000000000000b1
+    0 0 1 0000000000000000
+    0 0 2 0000000000000000
+    0 0 3 0000000000000000
+    tables 1 entries 4
+
+EOF
+    sed -n '/^## Read$/,$p' "$root/README.md"
+} >"$top/README.md"
 # The package finds the library beside its own folder.
 cp -r "$root/bindings/python/metzurgo" "$top/lib/"
 find "$top/lib/metzurgo" -name __pycache__ -prune -exec rm -rf {} +
@@ -65,6 +97,8 @@ chmod -R u=rwX,go=rX "$top"
 chmod 755 "$top/bin/metzurgo" "$top/bin/routes"
 # Python takes a compiled module for that of a source with the same time.
 time=${SOURCE_DATE_EPOCH:-$(git -C "$root" log -1 --format=%ct 2>/dev/null || date +%s)}
-tar -C "$work" --sort=name --owner=0 --group=0 --numeric-owner --mtime="@$time" -cf - "$name" |
-    gzip -9n >"$out/$name.tar.gz"
+tar -C "$work" --sort=name --owner=0 --group=0 --numeric-owner --mtime="@$time" \
+    -cf "$work/$name.tar" "$name"
+gzip -9n "$work/$name.tar"
+mv "$work/$name.tar.gz" "$out/"
 echo "$out/$name.tar.gz"

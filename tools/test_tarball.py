@@ -369,11 +369,21 @@ class Check:
         same("their ends", written["answers"], [end_word(end) for end in ends])
         self.requests += len(requests)
         lines = self.unpacked.run("metzurgo", "trace", "--all", self.rig)
-        same("the status of all requests", rows.returncode, lines.returncode)
+        status = int(any(
+            int(word, 16) >> 24 and to != self.asking(*start)
+            for word, (start, to) in zip(written["answers"], itertools.product(got, addresses))
+        ))
+        for done in (rows, lines):
+            same("the status of all requests", status, done.returncode)
         cells = [line.split()[-len(addresses):] for line in lines.stdout.decode().splitlines()[1:-1]]
         signs = {"arrived": "{count}", "NO DESTINATION": "-", "BAD DESTINATION": "x"}
         same("the lines of all requests", [signs[end["outcome"]].format(**end) for end in ends],
              [cell for line in cells for cell in line])
+
+    def asking(self, expander, arrival):
+        """The address of the drive that a request comes from, or None where it is an expander."""
+        _, phys = expanders(self.bytes)[expander]
+        return None if arrival == 255 else phys[arrival][24:32].hex()
 
     def devices(self):
         """The starts of requests and the addresses of the file, as the harness numbers them."""
@@ -529,11 +539,38 @@ def check_files(unpacked):
     version = ".".join(re.findall(r"define METZURGO_VERSION_M?[A-Z]+ ([0-9]+)", header))
     same("the version", f"metzurgo {version}\n", unpacked.answer("version", "--version").decode())
     for name in SUBCOMMANDS:
-        if b"example:" not in unpacked.answer(name, name, "--help"):
+        told = unpacked.answer(name, name, "--help").decode()
+        check_names(unpacked, f"the help of {name}", told)
+        if "example:" not in told:
             raise Wrong(f"the help of {name} has no example")
         page = (unpacked.top / f"share/man/man1/metzurgo-{name}.1").read_text(encoding="utf-8")
         if not page.startswith(".TH"):
             raise Wrong(f"metzurgo-{name}.1 is no man page")
+
+
+def check_names(unpacked, what, text):
+    """A text names no file of the checkout that is not in the tarball, nor the toolchain."""
+    for path in re.findall(r"(?<![\w./-])[\w.][\w.-]*/[\w./-]*", text):
+        if (ROOT / path.split("/")[0]).exists() and not (unpacked.top / path.rstrip(".")).exists():
+            raise Wrong(f"{what} names {path}, which is not there")
+    if re.search(r"^ *rt |`rt\b", text, re.M):
+        raise Wrong(f"{what} names the toolchain")
+
+
+def check_pages(unpacked):
+    """README.md and INSTALL name what is there, and the examples of README.md are true."""
+    for name in ("README.md", "INSTALL"):
+        check_names(unpacked, name, (unpacked.top / name).read_text(encoding="utf-8"))
+    page = (unpacked.top / "README.md").read_text(encoding="utf-8")
+    examples = re.findall(r"^    \$ bin/(.*)\n((?:    [^$\n].*\n)*)", page, re.M)
+    for command, output in examples:
+        said = b""
+        for part in command.split(" | bin/"):
+            done = unpacked.run(*part.split(), stdin=said)
+            same(f"the status of {part}", 0, done.returncode)
+            said = done.stdout
+        same(f"what {command} prints", re.sub("^    ", "", output, flags=re.M), said.decode())
+    same("the examples of README.md", 3, len(examples))
 
 
 def check_folder_as_input(unpacked):
@@ -577,6 +614,7 @@ def main():
         try:
             unpacked = Unpacked(options.TARBALL, folder)
             check_files(unpacked)
+            check_pages(unpacked)
             check_folder_as_input(unpacked)
         except Wrong as error:
             print(f"{options.TARBALL}: {error}")

@@ -547,7 +547,7 @@ class Help(FolderTest):
 
     def checkout(self):
         """A folder with what examples read."""
-        for name in ("samples", "crates", "bindings"):
+        for name in ("samples", "bindings"):
             link = Path(self.folder) / name
             if not link.exists():
                 link.symlink_to(ROOT / name)

@@ -290,5 +290,23 @@ class Installed(FolderTest):
         self.assertTrue((target / "metzurgo/py.typed").exists())
 
 
+class Tarball(FolderTest):
+    @unittest.skipUnless((ROOT / "target/bin/routes").exists(), "there is no routes")
+    def test_tar_fails(self):
+        """Then there is no tarball, and its path is not printed."""
+        tar = self.path("tar", "#!/bin/sh\nexit 2\n")
+        tar.chmod(0o755)
+        out = self.folder / "out"
+        out.mkdir()
+        ran = subprocess.run(
+            [str(ROOT / "tools/make_tarball.sh"), str(out)],
+            env={**os.environ, "PATH": f"{self.folder}:{os.environ['PATH']}"},
+            capture_output=True,
+            text=True,
+            check=False,
+        )
+        self.assertEqual((2, "", []), (ran.returncode, ran.stdout, os.listdir(out)), ran.stderr)
+
+
 if __name__ == "__main__":
     unittest.main()

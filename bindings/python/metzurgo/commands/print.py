@@ -9,7 +9,8 @@ from ..answers import WIDEST
 from ..rig import Expander, Rig, address_text
 
 EXAMPLE = """\
-  $ metzurgo print crates/routes/stdin
+  $ metzurgo build samples/pair.rig pair.bin
+  $ metzurgo print pair.bin
   drive D0 50000000000000a1
   drive D1 50000000000000b1
 
