@@ -29,6 +29,7 @@ from .library import Library, counted, library
 ATTRIBUTES = ("direct", "subtractive", "table")
 NOTHING, END_DEVICE, EDGE_EXPANDER, FANOUT_EXPANDER = 0, 1, 2, 3
 COUNTS = 3  # the refusal of more expanders or phys than the setting allows
+START = 15  # the refusal of a place where no request can start
 LENT = (16, 18)  # the refusals of too few words and disable bits
 EVENT = 20  # the refusal of a phy that no drive can be plugged into or pulled from
 JOIN = 21  # the refusal of a phy that cannot join two rigs
@@ -630,9 +631,13 @@ class Rig:
 
     def trace(self, tables: Tables, start: int, arrival: int, address: int) -> Traced:
         """Follows a request over tables."""
-        return library().trace(
-            self.setting, self.file, tables.words, tables.bits, start, arrival, address
-        )
+        lent = (self.setting, self.file, tables.words, tables.bits)
+        try:
+            return library().trace(*lent, start, arrival, address)
+        except Refusal as refusal:
+            if refusal.number == START:
+                refusal.named = (start, arrival)
+            raise
 
     def steps(self, tables: Tables, start: int, arrival: int, address: int) -> List[Passed]:
         """What each expander does that a request passes."""

@@ -116,6 +116,8 @@ def tell(rig: Rig, refusal: Refusal) -> Told:
     teller = TELLERS.get(refusal.number)
     if rig.card is not None and not rig.file:
         teller = CARD_TELLERS.get(refusal.number, teller)
+    if refusal.named:
+        teller = NAMED_TELLERS.get(refusal.number, teller)
     place = refusal.named or (refusal.expander, refusal.phy)
     told = teller(rig, *place) if teller else None
     unknown = Told(f"the call was refused with {refusal.number}", "see docs/FILE-FORMAT.md")
@@ -570,6 +572,21 @@ def least_indexes(rig: Rig, expander: int) -> Optional[int]:
     return low
 
 
+def tell_start(rig: Rig, expander: int, phy: int) -> Optional[Told]:
+    """Why no request can start at a place."""
+    change = "a request may start only at an expander or at a phy with an end device"
+    missing = missing_phy(rig, expander, phy)
+    if missing:
+        return missing._replace(change=change)
+    found = rig.expanders[expander].phys[phy]
+    name = rig.phy_name(expander, phy)
+    if found.vacant:
+        return Told(f"{name} is vacant", change, found.line)
+    if found.at_expander:
+        return Told(f"{name} leads to the expander {rig.label(found.attached)}", change, found.line)
+    return Told(f"{name} is empty", change, found.line)
+
+
 def tell_event(rig: Rig, expander: int, phy: int) -> Optional[Told]:
     """Why no drive can be plugged into a phy or pulled from it."""
     missing = missing_phy(rig, expander, phy)
@@ -701,6 +718,9 @@ CARD_TELLERS: Dict[int, Callable[[Rig, int, int], Optional[Told]]] = {
     6: tell_card_codes,
     19: tell_card,
 }
+
+# Of refusals whose place is that of the call alone.
+NAMED_TELLERS: Dict[int, Callable[[Rig, int, int], Optional[Told]]] = {15: tell_start}
 
 TELLERS: Dict[int, Callable[[Rig, int, int], Optional[Told]]] = {
     1: tell_length,

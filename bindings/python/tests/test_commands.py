@@ -261,10 +261,14 @@ class Trace(unittest.TestCase):
         self.assertEqual(("BAD DESTINATION", None), (found["outcome"], found["device"]))
 
     def test_refused(self):
-        for words, number in [(("top.0", "B1"), 15), (("top", "0" * 16), 17)]:
+        for words, told in [
+            (("top.0", "B1"), r"line [0-9]+: refused 15 0 0: Phy 0 of top leads to the expander"),
+            (("bottom.2", "B1"), r"line [0-9]+: refused 15 0 0: Phy 2 of bottom is empty: "),
+            (("top", "0" * 16), r"refused 17 0 0: "),
+        ]:
             ran = run("trace", PAIR_RIG, *words)
             self.assertEqual((1, ""), (ran.status, ran.out))
-            self.assertIn(f"{PAIR_RIG}: refused {number} 0 0: ", ran.err)
+            self.assertRegex(ran.err, f"^{re.escape(str(PAIR_RIG))}: {told}")
 
     def test_wrong_usage(self):
         for words in [

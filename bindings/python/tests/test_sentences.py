@@ -172,6 +172,25 @@ class General(unittest.TestCase):
                 self.assertIn(told, ran.out)
                 self.assertTrue(ran.out.endswith(f"\nrefused {refused}\n"), ran.out)
 
+    def test_where_no_request_starts(self):
+        """The sentence of a trace names the place that was asked for; others of 15 name none."""
+        text = (SAMPLES / "pair.rig").read_text(encoding="utf-8")
+        rig = Rig.of_text(text.replace("phy 2 direct empty", "phy 2 direct empty\n  phy 3 vacant"))
+        tables = rig.tables()
+        change = "a request may start only at an expander or at a phy with an end device."
+        for place, told in [
+            ((1, 2), "Phy 2 of bottom is empty"),
+            ((1, 3), "Phy 3 of bottom is vacant"),
+            ((0, 0), "Phy 0 of top leads to the expander bottom"),
+            ((1, 4), "Expander bottom has no phy 4"),
+            ((2, 255), "There is no expander 2"),
+        ]:
+            with self.subTest(place=place), self.assertRaises(Refusal) as seen:
+                rig.trace(tables, *place, rig.names["B1"])
+            self.assertEqual("refused 15 0 0", str(seen.exception))
+            self.assertEqual(f"{told}: {change}", sentence(rig, seen.exception))
+        self.assertIn("loading frame", sentence(rig, Refusal(15, 0, 0)))
+
     def test_an_unknown_number(self):
         self.assertIn("refused with 99", sentence(Rig(b""), Refusal(99, 0, 0)))
 
