@@ -48,20 +48,23 @@ def make_parser() -> shared.Parser:
 
 def main(arguments: Optional[List[str]] = None) -> int:
     """Runs a subcommand and returns the exit status."""
-    args = make_parser().parse_args(arguments)
-    if sys.stdout is None:
-        print("standard output: it is closed", file=sys.stderr)
-        return shared.UNREADABLE
     try:
-        status: int = args.run(args)
+        args = make_parser().parse_args(arguments)
+        if sys.stdout is None:
+            print("standard output: it is closed", file=sys.stderr)
+            return shared.UNREADABLE
+        return run(args)
+    except KeyboardInterrupt:
+        drop_output()
+        return shared.INTERRUPTED
+
+
+def run(args: argparse.Namespace) -> int:
+    """The exit status of a subcommand; its errors go to standard error."""
+    try:
+        status = answer(args)
         sys.stdout.flush()
         return status
-    except shared.Refused as error:
-        if getattr(args, "json", False):
-            shared.print_json(shared.refusal_json(error.rig, error.refusal))
-        else:
-            print(error, file=sys.stderr)
-        return error.status
     except shared.CommandError as error:
         print(f"metzurgo {args.command}: {error}", file=sys.stderr)
         return error.status
@@ -69,14 +72,33 @@ def main(arguments: Optional[List[str]] = None) -> int:
         print(error, file=sys.stderr)
     except LibraryMissing as error:
         print(f"metzurgo: {error}", file=sys.stderr)
-    except BrokenPipeError:
-        # Nobody reads on. Standard output is closed here, so that Python does not write again.
-        os.dup2(os.open(os.devnull, os.O_WRONLY), sys.stdout.fileno())
+    except BrokenPipeError:  # nobody reads on
+        drop_output()
     except MemoryError:
         print(f"metzurgo {args.command}: there is too little memory", file=sys.stderr)
     except OSError as error:
-        print(f"{error.filename or 'standard output'}: {error.strerror}", file=sys.stderr)
+        name = "standard output" if error.filename is None else error.filename or '""'
+        print(f"{name}: {error.strerror}", file=sys.stderr)
     return shared.UNREADABLE
+
+
+def answer(args: argparse.Namespace) -> int:
+    """Runs a subcommand. A refusal is an answer, too, and is told here."""
+    try:
+        status: int = args.run(args)
+        return status
+    except shared.Refused as error:
+        if getattr(args, "json", False):
+            shared.print_json(shared.refusal_json(error.rig, error.refusal))
+        else:
+            print(error, file=sys.stderr)
+        return error.status
+
+
+def drop_output() -> None:
+    """Closes standard output, so that Python does not write what is left when it ends."""
+    if sys.stdout is not None:
+        os.dup2(os.open(os.devnull, os.O_WRONLY), sys.stdout.fileno())
 
 
 if __name__ == "__main__":

@@ -5,19 +5,21 @@ import json
 import sys
 import textwrap
 import time
-from typing import Any, Dict, Iterable, Iterator, NoReturn, Optional, TypeVar
+from typing import Any, Dict, Iterable, Iterator, NoReturn, Optional, Tuple, TypeVar
 
 from .answers import WIDEST, Refusal, Setting
 from .rig import FORMS, CardRefused, EventRefused, JoinRefused, Rig, Tables
 
 ACCEPTED, REFUSED, USAGE, UNREADABLE = 0, 1, 2, 3
+INTERRUPTED = 130  # 128 and the number of the signal
 
 STATUS = """\
 exit status:
-  0  accepted, or arrived
-  1  refused, or not arrived
-  2  wrong usage
-  3  a file that cannot be read or written"""
+  0    accepted, or arrived
+  1    refused, or not arrived
+  2    wrong usage
+  3    a file that cannot be read or written
+  130  interrupted (Ctrl-C)"""
 
 
 Item = TypeVar("Item")
@@ -123,6 +125,20 @@ def load(args: argparse.Namespace, quiet: bool = False) -> Rig:
     for warning in rig.warnings if not quiet else []:
         print(warning, file=sys.stderr)
     return rig
+
+
+def read_once(*inputs: Tuple[str, Optional[str]]) -> None:
+    """Standard input, which a hyphen names, can be one input of a command, and not two.
+
+    >>> read_once(("A", "-"), ("B", "pair.rig"))
+    >>> read_once(("A", "-"), ("B", "-"))
+    Traceback (most recent call last):
+    ...
+    metzurgo.shared.CommandError: standard input cannot be both A and B
+    """
+    names = [name for name, path in inputs if path == "-"]
+    if len(names) > 1:
+        raise CommandError(f"standard input cannot be both {names[0]} and {names[1]}")
 
 
 def print_json(value: Dict[str, Any]) -> None:

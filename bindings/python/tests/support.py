@@ -2,6 +2,8 @@
 
 import contextlib
 import io
+import os
+import subprocess
 import sys
 import tempfile
 import unittest
@@ -55,6 +57,18 @@ class FolderTest(unittest.TestCase):
         elif content is not None:
             path.write_bytes(content)
         return path
+
+    def command(self, *words: Any, **options: Any) -> "subprocess.Popen[str]":
+        """Starts the command metzurgo in a process of its own."""
+        environment = {**os.environ, "PYTHONPATH": str(ROOT / "bindings/python")}
+        environment.update(options.pop("env", {}))
+        return subprocess.Popen(
+            [sys.executable, "-m", "metzurgo", *map(str, words)],
+            env=environment,
+            stderr=subprocess.PIPE,
+            text=True,
+            **options,
+        )
 
 
 def samples() -> List[Path]:

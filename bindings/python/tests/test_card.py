@@ -1,6 +1,7 @@
 """Tests of cards: the subcommand card, cards as rigs of every subcommand, refused cards."""
 
 import base64
+import contextlib
 import json
 import sys
 import unittest
@@ -170,6 +171,24 @@ class Read(FolderTest):
             self.assertEqual(card, card_bytes(card))
             count += 1
         self.assertGreater(count, 30)
+
+
+class Sizes(unittest.TestCase):
+    def test_bytes(self):
+        """The bound of docs/COMMAND.md, which the smallest rig with a drive reaches."""
+        text = "drive A1 50000000000000a1\nexpander only 5000000000000010\nphy 0 direct to A1\n"
+        smallest = Rig.of_text(text)
+        self.assertEqual((90, 23), (len(smallest.file), len(smallest.to_card())))
+        for path in samples():
+            rig = Rig.load(path)
+            with contextlib.suppress(Refusal):
+                self.assertLessEqual(90 * len(rig.to_card()), 23 * len(rig.file), path.stem)
+
+    def test_a_file_or_standard_output(self):
+        """The JSON object has the card itself, and standard output is not for both."""
+        ran = run("card", "--json", PAIR_RIG, "-o", "-")
+        self.assertEqual((2, "", 1), (ran.status, ran.out, ran.err.count("\n")))
+        self.assertEqual(64, json.loads(run("card", "--json", PAIR_RIG).out)["bytes"])
 
 
 def judged(rig):

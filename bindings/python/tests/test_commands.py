@@ -1,13 +1,18 @@
 """Tests of the subcommands: what they print, and with which exit status they end."""
 
 import ctypes
+import fcntl
 import json
 import os
 import pty
 import re
+import signal
 import subprocess
 import sys
+import termios
+import time
 import unittest
+from array import array
 from pathlib import Path
 from unittest import mock
 
@@ -21,6 +26,7 @@ from metzurgo.rig import Rig
 from .support import ROOT, SAMPLES, FolderTest, run
 
 PAIR_RIG = SAMPLES / "pair.rig"
+RING = SAMPLES / "refused-11-ring.rig"
 A1, B1 = "50000000000000a1", "50000000000000b1"
 FRAME = f"40900009000000000000000000000000{B1}00000000000000000000000000000000"
 
@@ -375,22 +381,14 @@ class Status(FolderTest):
             self.assertEqual((2, ""), (ran.status, ran.out))
             self.assertEqual(1, ran.err.count("\n"), ran.err)
 
-    def command(self, *words, **options):
-        environment = {**os.environ, "PYTHONPATH": str(ROOT / "bindings/python")}
-        environment.update(options.pop("env", {}))
-        return subprocess.Popen(
-            [sys.executable, "-m", "metzurgo", *map(str, words)],
-            env=environment,
-            stderr=subprocess.PIPE,
-            text=True,
-            **options,
-        )
-
     def test_output_that_cannot_be_written(self):
-        with open("/dev/full", "w", encoding="utf-8") as full:
-            with self.command("judge", PAIR_RIG, stdout=full) as ran:
-                self.assertEqual("standard output: No space left on device\n", ran.stderr.read())
-            self.assertEqual(3, ran.returncode)
+        """An answer, or a refusal as JSON."""
+        for words in (["judge", PAIR_RIG], ["tables", "--json", RING]):
+            with open("/dev/full", "w", encoding="utf-8") as full:
+                with self.command(*words, stdout=full) as ran:
+                    told = ran.stderr.read()
+                self.assertEqual("standard output: No space left on device\n", told)
+                self.assertEqual(3, ran.returncode)
 
     def test_a_pipe_that_nobody_reads(self):
         text = "expander only 5000000000000010 R 9000 configurable\nphy 0-19 table empty\n"
@@ -400,6 +398,39 @@ class Status(FolderTest):
             ran.stdout.close()
             self.assertEqual("", ran.stderr.read())
         self.assertEqual(3, ran.returncode)
+
+    def test_a_refusal_that_nobody_reads(self):
+        reader, writer = os.pipe()
+        os.close(reader)
+        with self.command("tables", "--json", RING, stdout=writer) as ran:
+            self.assertEqual("", ran.stderr.read())
+        os.close(writer)
+        self.assertEqual(3, ran.returncode)
+
+    def test_an_interrupt(self):
+        """It ends a command that waits for input, without a word."""
+        pipes = {"stdin": subprocess.PIPE, "stdout": subprocess.PIPE}
+        for words in (["judge", "-"], ["trace", "--all", "-"], ["collect", "-"]):
+            with self.subTest(words=words), self.command(*words, **pipes) as ran:
+                ran.stdin.write("drive A1\n")
+                ran.stdin.flush()
+                await_reading(ran.stdin)
+                ran.send_signal(signal.SIGINT)
+                self.assertEqual(("", ""), (ran.stdout.read(), ran.stderr.read()))
+                self.assertEqual(130, ran.wait())
+
+    def test_standard_input_twice(self):
+        for words, names in [
+            (("trace", "-", "top", "B1", "--tables", "-"), "RIG and --tables"),
+            (("trace", "--all", "-", "--tables", "-"), "RIG and --tables"),
+            (("tables", "-", "--tables", "-"), "RIG and --tables"),
+            (("join", "-", "0.0", "-", "0.0"), "A and B"),
+            (("shelf", "-", "top"), "RIG and the requests"),
+            (("collect", "-", "other", "-"), "RESPONSES 1 and RESPONSES 3"),
+        ]:
+            ran = run(*words, stdin=PAIR.encode())
+            told = f"metzurgo {words[0]}: standard input cannot be both {names}\n"
+            self.assertEqual((2, "", told), ran[:3])
 
     def test_closed_descriptors(self):
         shell = f'"{sys.executable}" -m metzurgo judge'
@@ -440,6 +471,16 @@ class Status(FolderTest):
     def test_version(self):
         ran = run("--version")
         self.assertEqual((0, f"metzurgo {metzurgo.__version__}\n"), (ran.status, ran.out))
+
+
+def await_reading(pipe):
+    """Waits until a pipe has been read, ten seconds at most."""
+    left = array("i", [1])
+    for _ in range(1000):
+        fcntl.ioctl(pipe.fileno(), termios.FIONREAD, left)
+        if left[0] == 0:
+            return
+        time.sleep(0.01)
 
 
 class Written(FolderTest):

@@ -417,7 +417,7 @@ class Command(FolderTest):
         for name in ("access", "chmod"):
             fails = PermissionError(13, "Permission denied", "other")
             patch = {"access": {"return_value": False}, "chmod": {"side_effect": fails}}[name]
-            with mock.patch(f"metzurgo.commands.plug.os.{name}", **patch):
+            with mock.patch(f"metzurgo.writing.os.{name}", **patch):
                 ran = run("pull", self.rig, "E2.1", "--tables", self.tables)
             self.assertEqual((3, "", f"{self.tables}: Permission denied\n"), ran[:3])
         self.assertEqual(before, (self.rig.read_bytes(), self.tables.read_text()))

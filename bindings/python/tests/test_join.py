@@ -64,6 +64,7 @@ class Joined(FolderTest):
             f"the expanders of {RIGHT} are E6 to E11\n"
         )
         self.assertEqual((0, told, "", bench()), (*ran[:3], out.read_bytes()))
+        self.assertEqual(bench(), run("join", *ENDS, "-o", "-").raw)
 
     def test_every_form(self):
         """Texts, domain files and cards, and standard input as one of them."""

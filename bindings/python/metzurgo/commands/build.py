@@ -1,13 +1,13 @@
 """metzurgo build: the domain file of a text or a card."""
 
 import argparse
-import sys
-from typing import Any
+from typing import Any, Optional
 
 from .. import shared
 from ..answers import WIDEST
 from ..rig import RigError
 from ..rigtext import FORM
+from ..writing import write
 
 EXAMPLE = """\
   $ metzurgo build samples/pair.rig pair.bin
@@ -54,7 +54,7 @@ def add_json(parser: shared.Parser) -> None:
     )
 
 
-def named(path: str, as_json: bool) -> None:
+def named(path: Optional[str], as_json: bool) -> None:
     """Standard output takes the file or the JSON object, not both."""
     if as_json and path == "-":
         raise shared.CommandError("--json needs a file to write, so that standard output is free")
@@ -62,12 +62,3 @@ def named(path: str, as_json: bool) -> None:
 
 def report(path: str, file: bytes) -> None:
     shared.print_json({"file": path, "bytes": len(file)})
-
-
-def write(path: str, content: bytes) -> None:
-    """Writes a file; a hyphen is standard output."""
-    if path == "-":
-        sys.stdout.buffer.write(content)
-        return
-    with open(path, "wb") as target:
-        target.write(content)

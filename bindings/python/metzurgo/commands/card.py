@@ -6,7 +6,8 @@ import sys
 from typing import Any, Optional
 
 from .. import shared
-from .build import write
+from ..writing import write
+from .build import named
 
 EXAMPLE = """\
   $ metzurgo card samples/pair.rig --base64
@@ -24,8 +25,8 @@ def add_parser(subparsers: Any) -> None:
         subparsers,
         __name__,
         "make the card of a rig, to be sent in a message",
-        "Makes the card of a rig: the rig as a row of bits, a fifth or less of its domain file."
-        " It is written as bytes, or as text with --base64 or --hex; to a terminal as"
+        "Makes the card of a rig: the rig as a row of bits, in about a fifth of the bytes of its"
+        " domain file. It is written as bytes, or as text with --base64 or --hex; to a terminal as"
         " hexadecimal digits. Every subcommand reads a card as a rig; its text is read with"
         " --as card. Names are not on it.",
         EXAMPLE,
@@ -41,10 +42,11 @@ def add_parser(subparsers: Any) -> None:
 
 
 def run(args: argparse.Namespace) -> int:
+    named(args.output, args.json)
     rig = shared.load(args)
     card = shared.answered(rig, rig.to_card)
-    if args.output or not args.json:
-        write(args.output or "-", written(card, args))
+    if args.output is not None or not args.json:
+        write("-" if args.output is None else args.output, written(card, args))
     if args.json:
         report(args.output, card)
     return shared.ACCEPTED
@@ -54,7 +56,7 @@ def written(card: bytes, args: argparse.Namespace) -> bytes:
     """A card as it is written: text where that is asked for or a terminal shows it."""
     if args.base64:
         return base64.encodebytes(card)
-    if args.hex or (not args.output and sys.stdout.isatty()):
+    if args.hex or (args.output is None and sys.stdout.isatty()):
         return card.hex().encode("ascii") + b"\n"
     return card
 

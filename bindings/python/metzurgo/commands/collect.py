@@ -18,7 +18,8 @@ from ..responses import (
     split,
 )
 from ..rig import read_bytes
-from .build import add_json, named, report, write
+from ..writing import write
+from .build import add_json, named, report
 
 EXAMPLE = """\
   $ for e in /dev/bsg/expander-*; do
@@ -60,6 +61,7 @@ def add_parser(subparsers: Any) -> None:
 
 def run(args: argparse.Namespace) -> int:
     named(args.output, args.json)
+    shared.read_once(*((f"RESPONSES {at}", path) for at, path in enumerate(args.RESPONSES, 1)))
     try:
         expanders = groups(args.RESPONSES)
         if len(expanders) > 255:

@@ -1,7 +1,6 @@
 """metzurgo draw: a picture of a rig."""
 
 import argparse
-import sys
 from typing import Any, Optional
 
 from .. import shared
@@ -9,6 +8,7 @@ from ..drawing import draw
 from ..layout import Request
 from ..requests import address_of, start_of
 from ..rig import Rig
+from ..writing import write
 
 EXAMPLE = """\
   $ metzurgo draw samples/comb.rig --trace B2 A0 -o comb.svg
@@ -43,12 +43,7 @@ def run(args: argparse.Namespace) -> int:
     rig = shared.load(args)
     shared.answered(rig, rig.judge)
     request = traced(rig, args) if args.trace else None
-    picture = draw(rig, request)
-    if args.output == "-":
-        sys.stdout.write(picture)
-    else:
-        with open(args.output, "w", encoding="utf-8") as target:
-            target.write(picture)
+    write(args.output, draw(rig, request).encode("utf-8"))
     arrived = request is None or request.traced.arrived
     return shared.ACCEPTED if arrived else shared.REFUSED
 

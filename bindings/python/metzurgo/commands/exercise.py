@@ -7,7 +7,8 @@ from .. import shared
 from ..answers import Refusal
 from ..library import library
 from ..rig import address_text, parse_address
-from .build import add_json, named, report, write
+from ..writing import write
+from .build import add_json, named, report
 
 MOST_INDEXES = 65535  # R has 16 bits
 MOST_DRIVES = 127  # the second expander has 128 phys, of which one leads to the first

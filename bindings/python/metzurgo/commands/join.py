@@ -7,7 +7,8 @@ from typing import Any, Dict, Tuple
 from .. import shared
 from ..rig import Rig
 from ..sentences import plural
-from .build import named, write
+from ..writing import write
+from .build import named
 
 EXAMPLE = """\
   $ metzurgo join samples/bench-left.rig row0.3 samples/bench-right.rig row0.3 -o bench.bin
@@ -51,16 +52,16 @@ def add_parser(subparsers: Any) -> None:
 
 
 def run(args: argparse.Namespace) -> int:
-    named(args.output or "-", args.json)
-    if args.A == args.B == "-":
-        raise shared.CommandError("standard input cannot be both rigs")
+    out: str = "-" if args.output is None else args.output
+    named(out, args.json)
+    shared.read_once(("A", args.A), ("B", args.B))
     first, place = part(args, args.A, args.A_PHY)
     second, far = part(args, args.B, args.B_PHY)
     bench: Rig = shared.answered(first, first.join, place, second, far)
-    write(args.output or "-", bench.file)
+    write(out, bench.file)
     if args.json:
-        shared.print_json(bench_json(args.output, bench, first))
-    elif args.output:
+        shared.print_json(bench_json(out, bench, first))
+    elif out != "-":
         for line in said(bench, first, second):
             print(line)
     return shared.ACCEPTED

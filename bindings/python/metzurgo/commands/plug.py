@@ -1,16 +1,13 @@
 """metzurgo plug: a drive plugged into a phy, with the tables that this touches."""
 
 import argparse
-import errno
-import os
-import sys
-import tempfile
 from typing import Any, Dict, List, NamedTuple, Optional, Tuple
 
 from .. import shared, stored
 from ..requests import address_of
 from ..rig import Event, Rig, Table, Tables, address_text
 from ..sentences import phys_text, plural
+from ..writing import are_same, write_all
 from .build import named
 from .join import place_of
 
@@ -82,6 +79,7 @@ def happen(args: argparse.Namespace, drive: Optional[str]) -> int:
     """One event; drive is None for a pull."""
     rig = shared.load(args)
     out = output_of(args, rig)
+    differ(out, args.tables)
     tables = shared.tables_of(rig, args.tables)
     place = place_of(rig, args.PHY)
     before = entries_of(tables)
@@ -94,7 +92,7 @@ def happen(args: argparse.Namespace, drive: Optional[str]) -> int:
         event = shared.answered(rig, rig.plug, tables, place, address)
     if not args.dry_run:
         contents = {args.tables: "".join(stored.lines(tables, rig.needed())).encode("ascii")}
-        write_all({**(contents if args.tables else {}), out: rig.file})
+        write_all({**(contents if args.tables is not None else {}), out: rig.file})
     if args.json:
         shared.print_json(event_json(rig, event, before, None if args.dry_run else out))
     elif args.dry_run or out != "-":
@@ -107,8 +105,8 @@ def output_of(args: argparse.Namespace, rig: Rig) -> str:
     """Where the edited file goes: -o, or RIG itself where it is a domain file."""
     if args.tables == "-":
         raise shared.CommandError("--tables is edited in place, and cannot be standard input")
-    if args.dry_run or args.output:
-        out: str = args.output or "-"
+    if args.dry_run or args.output is not None:
+        out: str = "-" if args.output is None else args.output
         if not args.dry_run:
             named(out, args.json)
         return out
@@ -119,57 +117,12 @@ def output_of(args: argparse.Namespace, rig: Rig) -> str:
     return path
 
 
-def write_all(contents: Dict[str, bytes]) -> None:
-    """Writes files; each is there as a whole, and none where one cannot be written."""
-    made: List[Tuple[str, str]] = []
-    try:
-        for path, content in contents.items():
-            if os.path.isdir(path):
-                raise IsADirectoryError(errno.EISDIR, os.strerror(errno.EISDIR), path)
-            if path != "-" and (os.path.isfile(path) or not os.path.exists(path)):
-                made.append((beside(path, content), path))
-        for new, path in made:
-            os.replace(new, os.path.realpath(path))
-    finally:
-        for new, _ in made:
-            if os.path.exists(new):
-                os.remove(new)
-    written = {path for _, path in made}
-    for path, content in contents.items():
-        if path == "-":
-            sys.stdout.buffer.write(content)
-        elif path not in written:  # a device, as /dev/stdout
-            with open(path, "wb") as target:
-                target.write(content)
-
-
-def beside(path: str, content: bytes) -> str:
-    """A new file in the folder of another, with that one's rights, to be put in its place."""
-    real = os.path.realpath(path)
-    exists = os.path.exists(real)
-    if exists and not os.access(real, os.W_OK):
-        raise PermissionError(errno.EACCES, os.strerror(errno.EACCES), path)
-    try:
-        handle, new = tempfile.mkstemp(dir=os.path.dirname(real))
-    except OSError as error:
-        error.filename = path
-        raise
-    try:
-        with os.fdopen(handle, "wb") as target:
-            target.write(content)
-        os.chmod(new, os.stat(real).st_mode & 0o777 if exists else 0o666 & ~umask())
-    except OSError as error:
-        os.remove(new)
-        error.filename = path
-        raise
-    return new
-
-
-def umask() -> int:
-    """The rights that new files do not get."""
-    mask = os.umask(0)
-    os.umask(mask)
-    return mask
+def differ(out: str, tables: Optional[str]) -> None:
+    """The edited file and the stored tables are two files."""
+    if tables is not None and are_same(out, tables):
+        raise shared.CommandError(
+            f"{out} cannot be both the domain file and the stored tables: name two files"
+        )
 
 
 # What changed.

@@ -145,8 +145,7 @@ def placed(args: argparse.Namespace) -> Placed:
         return Placed(args.kinds, args.indexes, None, 0)
     if not args.EXPANDER or args.indexes is not None or args.kinds is not None:
         raise shared.CommandError("give RIG and EXPANDER, or --indexes and --kinds")
-    if args.RIG == "-":
-        raise shared.CommandError("standard input has the requests, so RIG has to be a file")
+    shared.read_once(("RIG", args.RIG), ("the requests", "-"))
     rig = shared.load(args)
     shared.answered(rig, rig.judge)
     expander = rig.expander(args.EXPANDER)

@@ -42,6 +42,7 @@ def add_parser(subparsers: Any) -> None:
 
 
 def run(args: argparse.Namespace) -> int:
+    shared.read_once(("RIG", args.RIG), ("--tables", args.tables))
     rig = shared.load(args)
     every = shared.tables_of(rig, args.tables)
     tables = every.tables

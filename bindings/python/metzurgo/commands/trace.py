@@ -91,6 +91,7 @@ def add_parser(subparsers: Any) -> None:
 def run(args: argparse.Namespace) -> int:
     if args.all and args.FROM is not None:
         raise shared.CommandError("with --all there is no FROM and no TO")
+    shared.read_once(("RIG", args.RIG), ("--tables", args.tables))
     rig = shared.load(args)
     tables = shared.tables_of(rig, args.tables)
     for option, value in args.alter:
