@@ -12,6 +12,7 @@ use crate::reference::{
     self, disable_bits, refuse, Attached, Attribute, Domain, Judged, Outcome, Phy, Place, Refusal,
     Setting, NOWHERE,
 };
+use crate::traces::Request;
 
 // ---------------------------------------------------------------- reference
 
@@ -392,6 +393,8 @@ pub struct Reached {
     /// table-to-table link in either.
     traces: u64,
     arrived: u64,
+    /// The latter from a drive of the first rig, and of the second.
+    from_drives: [u64; 2],
 }
 
 impl Reached {
@@ -408,11 +411,14 @@ impl Reached {
         for (sum, more) in self.joined.iter_mut().zip(other.joined) {
             *sum += more;
         }
+        for (sum, more) in self.from_drives.iter_mut().zip(other.from_drives) {
+            *sum += more;
+        }
     }
 
     pub fn print(&self) {
         println!(
-            "  joins: {}, {} accepted; refused: {} by the second file, as the joined file is 3: {}, 4: {}, 8: {}, 23: {}; {} traces across, {} arrived",
+            "  joins: {}, {} accepted; refused: {} by the second file, as the joined file is 3: {}, 4: {}, 8: {}, 23: {}; {} traces across, {} arrived, {} and {} of these from a drive of the first and the second",
             self.joins,
             self.accepted,
             self.second,
@@ -421,14 +427,17 @@ impl Reached {
             self.joined[8],
             self.joined[23],
             self.traces,
-            self.arrived
+            self.arrived,
+            self.from_drives[0],
+            self.from_drives[1]
         );
     }
 
     /// Whether a run reached every kind.
     pub fn whole(&self) -> bool {
         let numbers = [3, 4, 8, 23].map(|number| self.joined[number]);
-        self.accepted > 0 && self.second > 0 && self.arrived > 0 && !numbers.contains(&0)
+        let drives = !self.from_drives.contains(&0);
+        self.accepted > 0 && self.second > 0 && drives && !numbers.contains(&0)
     }
 }
 
@@ -436,6 +445,8 @@ impl Reached {
 const FILES_PER_JOIN: usize = 2;
 /// Longer files are not joined.
 const LONGEST: usize = 60_000;
+/// Requests from one rig to the other in each joined file.
+const REQUESTS: usize = 4;
 
 /// A file joined with another that is made for it, in either order.
 pub fn check(
@@ -533,12 +544,7 @@ fn share(ends: &mut [End; 2], random: &mut Random) {
         return;
     };
     let addresses: Vec<u64> = devices(&given).into_iter().collect();
-    let mut drives = Vec::new();
-    for (&number, expander) in &taken.expanders {
-        let phys = expander.phys.iter();
-        let at = phys.filter(|(_, phy)| matches!(phy.attached, Attached::EndDevice(_)));
-        drives.extend(at.map(|(&phy, _)| (number, phy)));
-    }
+    let drives = drives(&taken);
     if !drives.is_empty() {
         let mut sorted = addresses;
         sorted.sort_unstable();
@@ -546,6 +552,17 @@ fn share(ends: &mut [End; 2], random: &mut Random) {
         let address = random.pick(&sorted).to_be_bytes();
         ends[1 - from].file[at + 24..at + 32].copy_from_slice(&address);
     }
+}
+
+/// The phys of a domain with an end device attached.
+fn drives(domain: &Domain) -> Vec<Place> {
+    let mut drives = Vec::new();
+    for (&number, expander) in &domain.expanders {
+        let phys = expander.phys.iter();
+        let at = phys.filter(|(_, phy)| matches!(phy.attached, Attached::EndDevice(_)));
+        drives.extend(at.map(|(&phy, _)| (number, phy)));
+    }
+    drives
 }
 
 /// The addresses of the devices of a domain.
@@ -684,7 +701,7 @@ fn exactly_when(
 }
 
 /// The tables of the joined file are those of the first and those of the second, and
-/// over them requests go from one rig to the other.
+/// over them requests go from one rig to the other, half of them from a drive.
 fn across(
     subject: &dyn Calls,
     setting: u32,
@@ -704,42 +721,57 @@ fn across(
     )?;
     let bits = disable_bits(&words);
     let routes = whole.routes(&words, &bits);
-    let count = one.expanders() as u8;
-    for _ in 0..4 {
+    let mut aside = random.aside();
+    for request in 0..REQUESTS {
         let back = random.chance(1, 2);
-        let (from, to) = if back { (other, one) } else { (one, other) };
-        let start = random.below(from.expanders()) as u8 + if back { count } else { 0 };
+        let (from, to, before) = match back {
+            true => (other, one, one.expanders() as u8),
+            false => (one, other, 0),
+        };
+        let start = random.below(from.expanders()) as u8;
+        let (start, arrival) = match request % 2 {
+            0 => (start, 255),
+            _ => drive(&from.domain, &mut aside).unwrap_or((start, 255)),
+        };
         let mut addresses: Vec<u64> = devices(&to.domain).into_iter().collect();
         addresses.sort_unstable();
-        let address = random.pick(&addresses);
-        let expected = whole.trace(&routes, start, 255, address);
-        let mut passed = vec![0; whole.expanders()];
+        let request = Request {
+            start: before + start,
+            arrival,
+            address: random.pick(&addresses),
+        };
+        let expected = whole.trace(&routes, request.start, arrival, request.address);
+        let what = || format!("trace of the joined file {}, {}", hex(file), request.text());
+        let mut passed = Lent::new(whole.expanders(), || aside.byte());
+        let after = passed.after(&expected.passed);
         let got = subject.trace(
             setting,
             file,
             &words,
             &bits,
-            start,
-            255,
-            address,
-            &mut passed,
+            request.start,
+            arrival,
+            request.address,
+            passed.part(),
         );
-        let what = || {
-            format!(
-                "trace from {start} to {address:016x}h of the joined file {}",
-                hex(file)
-            )
-        };
-        counts.answer(got);
+        counts.answer(expected.answer());
         same(what, expected.answer(), got)?;
-        counts.joins.traces += 1;
-        let clear = !whole.crosses(start, address);
-        same(
-            what,
-            0,
-            (clear && expected.outcome != Outcome::Arrived) as u64,
-        )?;
-        counts.joins.arrived += clear as u64;
+        passed.check(what, &after)?;
+        let reached = &mut counts.joins;
+        reached.traces += 1;
+        let clear = !whole.crosses(request.start, request.address);
+        let arrived = expected.outcome == Outcome::Arrived;
+        same(what, 0, (clear && !arrived) as u64)?;
+        reached.arrived += clear as u64;
+        if arrival != 255 {
+            reached.from_drives[back as usize] += clear as u64;
+        }
     }
     Ok(())
+}
+
+/// A phy with an end device, where there is one.
+fn drive(domain: &Domain, random: &mut Random) -> Option<Place> {
+    let places = drives(domain);
+    (!places.is_empty()).then(|| random.pick(&places))
 }
