@@ -2,12 +2,14 @@
 //! both calls compared with them on cards of files and on spoiled cards.
 
 use std::collections::HashSet;
+use std::fmt::Debug;
 
 use crate::calls::Calls;
 use crate::compare::{hex, same, Counts, Difference, Lent};
 use crate::generate::WIDEST;
 use crate::random::Random;
 use crate::reference::{refuse, Discover, Domain, General, Refusal, Setting, NOWHERE};
+use crate::traces::Request;
 
 // ---------------------------------------------------------------- reference
 
@@ -279,8 +281,10 @@ pub fn put(made: Result<Vec<u8>, Refusal>, room: &mut [u8]) -> u64 {
 
 // ---------------------------------------------------------------- comparing
 
-/// Longer files are not judged again after converting.
-const MOST_JUDGED: usize = 20_000;
+/// Longer files are not compared again after converting.
+const MOST_COMPARED: usize = 20_000;
+/// Longer tables are not compared after converting.
+const MOST_WORDS: usize = 10_000;
 /// Of longer cards only some bits are flipped.
 const SMALL: usize = 48;
 /// Files of which one has its card spoiled.
@@ -309,13 +313,20 @@ pub fn check(
     counts.cards += 1;
     let short = file_of_card(setting, &card);
     cards.file_of_card(&card, &short, random, counts)?;
-    cards.there_and_back(file, &card, counts)?;
-    let other = crate::generate::setting(file, random);
-    Cards {
+    let converted = cards.there_and_back(file, &card, counts)?;
+    let other = Cards {
         subject,
-        setting: other,
+        setting: crate::generate::setting(file, random),
+    };
+    other.file_of_card(&card, &file_of_card(other.setting, &card), random, counts)?;
+    if file.len() <= MOST_COMPARED {
+        let mut aside = random.aside();
+        let refused = cards.alike([file, &converted], &mut aside, counts)?;
+        let there = other.alike([file, &converted], &mut aside, counts)?;
+        if !refused {
+            counts.converted[there as usize] += 1;
+        }
     }
-    .file_of_card(&card, &file_of_card(other, &card), random, counts)?;
     if random.chance(1, FILES_PER_SPOILED) {
         cards.spoiled(&card, random, counts)?;
     }
@@ -382,14 +393,13 @@ impl Cards<'_> {
         lent.check(what, &before)
     }
 
-    /// What the subject makes of a card is the same card again, and what it makes of a
-    /// file is judged alike.
+    /// What the subject makes of a card is the same card again; the file between them.
     fn there_and_back(
         &self,
         file: &[u8],
         card: &[u8],
         counts: &mut Counts,
-    ) -> Result<(), Difference> {
+    ) -> Result<Vec<u8>, Difference> {
         let (subject, setting) = (self.subject, self.setting);
         let mut short = vec![0; file.len()];
         let length = subject.file_of_card(setting, card, &mut short);
@@ -414,15 +424,75 @@ impl Cards<'_> {
             });
         }
         counts.calls += 2;
-        if file.len() <= MOST_JUDGED {
-            counts.calls += 2;
-            same(
-                || "judge of the file that was made of the file's card".into(),
-                subject.judge(setting, file),
-                subject.judge(setting, &short),
-            )?;
+        Ok(short)
+    }
+
+    /// A file and the one that was made of its card are the same to the calls: both are
+    /// refused alike, or have the same tables and traces. Whether they are refused.
+    fn alike(
+        &self,
+        files: [&[u8]; 2],
+        random: &mut Random,
+        counts: &mut Counts,
+    ) -> Result<bool, Difference> {
+        let (subject, setting) = (self.subject, self.setting);
+        let judged = files.map(|file| subject.judge(setting, file));
+        self.equal("judge", &judged, counts)?;
+        let needed = files.map(|file| subject.needed(setting, file));
+        self.equal("needed", &needed, counts)?;
+        let refused = judged[0] >> 63 == 1;
+        let (expanders, length) = match refused {
+            true => (random.below(66), random.below(40)),
+            false => (judged[0] as usize, needed[0] as u32 as usize),
+        };
+        if length > MOST_WORDS {
+            return Ok(refused);
         }
-        Ok(())
+        let tables = files.map(|file| {
+            let (mut words, mut bits) = (vec![1; length], vec![1; length.div_ceil(8)]);
+            let answer = subject.tables(setting, file, &mut words, &mut bits);
+            (answer, words, bits)
+        });
+        self.equal("tables", &tables, counts)?;
+        let (_, words, bits) = &tables[0];
+        for request in requests(files[0], random) {
+            let Request {
+                start,
+                arrival,
+                address,
+            } = request;
+            let traces = files.map(|file| {
+                let mut passed = vec![0xa5; expanders];
+                let room = &mut passed;
+                let answer =
+                    subject.trace(setting, file, words, bits, start, arrival, address, room);
+                (answer, passed)
+            });
+            let call = format!("trace, {},", request.text());
+            self.equal(&call, &traces, counts)?;
+        }
+        Ok(refused)
+    }
+
+    /// What a call gives for a file and for the one that was made of its card.
+    fn equal<T: PartialEq + Debug>(
+        &self,
+        call: &str,
+        [expected, got]: &[T; 2],
+        counts: &mut Counts,
+    ) -> Result<(), Difference> {
+        counts.calls += 2;
+        if expected == got {
+            return Ok(());
+        }
+        let setting = self.setting;
+        Err(Difference {
+            what: format!(
+                "setting {setting:08x}h: {call} of the file that was made of the file's card"
+            ),
+            expected: format!("{expected:x?}"),
+            got: format!("{got:x?}"),
+        })
     }
 
     /// A card spoiled in each way: bits flipped, cut, a byte too many, and noise.
@@ -488,6 +558,41 @@ impl Cards<'_> {
         counts.spoiled_cards += 1;
         Cards { subject, setting }.of_card(card, &made, length, random, counts)
     }
+}
+
+/// Requests of a file that causes 1 to 6 leave: from an expander, from a drive where there
+/// is one, and from any phy, which may be refused.
+fn requests(file: &[u8], random: &mut Random) -> [Request; 3] {
+    let expanders = read_file(file);
+    let mut addresses = Vec::new();
+    let mut drives = Vec::new();
+    for (number, expander) in (0..).zip(&expanders) {
+        addresses.push(expander.address);
+        for (at, phy) in (0..).zip(&expander.phys) {
+            let Phy::Fields {
+                device_type,
+                attached: Some((address, _)),
+                ..
+            } = *phy
+            else {
+                continue;
+            };
+            addresses.push(address);
+            if device_type == 1 {
+                drives.push((number, at));
+            }
+        }
+    }
+    let start = random.below(expanders.len()) as u8;
+    let drive = match drives.is_empty() {
+        true => (start, 255),
+        false => random.pick(&drives),
+    };
+    [(start, 255), drive, (start, random.below(8) as u8)].map(|(start, arrival)| Request {
+        start,
+        arrival,
+        address: random.pick(&addresses),
+    })
 }
 
 /// A call that makes bytes in a buffer of this length: its answer and the buffer.

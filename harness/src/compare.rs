@@ -72,6 +72,9 @@ pub struct Counts {
     /// Files that have a card, and cards that were spoiled.
     pub cards: u64,
     pub spoiled_cards: u64,
+    /// Accepted files compared with the ones made of their cards under another setting,
+    /// which accepts or refuses them.
+    pub converted: [u64; 2],
     pub events: events::Reached,
     pub joins: joins::Reached,
     /// Solutions of which a file was made, and tables of accepted rigs among them.
@@ -106,6 +109,9 @@ impl Counts {
         self.events.add(&other.events);
         self.joins.add(&other.joins);
         self.spoiled_cards += other.spoiled_cards;
+        for (sum, more) in self.converted.iter_mut().zip(other.converted) {
+            *sum += more;
+        }
         self.solutions += other.solutions;
         self.exercises += other.exercises;
         self.shelf_frames += other.shelf_frames;

@@ -313,8 +313,8 @@ fn run(subject: &dyn Calls, files: u64, seed: u64) {
         println!("  function result {result:02x}h: {frames} frames");
     }
     println!(
-        "  cards: {} of files, {} spoiled",
-        counts.cards, counts.spoiled_cards
+        "  cards: {} of files, {} spoiled; accepted files beside those of their cards under another setting: {} accepted, {} refused",
+        counts.cards, counts.spoiled_cards, counts.converted[0], counts.converted[1]
     );
     counts.events.print();
     counts.joins.print();
@@ -361,6 +361,12 @@ fn run(subject: &dyn Calls, files: u64, seed: u64) {
     }
     if counts.rules.contains(&0) || counts.bad_steps == 0 || counts.walks == 0 {
         println!("a rule of a step was never reached");
+        exit(1);
+    }
+    if counts.converted.contains(&0) {
+        println!(
+            "no accepted file made of a card was accepted, or none refused, under another setting"
+        );
         exit(1);
     }
     if !counts.events.whole() {
