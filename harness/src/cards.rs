@@ -355,7 +355,7 @@ impl Cards<'_> {
         for length in Cards::lengths(made, random) {
             let what = || format!("card_of_file with {length} bytes lent");
             let call = |room: &mut [u8]| self.subject.card_of_file(self.setting, file, room);
-            compare(what, made, length, call, random, counts)?;
+            compare("card_of_file", what, made, length, call, random, counts)?;
         }
         Ok(())
     }
@@ -389,7 +389,7 @@ impl Cards<'_> {
             format!("setting {setting:08x}h: file_of_card with {length} bytes lent, card {card}")
         };
         let call = |room: &mut [u8]| self.subject.file_of_card(setting, lent.read(), room);
-        compare(what, made, length, call, random, counts)?;
+        compare("file_of_card", what, made, length, call, random, counts)?;
         lent.check(what, &before)
     }
 
@@ -495,7 +495,8 @@ impl Cards<'_> {
         })
     }
 
-    /// A card spoiled in each way: bits flipped, cut, a byte too many, and noise.
+    /// A card spoiled in each way: bits flipped, cut, a byte too many, an address zero or
+    /// twice, and noise.
     fn spoiled(
         &self,
         card: &[u8],
@@ -530,6 +531,8 @@ impl Cards<'_> {
         for spoiled in all {
             self.any(&spoiled, random, counts)?;
         }
+        let mut aside = random.aside();
+        self.any(&ill_addressed(card, &mut aside), &mut aside, counts)?;
         self.noise(random, counts)
     }
 
@@ -558,6 +561,17 @@ impl Cards<'_> {
         counts.spoiled_cards += 1;
         Cards { subject, setting }.of_card(card, &made, length, random, counts)
     }
+}
+
+/// The card with an expander's address zero or that of another.
+fn ill_addressed(card: &[u8], random: &mut Random) -> Vec<u8> {
+    let mut expanders = read_card(card).expect("the card of a file");
+    let (at, other) = (random.below(expanders.len()), random.below(expanders.len()));
+    expanders[at].address = match at == other {
+        true => 0,
+        false => expanders[other].address,
+    };
+    write_card(&expanders)
 }
 
 /// Requests of a file that causes 1 to 6 leave: from an expander, from a drive where there
@@ -597,6 +611,7 @@ fn requests(file: &[u8], random: &mut Random) -> [Request; 3] {
 
 /// A call that makes bytes in a buffer of this length: its answer and the buffer.
 pub fn compare(
+    name: &'static str,
     what: impl Fn() -> String,
     made: &Result<Vec<u8>, Refusal>,
     length: usize,
@@ -611,7 +626,7 @@ pub fn compare(
         Ok(bytes) => (bytes.len() as u64, room.after(bytes)),
     };
     let got = call(room.part());
-    counts.answer(got);
+    counts.answer(name, expected);
     same(&what, expected, got)?;
     room.check(what, &after)
 }

@@ -1,6 +1,7 @@
 //! Compares one implementation of the calls with the reference on one file and
 //! on frames, with every byte and word of every lent buffer.
 
+use std::collections::BTreeMap;
 use std::fmt::{Debug, Write};
 
 use crate::calls::Calls;
@@ -39,8 +40,8 @@ impl Difference {
 #[derive(Clone, Default)]
 pub struct Counts {
     pub calls: u64,
-    /// Refusals by number, in all calls.
-    pub refusals: [u64; 25],
+    /// Refusals by call and number.
+    pub refusals: BTreeMap<(&'static str, u8), u64>,
     /// Files that the judging call refuses, by number.
     pub refused_files: [u64; 25],
     pub accepted_files: u64,
@@ -124,9 +125,7 @@ impl Counts {
         for (sum, more) in self.rules.iter_mut().zip(other.rules) {
             *sum += more;
         }
-        for (sum, more) in self.refusals.iter_mut().zip(other.refusals) {
-            *sum += more;
-        }
+        self.add_refusals(other);
         for (sum, more) in self.refused_files.iter_mut().zip(other.refused_files) {
             *sum += more;
         }
@@ -137,11 +136,32 @@ impl Counts {
         self.largest_file = self.largest_file.max(other.largest_file);
     }
 
-    pub fn answer(&mut self, answer: u64) {
+    fn add_refusals(&mut self, other: &Counts) {
+        for (&pair, more) in &other.refusals {
+            *self.refusals.entry(pair).or_default() += more;
+        }
+    }
+
+    /// The answer of a call.
+    pub fn answer(&mut self, call: &'static str, answer: u64) {
         self.calls += 1;
         if answer >> 63 == 1 {
-            self.refusals[(answer >> 16 & 0xff) as usize] += 1;
+            let number = (answer >> 16) as u8;
+            *self.refusals.entry((call, number)).or_default() += 1;
         }
+    }
+
+    /// Refusals with this number, in all calls.
+    pub fn refused_with(&self, number: u8) -> u64 {
+        let all = self.refusals.iter();
+        let with = all.filter(|((_, each), _)| *each == number);
+        with.map(|(_, calls)| calls).sum()
+    }
+
+    /// The refusals of one call: number and how many.
+    pub fn refusals_of(&self, call: &'static str) -> Vec<(u8, u64)> {
+        let of = self.refusals.range((call, 0)..=(call, u8::MAX));
+        of.map(|(&(_, number), &calls)| (number, calls)).collect()
     }
 
     /// The answers to a list of requests.
@@ -290,9 +310,7 @@ impl Check<'_> {
         let mut other = Counts::default();
         self.answers(10_000, random, &mut other)?;
         counts.calls += other.calls;
-        for (sum, more) in counts.refusals.iter_mut().zip(other.refusals) {
-            *sum += more;
-        }
+        counts.add_refusals(&other);
         Ok(())
     }
 
@@ -347,7 +365,7 @@ impl Check<'_> {
                 Ok(_) => (bits, words.after(&neighbours)),
             };
             let got = self.subject.wire(self.setting, self.file, words.part());
-            counts.answer(expected);
+            counts.answer("wire", expected);
             same(|| format!("wire, {length} words"), expected, got)?;
             words.check(|| "wire".into(), &after)?;
         }
@@ -367,14 +385,14 @@ impl Check<'_> {
             Ok(_) => counts.accepted_files += 1,
             Err(refusal) => counts.refused_files[usize::from(refusal.number)] += 1,
         }
-        counts.answer(expected);
+        counts.answer("judge", expected);
         let got = self.subject.judge(self.setting, self.file);
         same(|| "judge".into(), expected, got)?;
         let expected = match judged {
             Ok(judged) => judged.table_answer(),
             Err(refusal) => refusal.answer(),
         };
-        counts.answer(expected);
+        counts.answer("needed", expected);
         let got = self.subject.needed(self.setting, self.file);
         same(|| "needed".into(), expected, got)
     }
@@ -403,7 +421,7 @@ impl Check<'_> {
                 Ok(judged) => judged.place_answer(k),
                 Err(refusal) => refusal.answer(),
             };
-            counts.answer(expected);
+            counts.answer("word_place", expected);
             let got = self.subject.word_place(self.setting, self.file, k);
             same(|| format!("word_place {k}"), expected, got)?;
         }
@@ -438,7 +456,7 @@ impl Check<'_> {
             address,
             passed.part(),
         );
-        counts.answer(expected);
+        counts.answer("trace", expected);
         same(
             || format!("trace, {length} words, start {start}, arrival {arrival}, {address:016x}h"),
             expected,
@@ -454,7 +472,7 @@ impl Check<'_> {
             arrival,
             address,
         );
-        counts.answer(expected);
+        counts.answer("step", expected);
         same(
             || {
                 format!(
@@ -484,7 +502,7 @@ impl Check<'_> {
         let got = self
             .subject
             .tables(self.setting, self.file, words.part(), bits.part());
-        counts.answer(expected);
+        counts.answer("tables", expected);
         same(what, expected, got)?;
         words.check(|| format!("{}, words", what()), &after.0)?;
         bits.check(|| format!("{}, disable bits", what()), &after.1)
@@ -606,7 +624,7 @@ pub fn check_frame(
     ];
     for (call, expected, got) in checks {
         if !call.starts_with("discover") && call != "read_route_address" {
-            counts.answer(expected);
+            counts.answer(call, expected);
         }
         same(|| what(call), expected, got)?;
     }
@@ -655,7 +673,7 @@ pub fn check_frame(
         route.address,
         disabled,
     );
-    counts.answer(expected);
+    counts.answer("write_route", expected);
     let what = || format!("write_route of {route:x?} by {disabled}, {length} bytes");
     same(what, expected, got)?;
     buf.check(what, &after)?;

@@ -716,7 +716,7 @@ impl List<'_> {
         let got = self
             .subject
             .event(self.setting, file.part(), words.part(), bits.part(), event);
-        counts.answer(expected);
+        counts.answer("event", expected);
         counts.events.events += 1;
         same(what, expected, got)?;
         file.check(|| format!("{}, the file", what()), &after.0)?;
@@ -770,7 +770,7 @@ impl List<'_> {
         let answer = self
             .subject
             .tables(self.setting, &lab.file, &mut filled.0, &mut filled.1);
-        counts.answer(answer);
+        counts.answer("tables", answer);
         let what = || format!("tables after events, file {}", hex(&lab.file));
         same(what, judged.table_answer(), answer)?;
         let left = (&lab.words[..words.len()], &lab.bits[..bits.len()]);

@@ -230,7 +230,7 @@ fn compared(
         let what =
             || format!("make {first:016x} {second:016x} {words:x?} with {length} bytes lent");
         let call = |room: &mut [u8]| subject.make(first, second, lent.read(), room);
-        compare(what, &made, length, call, random, counts)?;
+        compare("make", what, &made, length, call, random, counts)?;
         lent.check(what, &before)?;
     }
     let Ok(file) = made else {
@@ -241,7 +241,7 @@ fn compared(
     let mut given = vec![1; words.len()];
     let mut bits = vec![0; words.len().div_ceil(8)];
     let answer = subject.tables(WIDEST, &file, &mut given, &mut bits);
-    counts.answer(answer);
+    counts.answer("tables", answer);
     same(
         || "tables of an exercise".into(),
         1 << 32 | words.len() as u64,

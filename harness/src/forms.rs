@@ -288,7 +288,7 @@ fn compare_compact(
         };
         let what = || format!("compact with {length} words lent");
         let got = subject.compact(setting, file, room.part());
-        answered.answer(expected);
+        answered.answer("compact", expected);
         same(what, expected, got)?;
         room.check(what, &after)?;
     }
@@ -715,7 +715,7 @@ impl<'a> Form<'a> {
         let got =
             self.subject
                 .compact_tables(self.setting, self.lent.read(), words.part(), bits.part());
-        counts.answer(expected);
+        counts.answer("compact_tables", expected);
         let call = format!("compact_tables, {length} words, {bytes} bytes of disable bits");
         same(|| self.text(&call), expected, got)?;
         words.check(|| self.text(&call), &after.0)?;
@@ -792,7 +792,7 @@ impl<'a> Form<'a> {
             request.address,
             passed.part(),
         );
-        counts.answer(expected);
+        counts.answer("compact_trace", expected);
         let what = || {
             let (length, bytes) = (words.len(), bits.len());
             let lent = format!("{length} words, {bytes} bytes of disable bits, {room} bytes");
@@ -836,7 +836,7 @@ impl<'a> Form<'a> {
             lent.read(),
             answers.part(),
         );
-        counts.answer(expected);
+        counts.answer("compact_trace_many", expected);
         counts.list(&written);
         let what = || {
             let count = requests.len();

@@ -660,7 +660,7 @@ fn compare(
     let [first, second] = files.each_ref().map(Lent::read);
     let [near, far] = ends.map(|end| end.place);
     let got = subject.join(setting, (first, near), (second, far), out.part());
-    counts.answer(expected);
+    counts.answer("join", expected);
     same(what, expected, got)?;
     out.check(what, &after)?;
     for (file, kept) in files.iter().zip(&kept) {
@@ -754,7 +754,7 @@ fn across(
             request.address,
             passed.part(),
         );
-        counts.answer(expected.answer());
+        counts.answer("trace", expected.answer());
         same(what, expected.answer(), got)?;
         passed.check(what, &after)?;
         let reached = &mut counts.joins;

@@ -55,6 +55,51 @@ const FILES_PER_SHELF: usize = 12;
 /// A file that takes longer than this is taken for a hang.
 const HANG: Duration = Duration::from_secs(300);
 
+/// A run of so many files has to reach the refusals below, but for the rare ones.
+const MANY_FILES: u64 = 2_000;
+/// A run of so many files has to reach the rare ones, too.
+const MORE_FILES: u64 = 20_000;
+/// Causes 22 and 1 to 6, by which a file cannot be read.
+const READ: &[u8] = &[1, 2, 3, 4, 5, 6, 22];
+/// These and the causes of its wiring.
+const WIRED: &[u8] = &[1, 2, 3, 4, 5, 6, 7, 8, 9, 10, 22];
+/// All causes of a file.
+const JUDGED: &[u8] = &[1, 2, 3, 4, 5, 6, 7, 8, 9, 10, 11, 12, 14, 22, 23];
+/// Each call that refuses: the causes of a file that it gives, and its other numbers.
+const REFUSALS: [(&str, &[u8], &[u8]); 23] = [
+    ("wire", WIRED, &[16]),
+    ("judge", JUDGED, &[]),
+    ("needed", JUDGED, &[]),
+    ("word_place", JUDGED, &[15]),
+    ("tables", JUDGED, &[16, 18]),
+    ("trace", JUDGED, &[15, 16, 17, 18]),
+    ("step", JUDGED, &[15, 16, 17, 18]),
+    ("compact", JUDGED, &[16]),
+    ("compact_tables", &[1, 22], &[16, 18]),
+    ("compact_trace", &[1, 22], &[15, 16, 17, 18]),
+    ("compact_trace_many", &[1, 22], &[16, 18]),
+    ("card_of_file", READ, &[16]),
+    ("file_of_card", &[3, 4, 6, 22], &[16, 19]),
+    ("event", JUDGED, &[16, 18, 20]),
+    ("join", JUDGED, &[16, 21]),
+    ("make", &[], &[16, 24]),
+    ("write_route", &[], &[2, 15, 16]),
+    ("read_route", &[], &[1, 2, 15]),
+    ("read_general", &[], &[1, 2]),
+    ("read_general_sas2", &[], &[1, 2]),
+    ("read_discover", &[], &[1, 2]),
+    ("shelf_fresh", &[], &[3]),
+    ("shelf_obey", &[], &[1, 2, 15]),
+];
+/// Those that some ten of 2,000 files reach, or fewer.
+const RARE: [(&str, u8); 5] = [
+    ("event", 10),
+    ("event", 23),
+    ("join", 9),
+    ("join", 10),
+    ("shelf_obey", 15),
+];
+
 fn main() {
     let arguments: Vec<String> = env::args().skip(1).collect();
     let words: Vec<&str> = arguments.iter().map(String::as_str).collect();
@@ -329,8 +374,8 @@ fn run(subject: &dyn Calls, files: u64, seed: u64) {
     let mut missing = false;
     // 13 is withdrawn.
     for number in (1..=12).chain(14..=24) {
-        let calls = counts.refusals[number];
-        let files = counts.refused_files[number];
+        let calls = counts.refused_with(number);
+        let files = counts.refused_files[usize::from(number)];
         match number {
             // Causes of a file.
             1..=14 | 22 | 23 => {
@@ -343,8 +388,13 @@ fn run(subject: &dyn Calls, files: u64, seed: u64) {
             }
         }
     }
+    let unreached = refusals(&counts, files);
     if missing {
         println!("a refusal number was never reached");
+        exit(1);
+    }
+    if unreached {
+        println!("a call never refused with a number that it has to in so many files");
         exit(1);
     }
     if counts.other_forms_accepted == 0 || counts.other_forms_accepted == counts.other_forms {
@@ -381,6 +431,29 @@ fn run(subject: &dyn Calls, files: u64, seed: u64) {
         println!("no request ended otherwise by a disable bit");
         exit(1);
     }
+}
+
+/// Prints the refusals of each call; whether one is missing that so many files have to reach.
+fn refusals(counts: &Counts, files: u64) -> bool {
+    let mut unreached = false;
+    for (call, causes, others) in REFUSALS {
+        let given = counts.refusals_of(call);
+        let each = given
+            .iter()
+            .map(|(number, calls)| format!("{number}: {calls}"));
+        println!("refused by {call}: {}", each.collect::<Vec<_>>().join(", "));
+        for &number in causes.iter().chain(others) {
+            let enough = match RARE.contains(&(call, number)) {
+                true => MORE_FILES,
+                false => MANY_FILES,
+            };
+            if files >= enough && !counts.refusals.contains_key(&(call, number)) {
+                println!("  never with {number}");
+                unreached = true;
+            }
+        }
+    }
+    unreached
 }
 
 /// Counts a thread off when it ends, by a panic too.

@@ -338,7 +338,7 @@ impl Pair<'_> {
         let lent = Lent::of(&kinds);
         let shelf = words(self.shelf.part());
         let got = self.subject.shelf_fresh(shelf, phys, indexes, lent.read());
-        counts.answer(expected);
+        counts.answer("shelf_fresh", expected);
         same(what, expected, got)?;
         match made {
             // What lies around the shelf stays.
@@ -374,7 +374,7 @@ impl Pair<'_> {
         let got = self
             .subject
             .shelf_obey(words(self.shelf.part()), lent.read());
-        counts.answer(expected);
+        counts.answer("shelf_obey", expected);
         counts.shelf_frames += 1;
         if let Ok(result) = result {
             let at = RESULTS.iter().position(|&each| each == result);

@@ -211,7 +211,7 @@ impl<'a> Steps<'a> {
             at.1,
             address,
         );
-        counts.answer(expected);
+        counts.answer("step", expected);
         let what = || {
             let (expander, arrival) = at;
             let tables = tables.text(lengths);

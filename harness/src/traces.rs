@@ -537,7 +537,7 @@ impl<'a> Traces<'a> {
             address,
             passed.part(),
         );
-        counts.answer(expected);
+        counts.answer("trace", expected);
         let what = || {
             let tables = tables.text(lengths);
             format!("trace over {tables}, {room} bytes, {}", request.text())
