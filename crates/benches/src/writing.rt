@@ -65,12 +65,12 @@ pub(crate) fn put_joined(
     ensures { λ _. ⌜ now (out .exit) ≡ joinedFile (now (first .entry)) (i .0) (p .0) (now (second .entry)) (j .0) (q .0) ++ drop (length (now (first .entry)) + (length (now (second .entry)) - 2)) (now (out .entry)) ⌝ }
 {
     put_both(out, first, second);
-    let s = frames::address_at(first, offsets::expander_offset(first, i.0));
-    let t = frames::address_at(second, offsets::expander_offset(second, j.0));
-    cable_at(out, offsets::phy_offset(first, i.0, p.0), t, q);
+    let s = frames::address_at(first, offsets::expander_offset(first, i));
+    let t = frames::address_at(second, offsets::expander_offset(second, j));
+    cable_at(out, offsets::phy_offset(first, i, p), t, q);
     cable_at(
         out,
-        first.len() + (offsets::phy_offset(second, j.0, q.0) - 2),
+        first.len() + (offsets::phy_offset(second, j, q) - 2),
         s,
         p,
     );

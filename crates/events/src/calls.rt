@@ -46,7 +46,7 @@ fn apply_rows(
     match got {
         Replugged::Refused(r) => EventAnswer::Refused(r),
         Replugged::Counts(t, w) => {
-            let at = offsets::phy_offset(file, v.expander.0, v.phy.0);
+            let at = offsets::phy_offset(file, v.expander, v.phy);
             writing::edit_frame(file, at, v.address);
             EventAnswer::Counts(t, w)
         }

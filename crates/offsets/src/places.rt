@@ -1,4 +1,6 @@
 // Where the frames of a file that was read stand: each is short or long by its byte 3.
+use wiring::ExpanderNumber;
+use wiring::PhyId;
 ghost use mathlib.Core.Path.{_≡_};
 ghost use Prim.Native.Nat.{_+_, _*_, _≤_, _<_};
 ghost use Rattle.frames.specs.declared.Response.the-variants.{Discover, ReportGeneral};
@@ -42,12 +44,12 @@ fn phys_after(file: &[u8], n: u64, at: usize) -> usize
 }
 
 // The place of expander i.
-pub fn expander_offset(file: &[u8], i: u8) -> usize
-    ensures { λ r. ⌜ (r ≡ expanderOffset (now (file .entry)) i) × (r ≤ 2 + longestUnit 255 * i) ⌝ }
+pub fn expander_offset(file: &[u8], i: ExpanderNumber) -> usize
+    ensures { λ r. ⌜ (r ≡ expanderOffset (now (file .entry)) (i .0)) × (r ≤ 2 + longestUnit 255 * i .0) ⌝ }
 {
     let mut at: usize = 2;
     let mut k: u8 = 0;
-    while k < i {
+    while k < i.0 {
         let n = wiring::byte_at(file, at + 17);
         at = phys_after(file, n, phys_from(file, at));
         k += 1;
@@ -56,9 +58,9 @@ pub fn expander_offset(file: &[u8], i: u8) -> usize
 }
 
 // The place of the frame of phy p of expander i.
-pub fn phy_offset(file: &[u8], i: u8, p: u8) -> usize
-    ensures { λ r. ⌜ r ≡ phyOffset (now (file .entry)) i p ⌝ }
+pub fn phy_offset(file: &[u8], i: ExpanderNumber, p: PhyId) -> usize
+    ensures { λ r. ⌜ r ≡ phyOffset (now (file .entry)) (i .0) (p .0) ⌝ }
 {
     let at = expander_offset(file, i);
-    phys_after(file, p as u64, phys_from(file, at))
+    phys_after(file, p.0 as u64, phys_from(file, at))
 }
