@@ -42,6 +42,6 @@ unfoldable pub unitsOf : Domain → List ℕ
 unitsOf [] = []
 unitsOf (e ∷ d) = unitHead e ++ (physFrames (e .address) 0 (e .phys) ++ unitsOf d)
 
--- the header, then the units: `file-back` (proofs/FileRoundTrip) reads it as the domain
+-- the header, then the units: `file-back` (proofs/Conversions) reads it as the domain
 unfoldable pub fileOf : Domain → List ℕ
 fileOf d = 0x10 ∷ length d ∷ unitsOf d

@@ -6,7 +6,7 @@ use native.Mathlib.Omega.{arith}
 use lib.ListN.{length, set, length-append, length-set}
 use lib.Seq.{sets, length-take-le}
 use Rattle.io.specs.Counts.{Counts}
-use Rattle.frames.proofs.ValuesPut.{sets-then}
+use Rattle.tables.proofs.WiringLemmas.{sets-then}
 use Rattle.tables.specs.lists.GrowingLists.{WordsPut}
 
 -- one element, and the same by an equation

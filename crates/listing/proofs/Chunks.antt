@@ -17,7 +17,7 @@ use Rattle.listing.specs.Text.{lineOf}
 use Rattle.listing.specs.Lines.{Entry, wordLines, textOf, fitting, entriesFrom, linesFrom, cursorAt, cursorAfter, chunkFrom, chunksFrom, ChunkPut}
 use Rattle.listing.proofs.Cursors.{entries-after}
 use Rattle.listing.proofs.BytesPut.{Going, go-start, go-turn, go-end, put-within}
-use Rattle.files.proofs.OneMore.{drop-next}
+use Rattle.tables.proofs.WiringLemmas.{drop-next}
 
 module _ (end : ℕ) where
   fit-go : (l : List ℕ) (ls : List (List ℕ)) → end + 80 ≤ 65536 → fitting end (l ∷ ls) ≡ l ∷ fitting (end + length l) ls

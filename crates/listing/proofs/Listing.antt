@@ -5,8 +5,7 @@ use mathlib.Core.Bool.{Bool, true, false, cond}
 use mathlib.Core.List.{List, [], _∷_, _++_, flatMap, append-assoc}
 use native.Mathlib.Omega.{arith}
 use lib.ListN.{length, getD, take, drop, length-append}
-use Rattle.wiring.specs.index.AddressIndex.{mostSlots, mostDomainPhys}
-use Rattle.files.specs.Rows.{mostRowWords, rowWords}
+use Rattle.tables.specs.WiringDefinitions.{mostSlots, mostDomainPhys, mostRowWords, rowWords}
 use Rattle.tables.specs.WiringDefinitions.{Result, good, then, Expanders, keep, Domain, expanderAt, phyAt, isTable, Place, places, domainIn, RowsRead, Setting, IndexRoom}
 use Rattle.tables.proofs.WiringLemmas.{good-one, then-good, read-good, opened}
 use Rattle.tables.specs.filling.Tables.{table, tablePlaces, tables, size, needed}

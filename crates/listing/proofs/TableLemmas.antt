@@ -1,2 +1,3 @@
--- What the program uses of the lemmas below.
+-- What the program uses of the definitions and lemmas below.
+pub use Rattle.tables.specs.WiringDefinitions.{mostRowWords}
 pub use Rattle.tables.proofs.WiringLemmas.{read-good, opened-fits}

@@ -15,7 +15,11 @@ pub use text::totals;
 
 // What the program uses of the layers below.
 pub use tables::DomainRead;
+pub use tables::PHYS_OF_64;
+pub use tables::ROW_WORDS;
+pub use tables::ROWS_OF_64;
 pub use tables::Refusal;
+pub use tables::SLOTS_OF_64;
 pub use tables::TablesGiven;
 pub use tables::give_rows;
 pub use tables::read_domain;

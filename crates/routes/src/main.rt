@@ -87,8 +87,8 @@ fn print_refusal(r: Refusal) -> bool {
 // Writes the listing of a domain in rows, or why there is none, and answers whether all was written. A chain
 // may have `chain` expanders.
 fn print_rows(rows: &[u64], chain: u8) -> bool {
-    let mut first = [0u16; wiring::SLOTS_OF_64];
-    let mut low = [0u8; wiring::PHYS_OF_64];
+    let mut first = [0u16; listing::SLOTS_OF_64];
+    let mut low = [0u8; listing::PHYS_OF_64];
     let mut words = [0u64; TABLE_WORDS];
     let mut bits = [0u8; TABLE_WORDS / 8];
     let given = listing::give_rows(
@@ -112,13 +112,13 @@ fn print_listing(file: &[u8]) -> bool {
         let end = listing::too_long(&mut line);
         return io::write_all(1, &line[..end]);
     }
-    let mut rows = [0u64; files::ROWS_OF_64];
+    let mut rows = [0u64; listing::ROWS_OF_64];
     let course = listing::widest();
     let read = listing::read_domain(course, file, &mut rows[..]);
     match read {
         DomainRead::Refused(r) => print_refusal(r),
         DomainRead::Expanders(n) => {
-            let e = files::ROW_WORDS * (n as usize);
+            let e = listing::ROW_WORDS * (n as usize);
             print_rows(&rows[..e], course.chain)
         }
     }

@@ -2,7 +2,9 @@
 pub use Rattle.files.proofs.ListMembers.{tests, or-cases, or-left, or-right, is-true, was-true, eq→eqb, neqb, in-cast, all-cons, in-upTo, last-in, at-most}
 pub use Rattle.wiring.proofs.FrameLemmas.{length-bitsOf, marked-room}
 pub use Rattle.wiring.proofs.FrameLemmas.{Bits, length-packedIn, bit-packed, bits-bitsOf}
-pub use Rattle.files.proofs.ListMembers.{take-in}
+pub use Rattle.files.proofs.ListMembers.{take-in, any-append}
+pub use Rattle.files.proofs.OneMore.{drop-next, set-next}
+pub use Rattle.frames.proofs.ValuesPut.{sets-front, sets-then}
 pub use Rattle.wiring.proofs.graph.GraphWalks.{Skip, NoBack, repeats-nothing, same-rest, same-chain, rest-of}
 pub use Rattle.wiring.proofs.graph.ReachedByChain.{Joined}
 pub use Rattle.wiring.proofs.graph.LongChains.{all-joined}

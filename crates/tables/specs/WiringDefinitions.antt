@@ -14,16 +14,16 @@ pub use Rattle.files.specs.Domain.{Expander, Domain, noExpander, expanderAt, ph
 pub use Rattle.files.specs.Domain.{attached, toEnd, toExpander, bears}
 unfoldable pub use Rattle.files.specs.Domain.{numberOf}
 pub use Rattle.files.specs.declared.Setting.{Setting}
-pub use Rattle.files.specs.Settings.{InRange, widest, NoSmaller}
+pub use Rattle.files.specs.Settings.{mostPhys, InRange, widest, NoSmaller}
 unfoldable pub use Rattle.files.specs.Settings.{inRange}
 pub use Rattle.files.specs.File.{domainRead}
 pub use Rattle.files.specs.ReadDomain.{Read}
 pub use Rattle.files.specs.ShortFile.{shortFile}
-pub use Rattle.files.specs.Rows.{domainIn, RowsRead}
+pub use Rattle.files.specs.Rows.{rowWords, mostRowWords, domainIn, RowsRead}
 pub use Rattle.wiring.specs.phys.PhyCauses.{Place, place, places, wiredDomain, wired}
 unfoldable pub use Rattle.wiring.specs.phys.PhyCauses.{phyPlaces, placesFrom}
 pub use Rattle.wiring.specs.phys.Checks.{checkAnswer, FileRoom}
-pub use Rattle.wiring.specs.index.AddressIndex.{IndexedFirst, IndexRoom}
+pub use Rattle.wiring.specs.index.AddressIndex.{slotsBefore, mostSlots, mostDomainPhys, IndexedFirst, IndexLeft, IndexRoom}
 pub use Rattle.wiring.specs.graph.Graph.{Steps, self}
 pub use Rattle.wiring.specs.graph.Neighbours.{neighbours, wiringCall, wiringAnswer, bitsSet}
 pub use Rattle.wiring.specs.graph.Devices.{LoopIn, ChainIn, TableToTable, Clear, ClearChain, NoTableToTable, Home, Borne}

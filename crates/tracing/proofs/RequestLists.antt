@@ -9,7 +9,7 @@ use lib.ListN.{length, getD, drop, set, length-drop}
 use lib.Seq.{sets, drop-cons}
 use lib.Dec.{leb}
 use borrow.Author.Tests.{lt-ltb, le-ltb}
-use Rattle.frames.proofs.ValuesPut.{sets-front}
+use Rattle.tables.proofs.WiringLemmas.{sets-front}
 use Rattle.tables.specs.WiringDefinitions.{bytesFor, Refusal, Result, refused, good, unless, then, refusal, Domain}
 use Rattle.tables.specs.filling.Tables.{needed}
 use Rattle.tables.specs.filling.Entries.{Entries, Room}

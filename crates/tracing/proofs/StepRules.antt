@@ -17,7 +17,7 @@ use Rattle.tracing.specs.Trace.{Request}
 use Rattle.tracing.specs.Answers.{bearingPick, listingPick, subtractingPick}
 use Rattle.tracing.specs.declared.Reason.{Reason}
 use Rattle.tracing.specs.Reasons.{because, indexOf, bySubtraction, byEntry, byPhy, reason, doneBy, stepAllowed, stepRequested, StepTold, stepTold, stepAsked, stepIn, stepCall}
-use Rattle.files.proofs.OneMore.{drop-next}
+use Rattle.tables.proofs.WiringLemmas.{drop-next}
 
 -- the index of s among the words that are left, from word k on: `inv` is the loop's invariant
 module _ (s left k from : ℕ) (l : List ℕ) {v : ℕ} (inv : k + indexOf s (take left (drop from l)) ≡ v) where

@@ -20,8 +20,7 @@ use Rattle.tables.specs.filling.Entries.{entries, counted}
 use Rattle.tables.proofs.filling.CountedWords.{counted-at, counted-length}
 use Rattle.tables.proofs.filling.TablesPut.{sizes-append}
 use Rattle.tracing.specs.Answers.{wordsBefore}
-use Rattle.files.proofs.OneMore.{drop-next}
-use Rattle.files.proofs.ListMembers.{any-append}
+use Rattle.tables.proofs.WiringLemmas.{drop-next, any-append}
 
 -- the words of the phys of expander i below a phy, one more at a time
 phys-last : (d : Domain) (i q p : ℕ) → sizes d (phyPlaces i q (suc p)) ≡ sizes d (phyPlaces i q p) + size d (place i (q + p))

@@ -13,7 +13,7 @@ use Rattle.tracing.specs.declared.Step.the-variants.{Ended, Onward}
 use Rattle.tracing.specs.Steps.{Step as Stepped, here, endDevice, bad, lost, onward, step}
 use Rattle.tracing.specs.Trace.{Traced, endingAt, after, afterStep, traceFrom, Reported}
 use Rattle.tracing.specs.Answers.{stepOf, endOf, Walked}
-use Rattle.files.proofs.OneMore.{set-next}
+use Rattle.tables.proofs.WiringLemmas.{set-next}
 
 abbrev reported : Outcome → ℕ → ℕ → ℕ → Result Reported
 reported o i p count = good (record { outcome = o; last = i; phy = p; count = count })

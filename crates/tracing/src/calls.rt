@@ -10,11 +10,11 @@ ghost use Prim.Native.Nat.{_≤_};
 ghost use lib.ListN.{length};
 ghost use Rattle.tracing.specs.Trace.{request, traceCall, TraceDone};
 ghost use Rattle.tracing.specs.Answers.{requestIn};
-ghost use Rattle.tables.specs.WiringDefinitions.{byte, domainIn, FileRoom};
+ghost use Rattle.tables.specs.WiringDefinitions.{byte, domainIn, FileRoom, IndexLeft};
 ghost use Rattle.tables.specs.filling.Entries.{entries};
 
 // Causes 7 to 12, 23, 14 and 15 to 18 of a request over rows, then the walk. A chain may have `chain` expanders. `first` and `low` have room for who has which
-// address; 16 where there is too little.
+// address, and are left as `judge_rows` leaves them; 16 where there is too little.
 pub fn request_rows(
     rows: &[u64],
     first: &mut [u16],
@@ -30,6 +30,7 @@ pub fn request_rows(
     ensures { λ r. ⌜ TraceDone
         (requestIn chain (length (now (first .entry))) (length (now (low .entry))) (domainIn (now (rows .entry))) (entries (now (words .entry)) (now (bits .entry))) (length (now (passed .entry))) (request (start .0) (arrival .0) s))
         r (now (passed .entry)) (now (passed .exit)) ⌝ }
+    ensures { λ r. ⌜ IndexLeft (domainIn (now (rows .entry))) (now (first .entry)) (now (low .entry)) (now (first .exit)) (now (low .exit)) ⌝ }
 {
     let verdict = tables::judge_rows(rows, first, low, chain);
     match verdict {
@@ -61,7 +62,7 @@ fn trace_in(
     match read {
         DomainRead::Refused(r) => TraceAnswer::Refused(r),
         DomainRead::Expanders(n) => {
-            let e = files::ROW_WORDS * (n as usize);
+            let e = tables::ROW_WORDS * (n as usize);
             let chain = setting.chain;
             request_rows(
                 &rows[..e],
@@ -96,9 +97,9 @@ fn trace_few(
         r (now (passed .entry)) (now (passed .exit)) ⌝ }
 {
     if tables::stated_count(file) <= 2 {
-        let mut rows = [0u64; files::ROWS_OF_2];
-        let mut first = [0u16; wiring::SLOTS_OF_2];
-        let mut low = [0u8; wiring::PHYS_OF_2];
+        let mut rows = [0u64; tables::ROWS_OF_2];
+        let mut first = [0u16; tables::SLOTS_OF_2];
+        let mut low = [0u8; tables::PHYS_OF_2];
         return trace_in(
             setting,
             file,
@@ -113,9 +114,9 @@ fn trace_few(
             passed,
         );
     }
-    let mut rows = [0u64; files::ROWS_OF_8];
-    let mut first = [0u16; wiring::SLOTS_OF_8];
-    let mut low = [0u8; wiring::PHYS_OF_8];
+    let mut rows = [0u64; tables::ROWS_OF_8];
+    let mut first = [0u16; tables::SLOTS_OF_8];
+    let mut low = [0u8; tables::PHYS_OF_8];
     trace_in(
         setting,
         file,
@@ -146,9 +147,9 @@ fn trace_many(
         (traceCall setting (now (file .entry)) (entries (now (words .entry)) (now (bits .entry))) (length (now (passed .entry))) (request (start .0) (arrival .0) s))
         r (now (passed .entry)) (now (passed .exit)) ⌝ }
 {
-    let mut rows = [0u64; files::ROWS_OF_64];
-    let mut first = [0u16; wiring::SLOTS_OF_64];
-    let mut low = [0u8; wiring::PHYS_OF_64];
+    let mut rows = [0u64; tables::ROWS_OF_64];
+    let mut first = [0u16; tables::SLOTS_OF_64];
+    let mut low = [0u8; tables::PHYS_OF_64];
     trace_in(
         setting,
         file,

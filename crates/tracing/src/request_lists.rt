@@ -12,7 +12,7 @@ ghost use mathlib.Core.Path.{_≡_};
 ghost use mathlib.Core.List.{_++_};
 ghost use Prim.Native.Nat.{_≤_};
 ghost use lib.ListN.{length, drop};
-ghost use Rattle.tables.specs.WiringDefinitions.{domainIn, IndexedFirst};
+ghost use Rattle.tables.specs.WiringDefinitions.{domainIn, IndexedFirst, IndexLeft};
 ghost use Rattle.tables.specs.filling.Tables.{needed};
 ghost use Rattle.tables.specs.filling.Entries.{entries, roomOf, Enough};
 ghost use Rattle.tracing.specs.Trace.{request, tracedRequest, TraceDone};
@@ -116,7 +116,7 @@ fn answer_list(
 }
 
 // Causes 7 to 12, 23 and 14, then 16 and 18, then the answer to each request: its own 15 or 17, or how it ends. A chain may have `chain`
-// expanders. `first` and `low` have room for who has which address; 16 where there is too little.
+// expanders. `first` and `low` have room for who has which address, and are left as `judge_rows` leaves them; 16 where there is too little.
 pub fn trace_list(
     rows: &[u64],
     first: &mut [u16],
@@ -130,6 +130,7 @@ pub fn trace_list(
     ensures { λ r. ⌜ ListTraced
         (listIn chain (length (now (first .entry))) (length (now (low .entry))) (domainIn (now (rows .entry))) (roomOf (entries (now (words .entry)) (now (bits .entry)))) (length (now (answers .entry))) (requestCount (now (requests .entry))))
         (entries (now (words .entry)) (now (bits .entry))) (now (requests .entry)) r (now (answers .entry)) (now (answers .exit)) ⌝ }
+    ensures { λ r. ⌜ IndexLeft (domainIn (now (rows .entry))) (now (first .entry)) (now (low .entry)) (now (first .exit)) (now (low .exit)) ⌝ }
 {
     let verdict = tables::judge_rows(rows, first, low, chain);
     match verdict {

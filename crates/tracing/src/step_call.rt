@@ -119,7 +119,7 @@ fn step_in(
     match read {
         DomainRead::Refused(r) => StepAnswer::Refused(r),
         DomainRead::Expanders(n) => {
-            let e = files::ROW_WORDS * (n as usize);
+            let e = tables::ROW_WORDS * (n as usize);
             let chain = setting.chain;
             judged_step(&rows[..e], first, low, words, bits, i, arrival, s, chain)
         }
@@ -139,9 +139,9 @@ pub fn explain_step(
 ) -> StepAnswer
     ensures { λ r. ⌜ r ≡ stepAnswerOf (stepCall setting (now (file .entry)) (entries (now (words .entry)) (now (bits .entry))) (request (i .0) (arrival .0) s)) ⌝ }
 {
-    let mut rows = [0u64; files::ROWS_OF_64];
-    let mut first = [0u16; wiring::SLOTS_OF_64];
-    let mut low = [0u8; wiring::PHYS_OF_64];
+    let mut rows = [0u64; tables::ROWS_OF_64];
+    let mut first = [0u16; tables::SLOTS_OF_64];
+    let mut low = [0u8; tables::PHYS_OF_64];
     step_in(
         setting,
         file,

@@ -3,7 +3,7 @@ use Prim.Native.Nat.{ℕ}
 use mathlib.Core.Path.{sym}
 use lib.ListN.{length-replicate}
 use lib.Seq.{length-take-le}
-use Rattle.files.specs.Rows.{mostRowWords}
+use Rattle.listing.proofs.TableLemmas.{mostRowWords}
 use Rattle.listing.proofs.TableLemmas.{read-good, opened-fits}
 use borrow.Author.Needs.{needs}
 use native.Mathlib.Omega.{arith}

@@ -80,7 +80,7 @@ returns-3 c =
     let at-if1 = c .before .before .before .before .before .before .before .before .before .before .before .before .before .before .before .before .before .if1 in
     let at-if2 = c .before .before .before .before .before .before .before .before .before .before .before .before .if2 in
     let at-trace-list = c .before .before .before .before .before .before .before .trace-list in
-    list-formed (at-args .setting) (at-args .form .now) _ (at-open-form .ensures .holds) (at-args .first .now) (at-args .low .now) (at-pre .index) (sym (at-is-in-range .ensures) ∙ not-false _ (at-if1 .left)) (sym (at-open-form .ensures .answers) ∙ not-false _ (at-if2 .left)) _ _ _ _ _ _ (at-trace-list .ensures) ((c .as-list) .ensures)
+    list-formed (at-args .setting) (at-args .form .now) _ (at-open-form .ensures .holds) (at-args .first .now) (at-args .low .now) (at-pre .index) (sym (at-is-in-range .ensures) ∙ not-false _ (at-if1 .left)) (sym (at-open-form .ensures .answers) ∙ not-false _ (at-if2 .left)) _ _ _ _ _ _ (at-trace-list .ensures .0) ((c .as-list) .ensures)
 
 pub list-in-spec : {M : Type 1} → statement M
 list-in-spec = tie.close (tie.spec is-in-range-requires refused-requires returns open-form-requires refused-requires-2 same-length returns-2 mul-e slice-reshare-prefix-trace-list slice-aggregate-trace-list trace-list-requires as-list-requires same-length-2 same-length-3 same-length-4 same-length-5 returns-3)

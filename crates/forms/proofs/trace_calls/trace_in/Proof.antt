@@ -80,7 +80,7 @@ returns-3 c =
     let at-if1 = c .before .before .before .before .before .before .before .before .before .before .before .before .before .before .before .before .before .if1 in
     let at-if2 = c .before .before .before .before .before .before .before .before .before .before .before .before .if2 in
     let at-request-rows = c .before .before .before .before .before .before .before .request-rows in
-    trace-formed (at-args .setting) (at-args .form .now) _ (at-open-form .ensures .holds) (at-args .first .now) (at-args .low .now) (at-pre .index) (sym (at-is-in-range .ensures) ∙ not-false _ (at-if1 .left)) (sym (at-open-form .ensures .answers) ∙ not-false _ (at-if2 .left)) _ _ _ _ _ _ (at-request-rows .ensures) ((c .as-trace) .ensures)
+    trace-formed (at-args .setting) (at-args .form .now) _ (at-open-form .ensures .holds) (at-args .first .now) (at-args .low .now) (at-pre .index) (sym (at-is-in-range .ensures) ∙ not-false _ (at-if1 .left)) (sym (at-open-form .ensures .answers) ∙ not-false _ (at-if2 .left)) _ _ _ _ _ _ (at-request-rows .ensures .0) ((c .as-trace) .ensures)
 
 pub trace-in-spec : {M : Type 1} → statement M
 trace-in-spec = tie.close (tie.spec is-in-range-requires refused-requires returns open-form-requires refused-requires-2 same-length returns-2 mul-e slice-reshare-prefix-request-rows slice-aggregate-request-rows request-rows-requires as-trace-requires same-length-2 same-length-3 same-length-4 same-length-5 returns-3)

@@ -6,7 +6,7 @@ use lib.ListN.{length, getD, drop, drop-of-length-le}
 use Rattle.listing.proofs.BytesPut.{Going, go-start, go-fits, go-turn, go-end}
 use Rattle.listing.proofs.text.put_bytes.Statement.{statement}
 use Rattle.listing.proofs.text.put_bytes.Tie as tie
-use Rattle.files.proofs.OneMore.{drop-next}
+use Rattle.tables.proofs.WiringLemmas.{drop-next}
 
 abbrev Inv-loop : tie.InvT-loop
 Inv-loop out₀ at text to₀ i₀ out to i = (i ≤ length text) × Going out₀ at text out to (drop i text)

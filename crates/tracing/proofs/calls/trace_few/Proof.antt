@@ -1,9 +1,7 @@
 -- trace_few meets its contract: the second byte states how many expanders there are, so the room is enough.
 use Prim.Native.Nat.{ℕ, _*_}
 use lib.ListN.{length-replicate}
-use Rattle.wiring.specs.index.AddressIndex.{slotsBefore}
-use Rattle.files.specs.Rows.{rowWords}
-use Rattle.files.specs.Settings.{mostPhys}
+use Rattle.tables.specs.WiringDefinitions.{slotsBefore, rowWords, mostPhys}
 use Rattle.tables.proofs.WiringLemmas.{stated-expanders, file-room}
 use borrow.Author.Needs.{needs}
 use native.Mathlib.Omega.{arith}

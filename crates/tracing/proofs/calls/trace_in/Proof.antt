@@ -64,7 +64,7 @@ returns-2 c =
     let at-read2 = c .before .before .before .before .before .before .before .before .before .before .before .before .read2 in
     let at-request-rows = c .before .before .before .before .before .before .request-rows in
     let o = opened-as _ _ _ _ _ _ (at-pre .rows) (at-read-domain .ensures) (at-read2 .given .1) in
-    call-done _ _ _ _ _ _ _ _ _ _ (o .0) (judged-own _ _ _ _ _ (o .0) (at-pre .index _ (o .0))) (at-request-rows .ensures)
+    call-done _ _ _ _ _ _ _ _ _ _ (o .0) (judged-own _ _ _ _ _ (o .0) (at-pre .index _ (o .0))) (at-request-rows .ensures .0)
 
 pub trace-in-spec : {M : Type 1} → statement M
 trace-in-spec = tie.close (tie.spec read-domain-requires enum-known-read enum-known-read-2 cast-e mul-e slice-reshare-prefix-request-rows slice-aggregate-request-rows request-rows-requires same-length returns same-length-2 same-length-3 same-length-4 same-length-5 returns-2)

@@ -30,7 +30,7 @@ same-length-2 c = search needs
 returns : tie.Need-returns
 returns c =
     let at-judge-rows = c .before .before .before .before .before .before .before .judge-rows in
-    list-refused _ _ _ _ _ _ _ _ _ (sym (at-judge-rows .ensures .0) ∙ ap (checkAnswer _) ((c .before .verdict) .given .1))
+    (list-refused _ _ _ _ _ _ _ _ _ (sym (at-judge-rows .ensures .0) ∙ ap (checkAnswer _) ((c .before .verdict) .given .1)), at-judge-rows .ensures .1)
 
 same-length-3 : tie.Need-same-length-3
 same-length-3 c = search needs
@@ -44,7 +44,7 @@ same-length-5 c = search needs
 returns-2 : tie.Need-returns-2
 returns-2 c =
     let at-judge-rows = c .before .before .before .before .before .before .before .before .before .before .before .judge-rows in
-    list-judged _ _ _ _ _ _ _ _ _ _ (sym (at-judge-rows .ensures .0) ∙ ap (checkAnswer _) ((c .before .before .before .before .before .enum-told) .given .1)) ((c .before .before .answer-list) .ensures)
+    (list-judged _ _ _ _ _ _ _ _ _ _ (sym (at-judge-rows .ensures .0) ∙ ap (checkAnswer _) ((c .before .before .before .before .before .enum-told) .given .1)) ((c .before .before .answer-list) .ensures), at-judge-rows .ensures .1)
 
 pub trace-list-spec : {M : Type 1} → statement M
 trace-list-spec = tie.close (tie.spec judge-rows-requires enum-known-verdict enum-told answer-list-requires same-length same-length-2 returns same-length-3 same-length-4 same-length-5 returns-2)

@@ -1,8 +1,7 @@
 -- explain_step meets its contract: a file that is read has at most 64 expanders.
 use Prim.Native.Nat.{ℕ}
 use lib.ListN.{length-replicate}
-use Rattle.wiring.specs.index.AddressIndex.{mostSlots, mostDomainPhys}
-use Rattle.files.specs.Rows.{mostRowWords}
+use Rattle.tables.specs.WiringDefinitions.{mostSlots, mostDomainPhys, mostRowWords}
 use Rattle.tables.proofs.WiringLemmas.{read-good, file-room}
 use borrow.Author.Needs.{needs}
 use native.Mathlib.Omega.{arith}
