@@ -5,8 +5,8 @@
  * valid and aligned for its length; where the length is 0 nothing is read or
  * written there, and in every call the pointer may be NULL. A lent buffer must
  * not overlap the file or another buffer of the same call. Nothing is kept
- * after a call returns. A call that takes a file or a form uses some 300,000
- * bytes of stack (docs/BENCHMARK.md has the measured bytes).
+ * after a call returns. A call that takes a file, a card or a form uses at most
+ * some 240,000 bytes of stack (docs/BENCHMARK.md has the measured bytes).
  *
  * Every call that takes a file, a card or a form takes a course's setting
  * before it: the most expanders (1 to 64), the most phys of an expander (1 to
@@ -47,7 +47,7 @@ extern "C" {
 #define METZURGO_VERSION_MINOR 1
 #define METZURGO_VERSION_PATCH 0
 #define METZURGO_VERSION                                                      \
-    ((uint64_t)METZURGO_VERSION_MAJOR << 16 | METZURGO_VERSION_MINOR << 8     \
+    (METZURGO_VERSION_MAJOR << 16 | METZURGO_VERSION_MINOR << 8               \
      | METZURGO_VERSION_PATCH)
 
 /*
