@@ -1,5 +1,5 @@
 -- The domain that is made: its file reads as it, it is accepted, and its one table is the words.
-use Prim.Native.Nat.{ℕ, zero, suc, _+_, _-_, _^_, _≤_, _<_}
+use Prim.Native.Nat.{ℕ, zero, suc, _+_, _^_, _≤_, _<_}
 use mathlib.Core.Path.{_≡_, refl, sym, ap, subst, _∙_}
 use mathlib.Core.Logic.{_⊎_, inl, inr, _≢_, _↔_, ⊎-elim, by-cases}
 use mathlib.Core.Bool.{Bool, true, false, cond, not, _||_, _&&_}

@@ -1,7 +1,7 @@
 -- What every accepted domain of the maker's kind has: at most one level, no word that is an expander's address, and at most 127 words.
 use Prim.Native.Nat.{ℕ, suc, _+_, _-_, _≤_, _<_}
 use mathlib.Core.Path.{_≡_, refl, sym, ap, subst, _∙_}
-use mathlib.Core.Logic.{_⊎_, inl, inr, _≢_, ⊎-elim, by-cases}
+use mathlib.Core.Logic.{inl, inr, _≢_, ⊎-elim, by-cases}
 use mathlib.Core.Bool.{Bool, true, false, cond, not, _||_, _&&_}
 use mathlib.Core.List.{List, [], _∷_, _++_, map, flatMap, append-nil}
 use native.Mathlib.Omega.{arith}

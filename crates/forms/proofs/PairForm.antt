@@ -1,5 +1,5 @@
 -- The pair rig as a compact form, packed by hand. Its words are taken; with one field altered, or one word more or fewer, they are not.
-use Prim.Native.Nat.{ℕ, _+_}
+use Prim.Native.Nat.{ℕ}
 use mathlib.Core.Path.{_≡_, refl}
 use mathlib.Core.Bool.{true, false}
 use mathlib.Core.List.{List, [], _∷_, _++_, flatMap}

@@ -1,5 +1,5 @@
 -- A shelf and the plain table: for every list of frames from a fresh shelf the two answer and hold the same.
-use Prim.Native.Nat.{ℕ, zero, suc, _+_, _/_, _%_, _-_, _<_, min}
+use Prim.Native.Nat.{ℕ, zero, suc, _/_, _%_, _-_, _<_, min}
 use mathlib.Core.Path.{_≡_, refl, sym, _∙_, ap}
 use mathlib.Core.Logic.{by-cases}
 use native.Mathlib.Decide.{ℕ-discrete}

@@ -1,6 +1,6 @@
 -- card_of_file reads the file into rows, and the card is that of the domain in the rows.
 use borrow.Author.Needs.{needs}
-use Prim.Native.Nat.{ℕ, _-_}
+use Prim.Native.Nat.{ℕ}
 use mathlib.Core.Path.{sym}
 use lib.ListN.{replicate, length-replicate}
 use lib.Seq.{length-take-le}

@@ -1,7 +1,6 @@
 -- put_file writes the header, then the units.
 use native.Mathlib.Omega.{arith}
 use borrow.Author.Needs.{needs}
-use Prim.Native.Nat.{_-_}
 use mathlib.Core.Path.{_∙_}
 use lib.ListN.{length-set}
 use Rattle.files.specs.Rows.{domainIn}

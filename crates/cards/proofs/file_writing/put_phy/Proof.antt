@@ -1,6 +1,5 @@
 -- put_phy writes the response of a vacant phy, or of one that is not.
 use borrow.Author.Needs.{needs}
-use Prim.Native.Nat.{_-_}
 use mathlib.Core.Path.{sym, _∙_, ap}
 use Rattle.cards.specs.ShortFrames.{shortDiscover}
 use Rattle.cards.specs.FileOf.{phyFrame}

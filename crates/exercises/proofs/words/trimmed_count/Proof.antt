@@ -1,5 +1,5 @@
 -- trimmed_count goes down from the end; its loop's invariant: the first n words trimmed are all words trimmed.
-use Prim.Native.Nat.{_≤_, _-_}
+use Prim.Native.Nat.{_≤_}
 use mathlib.Core.Path.{_≡_}
 use lib.ListN.{length, take}
 use Rattle.exercises.specs.Rig.{trimmed}

@@ -1,5 +1,4 @@
 -- is_right_field compares each case of a phy.
-use Prim.Native.Nat.{_-_}
 use mathlib.Core.Path.{sym, _∙_, ap, subst}
 use Rattle.files.specs.declared.Phy.{Phy}
 use Rattle.files.specs.Rows.{domainIn}

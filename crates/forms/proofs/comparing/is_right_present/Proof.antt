@@ -1,5 +1,4 @@
 -- is_right_present is the definition's chain of tests: the expander that the word names is looked at first.
-use Prim.Native.Nat.{_-_}
 use mathlib.Core.Path.{refl, sym, _∙_}
 use Rattle.files.specs.Rows.{domainIn}
 use Rattle.forms.proofs.WordsCompared.{right-low, right-far, wrong-far}

@@ -1,5 +1,4 @@
 -- as_list keeps each case, and its refusal as one over a form.
-use Prim.Native.Nat.{_-_}
 use mathlib.Core.Path.{sym, _∙_, ap}
 use Rattle.tracing.specs.declared.ListAnswer.the-variants.{Refused}
 use Rattle.forms.specs.FormRows.{asList}

@@ -1,5 +1,4 @@
 -- as_tables keeps each case, and its refusal as one over a form.
-use Prim.Native.Nat.{_-_}
 use mathlib.Core.Path.{sym, _∙_, ap}
 use Rattle.tables.specs.declared.TablesGiven.the-variants.{Refused}
 use Rattle.forms.specs.FormRows.{asTables}

@@ -1,5 +1,4 @@
 -- as_trace keeps each case, and its refusal as one over a form.
-use Prim.Native.Nat.{_-_}
 use mathlib.Core.Path.{sym, _∙_, ap}
 use Rattle.tracing.specs.declared.TraceAnswer.the-variants.{Refused}
 use Rattle.forms.specs.FormRows.{asTrace}

@@ -1,5 +1,4 @@
 -- of_form is the definition's test of the number.
-use Prim.Native.Nat.{_-_}
 use mathlib.Core.Path.{sym, _∙_}
 use mathlib.Core.Logic.{inl, inr}
 use Rattle.forms.proofs.BadPlaces.{late-stays, early-one}

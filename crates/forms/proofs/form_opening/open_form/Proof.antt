@@ -1,5 +1,4 @@
 -- open_form meets its contract: the rows hold what the words read as, and so the tests say what they say of it.
-use Prim.Native.Nat.{_-_}
 use mathlib.Core.Path.{sym}
 use lib.Seq.{length-take-le}
 use Rattle.forms.proofs.WordsCompared.{opens-no, opens-by}

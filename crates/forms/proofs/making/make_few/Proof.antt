@@ -1,5 +1,5 @@
 -- make_few meets its contract: the second byte states how many expanders there are, so the room is enough.
-use Prim.Native.Nat.{ℕ, _-_, _*_}
+use Prim.Native.Nat.{ℕ, _*_}
 use lib.ListN.{length-replicate}
 use Rattle.files.proofs.ReadDomain.{stated-expanders}
 use Rattle.files.specs.Rows.{rowWords}

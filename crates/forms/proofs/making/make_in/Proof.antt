@@ -1,5 +1,4 @@
 -- make_in meets its contract: the rows that the file is read into are its domain, and there is room for the entries.
-use Prim.Native.Nat.{_-_}
 use mathlib.Core.Path.{sym}
 use lib.Seq.{length-take-le}
 use Rattle.wiring.proofs.FileRows.{opened-as, opened-fits}

@@ -1,5 +1,5 @@
 -- make_many meets its contract: no domain that is read has more than 64 expanders, so the room is enough.
-use Prim.Native.Nat.{ℕ, _-_}
+use Prim.Native.Nat.{ℕ}
 use lib.ListN.{length-replicate}
 use Rattle.files.proofs.ReadDomain.{read-good}
 use Rattle.files.specs.Rows.{mostRowWords}

@@ -1,5 +1,4 @@
 -- make_rows meets its contract: the judging call's causes by own lists, then 16, then the form.
-use Prim.Native.Nat.{_-_}
 use mathlib.Core.Path.{sym, _∙_, ap}
 use Rattle.files.specs.Rows.{domainIn}
 use Rattle.wiring.specs.phys.Checks.{checkAnswer}

@@ -1,5 +1,4 @@
 -- phy_back is the definition's chain of tests.
-use Prim.Native.Nat.{_-_}
 use Rattle.forms.proofs.FormRows.{back-vacant, back-empty, back-present}
 use borrow.Author.Needs.{needs}
 use Rattle.forms.proofs.reading.phy_back.Statement.{statement}

@@ -1,5 +1,5 @@
 -- put_row meets its contract: address and second word stored in front, then the phys.
-use Prim.Native.Nat.{ℕ, _+_, _-_, _*_, _/_, _%_}
+use Prim.Native.Nat.{ℕ, _+_, _*_, _/_, _%_}
 use mathlib.Core.Path.{refl, _∙_, ap}
 use lib.ListN.{length-set}
 use Rattle.forms.proofs.FormRows.{row-held}

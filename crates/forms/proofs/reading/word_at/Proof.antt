@@ -1,5 +1,4 @@
 -- word_at meets its contract: past the end there is no word.
-use Prim.Native.Nat.{_-_}
 use mathlib.Core.Path.{sym}
 use lib.ListN.{List·getD-eq-default}
 use borrow.Author.Needs.{needs}

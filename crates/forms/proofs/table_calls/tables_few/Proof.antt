@@ -1,5 +1,5 @@
 -- tables_few meets its contract: the room is enough for so many expanders.
-use Prim.Native.Nat.{ℕ, _-_, _*_}
+use Prim.Native.Nat.{ℕ, _*_}
 use lib.ListN.{length-replicate}
 use Rattle.wiring.specs.index.AddressIndex.{slotsBefore}
 use Rattle.files.specs.Rows.{rowWords}

@@ -1,5 +1,5 @@
 -- tables_many meets its contract: the room is enough for 64 expanders.
-use Prim.Native.Nat.{ℕ, _-_}
+use Prim.Native.Nat.{ℕ}
 use lib.ListN.{length-replicate}
 use Rattle.wiring.specs.index.AddressIndex.{mostSlots, mostDomainPhys}
 use Rattle.files.specs.Rows.{mostRowWords}

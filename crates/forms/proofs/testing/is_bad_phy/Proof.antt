@@ -1,5 +1,4 @@
 -- is_bad_phy asks the file's test of a phy that is not vacant.
-use Prim.Native.Nat.{_-_}
 use mathlib.Core.Path.{sym, _∙_, ap}
 use mathlib.Core.Bool.{not}
 use Rattle.forms.specs.FormCalls.{badPhy}

@@ -1,5 +1,4 @@
 -- is_bad_unit is the definition's chain of tests in its order.
-use Prim.Native.Nat.{_-_}
 use mathlib.Core.Path.{refl, sym, _∙_, ap}
 use borrow.Author.Tests.{eq-eqb, ne-eqb, not-true, not-false}
 use Rattle.files.specs.Domain.{expanderAt, numberOf}

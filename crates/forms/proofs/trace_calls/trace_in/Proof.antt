@@ -1,5 +1,4 @@
 -- trace_in meets its contract: the rows hold what the form reads as, and the refusals of judging are 1.
-use Prim.Native.Nat.{_-_}
 use mathlib.Core.Path.{sym, _∙_}
 use lib.Seq.{length-take-le}
 use borrow.Author.Tests.{not-true, not-false}

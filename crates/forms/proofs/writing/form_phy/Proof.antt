@@ -1,5 +1,4 @@
 -- form_phy writes each case of a phy; who is attached, the entries tell.
-use Prim.Native.Nat.{_-_}
 use mathlib.Core.Path.{sym, _∙_, subst}
 use Rattle.files.specs.Domain.{phyAt}
 use Rattle.files.specs.Rows.{domainIn}
