@@ -1,4 +1,6 @@
 // Rig cards: a domain as a row of bits. Cards of files, and files of cards.
+#![tactic(auto)]
+
 mod bits;
 mod card_call;
 mod card_rows;
@@ -23,7 +25,7 @@ pub(crate) const HEAD_SIZE: usize = 88;
 pub(crate) const MOST_PHY_SIZE: usize = 78;
 
 // What making a card or a file answers: its length in bytes.
-#[derive(Drop)]
+#[derive(Clone, Copy)]
 pub enum Made {
     Refused(Refusal),
     Bytes(usize),
@@ -31,7 +33,7 @@ pub enum Made {
 
 // What a walk through an expander's phys on a card finds: the bit after them, whether no vacant one's result is zero, and how
 // many come before the first of which 6 holds.
-#[derive(Drop)]
+#[derive(Clone, Copy)]
 pub struct PhysWalk {
     pub next: usize,
     pub fine: bool,
@@ -39,7 +41,7 @@ pub struct PhysWalk {
 }
 
 // What a walk through a card finds: the bit after its phys, whether no vacant one's result is zero, and the first of 3, 4 and 6.
-#[derive(Drop)]
+#[derive(Clone, Copy)]
 pub struct CardWalk {
     pub at: usize,
     pub fine: bool,

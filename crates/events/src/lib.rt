@@ -1,4 +1,6 @@
 // Drives plugged and pulled: events that edit a domain file and its tables.
+#![tactic(auto)]
+
 mod calls;
 mod writing;
 
@@ -6,7 +8,7 @@ pub use calls::apply_event;
 use tables::{ExpanderNumber, PhyId, Refusal};
 
 // An event names an expander, a phy and the address of a drive; address zero pulls the drive.
-#[derive(Drop)]
+#[derive(Clone, Copy)]
 pub struct Event {
     pub expander: ExpanderNumber,
     pub phy: PhyId,
@@ -14,7 +16,7 @@ pub struct Event {
 }
 
 // What an event answers: the number of tables touched, and of words changed.
-#[derive(Drop)]
+#[derive(Clone, Copy)]
 pub enum EventAnswer {
     Refused(Refusal),
     Counts(u32, u32),

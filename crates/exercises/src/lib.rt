@@ -1,4 +1,6 @@
 // Makes an exercise from its solution: a rig whose one table is a given list of words.
+#![tactic(auto)]
+
 mod making;
 mod rows;
 mod words;

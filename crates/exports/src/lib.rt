@@ -1,5 +1,7 @@
 // The C interface: each function answers one number, the packing (`specs/Packing`) of what its call
 // answers.
+#![tactic(auto)]
+
 mod packing;
 
 ghost use Rattle.std.specs.Prelude.{◌≡◌, length};

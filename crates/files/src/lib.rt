@@ -1,4 +1,6 @@
 // Reads a domain file into rows, and shows rows as a domain.
+#![tactic(auto)]
+
 mod file;
 mod refusals;
 mod rows;
@@ -39,7 +41,7 @@ pub const ROWS_OF_64: usize = 64 * ROW_WORDS;
 
 // A course's setting: the most expanders of a domain, the most phys of an expander, and the longest chain
 // in expanders.
-#[derive(Drop)]
+#[derive(Clone, Copy)]
 pub struct Setting {
     pub expanders: u8,
     pub phys: u8,
@@ -48,7 +50,7 @@ pub struct Setting {
 
 // The fields of a phy that is not vacant: attached device type, routing attribute, attached
 // address, attached phy identifier.
-#[derive(Drop)]
+#[derive(Clone, Copy)]
 pub struct PhyFields {
     pub device_type: u8,
     pub attribute: u8,
@@ -57,14 +59,14 @@ pub struct PhyFields {
 }
 
 // A vacant phy keeps its function result.
-#[derive(Drop)]
+#[derive(Clone, Copy)]
 pub enum Phy {
     Vacant(u8),
     Present(PhyFields),
 }
 
 // The fields of an expander's unit: address, route indexes R, number of phys, configurable bit.
-#[derive(Drop)]
+#[derive(Clone, Copy)]
 pub struct ExpanderUnit {
     pub address: u64,
     pub route_indexes: u16,
@@ -73,28 +75,28 @@ pub struct ExpanderUnit {
 }
 
 // What reading a domain file answers: the number of expanders.
-#[derive(Drop)]
+#[derive(Clone, Copy)]
 pub enum DomainRead {
     Refused(Refusal),
     Expanders(u8),
 }
 
 // What reading a phy's unit answers: the phy, and the place after the unit.
-#[derive(Drop)]
+#[derive(Clone, Copy)]
 pub enum PhyRead {
     Refused(Refusal),
     Read(Phy, usize),
 }
 
 // What reading an expander's unit answers: the unit, and the place after it.
-#[derive(Drop)]
+#[derive(Clone, Copy)]
 pub enum ExpanderRead {
     Refused(Refusal),
     Read(ExpanderUnit, usize),
 }
 
 // What testing the phys of an expander answers: the place after them.
-#[derive(Drop)]
+#[derive(Clone, Copy)]
 pub enum PhysCheck {
     Refused(Refusal),
     Passed(usize),

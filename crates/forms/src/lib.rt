@@ -1,4 +1,6 @@
 // The compact form of an accepted domain: decode once, trace many.
+#![tactic(auto)]
+
 mod comparing;
 mod form_opening;
 mod list_calls;
@@ -16,7 +18,7 @@ pub use trace_calls::form_trace;
 use wiring::Refusal;
 
 // What making a form answers: the number of expanders, and of words.
-#[derive(Drop)]
+#[derive(Clone, Copy)]
 pub enum FormMade {
     Refused(Refusal),
     Counts(u8, u32),

@@ -1,5 +1,7 @@
 // SMP frames, each by itself: REPORT GENERAL and DISCOVER responses are read, CONFIGURE ROUTE INFORMATION requests are
 // written and read. Also bits packed into bytes, of which disable bits are made.
+#![tactic(auto)]
+
 mod bits;
 mod bytes;
 pub mod codes;
@@ -33,19 +35,19 @@ pub const LONG_DISCOVER_BYTES: usize = 64;
 pub const ROUTE_BYTES: usize = 40;
 
 // A phy identifier: which phy of an expander.
-#[derive(Drop)]
+#[derive(Clone, Copy)]
 pub struct PhyId(pub u8);
 
 // A route index: which entry of a phy's routing table.
-#[derive(Drop)]
+#[derive(Clone, Copy)]
 pub struct RouteIndex(pub u16);
 
 // An expander number: which expander of a domain file, from 0.
-#[derive(Drop)]
+#[derive(Clone, Copy)]
 pub struct ExpanderNumber(pub u8);
 
 // A refusal: "number, expander, phy".
-#[derive(Drop)]
+#[derive(Clone, Copy)]
 pub struct Refusal {
     pub number: u8,
     pub expander: ExpanderNumber,
@@ -53,14 +55,14 @@ pub struct Refusal {
 }
 
 // Which response a frame is.
-#[derive(Drop)]
+#[derive(Clone, Copy)]
 pub enum Response {
     ReportGeneral,
     Discover,
 }
 
 // What finding a frame's size answers: how many bytes it has.
-#[derive(Drop)]
+#[derive(Clone, Copy)]
 pub enum SizeRead {
     Refused(Refusal),
     Size(usize),
@@ -68,7 +70,7 @@ pub enum SizeRead {
 
 // The fields of a REPORT GENERAL response: how many route indexes each phy has (R), how many phys
 // there are, and the configurable bit.
-#[derive(Drop)]
+#[derive(Clone, Copy)]
 pub struct General {
     pub route_indexes: u16,
     pub phys: u8,
@@ -76,7 +78,7 @@ pub struct General {
 }
 
 // What reading a REPORT GENERAL response answers.
-#[derive(Drop)]
+#[derive(Clone, Copy)]
 pub enum GeneralRead {
     Refused(Refusal),
     Read(General),
@@ -84,14 +86,14 @@ pub enum GeneralRead {
 
 // The fields that the SAS-2 reader shows of a long REPORT GENERAL response: TABLE TO TABLE SUPPORTED and
 // CONFIGURES OTHERS, a bit each.
-#[derive(Drop)]
+#[derive(Clone, Copy)]
 pub struct LongGeneral {
     pub table_to_table: u8,
     pub configures_others: u8,
 }
 
 // What the SAS-2 reader of a REPORT GENERAL response answers: a short frame has no more fields.
-#[derive(Drop)]
+#[derive(Clone, Copy)]
 pub enum GeneralReadSas2 {
     Refused(Refusal),
     Short(General),
@@ -100,7 +102,7 @@ pub enum GeneralReadSas2 {
 
 // The fields of a DISCOVER response: phy identifier, attached device type, own address, attached
 // address, attached phy identifier, routing attribute.
-#[derive(Drop)]
+#[derive(Clone, Copy)]
 pub struct Discover {
     pub identifier: PhyId,
     pub device_type: u8,
@@ -111,7 +113,7 @@ pub struct Discover {
 }
 
 // What reading a DISCOVER response answers. A vacant phy is reported with its non-zero function result.
-#[derive(Drop)]
+#[derive(Clone, Copy)]
 pub enum DiscoverRead {
     Refused(Refusal),
     Vacant(u8),
@@ -120,7 +122,7 @@ pub enum DiscoverRead {
 
 // The fields of a CONFIGURE ROUTE INFORMATION request: REQUEST LENGTH (00h or 09h), phy, route index, the entry's
 // address, and whether the entry is disabled.
-#[derive(Drop)]
+#[derive(Clone, Copy)]
 pub struct Route {
     pub length: u8,
     pub phy: PhyId,
@@ -130,14 +132,14 @@ pub struct Route {
 }
 
 // What reading a CONFIGURE ROUTE INFORMATION request answers.
-#[derive(Drop)]
+#[derive(Clone, Copy)]
 pub enum RouteRead {
     Refused(Refusal),
     Read(Route),
 }
 
 // What writing a CONFIGURE ROUTE INFORMATION request answers.
-#[derive(Drop)]
+#[derive(Clone, Copy)]
 pub enum RouteWrite {
     Refused(Refusal),
     Written,

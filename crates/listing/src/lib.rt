@@ -1,5 +1,7 @@
 // The text of routing tables: a line for each table word, the line of totals, the refusal line, and the
 // line for an input that is too long.
+#![tactic(auto)]
+
 mod entries;
 mod lines;
 mod text;
@@ -21,7 +23,7 @@ pub const LINE_BYTES: usize = 80;
 pub const CHUNK_BYTES: usize = 65536;
 
 // Where a listing goes on: an entry of a routing table, and the number of its word.
-#[derive(Drop)]
+#[derive(Clone, Copy)]
 pub struct Cursor {
     pub expander: ExpanderNumber,
     pub phy: PhyId,
@@ -30,7 +32,7 @@ pub struct Cursor {
 }
 
 // What putting a chunk of lines answers: where the listing goes on, and the place after the text.
-#[derive(Drop)]
+#[derive(Clone, Copy)]
 pub struct Chunk {
     pub next: Cursor,
     pub end: usize,

@@ -1,5 +1,7 @@
 // Reads a domain file on standard input and lists the entries of its routing tables. Where reading or
 // writing fails, one line on standard error says so.
+#![tactic(auto)]
+
 ghost use Rattle.io.specs.Counts.{IsPrefixLen};
 
 use listing::{DomainRead, Refusal, TablesGiven};
@@ -11,7 +13,7 @@ const MOST_INPUT: usize = 65536;
 const TABLE_WORDS: usize = 8192;
 
 // What reading standard input gives: how many bytes were read, and whether a read failed then.
-#[derive(Drop)]
+#[derive(Clone, Copy)]
 struct Input {
     length: usize,
     failed: bool,

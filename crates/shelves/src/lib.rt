@@ -1,5 +1,7 @@
 // A software shelf: an expander without cables that answers CONFIGURE ROUTE INFORMATION requests, and holds what they
 // load.
+#![tactic(auto)]
+
 mod entries;
 mod loading;
 mod making;
@@ -25,7 +27,7 @@ pub(crate) const SHELF_ENTRIES: usize = SHELF_PHYS * SHELF_INDEXES;
 // phys there are. Every byte belongs to a field, and whatever stands there is a shelf: phys past 16 and route indexes past
 // 64 do not exist.
 #[repr(C)]
-#[derive(Drop)]
+#[derive(Clone, Copy)]
 pub struct Shelf {
     pub entries: [u64; crate::SHELF_ENTRIES],
     pub disabled: [u8; crate::SHELF_ENTRIES],
@@ -35,14 +37,14 @@ pub struct Shelf {
 }
 
 // What a shelf answers: a refusal, or a function result.
-#[derive(Drop)]
+#[derive(Clone, Copy)]
 pub enum Answer {
     Refused(Refusal),
     Result(u8),
 }
 
 // A shelf, and what it answered.
-#[derive(Drop)]
+#[derive(Clone, Copy)]
 pub struct Stepped {
     pub shelf: Shelf,
     pub answer: Answer,

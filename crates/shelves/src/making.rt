@@ -85,5 +85,8 @@ pub(crate) fn make(shelf: Shelf, phys: u8, route_indexes: u16, kinds: &[u8]) -> 
     if !is_told(phys, route_indexes, kinds) {
         return stepped_to(shelf, Answer::Refused(frames::refused(3)));
     }
-    stepped_to(fresh_shelf(phys, route_indexes, kinds), Answer::Result(0x00))
+    stepped_to(
+        fresh_shelf(phys, route_indexes, kinds),
+        Answer::Result(0x00),
+    )
 }

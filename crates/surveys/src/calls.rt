@@ -12,7 +12,7 @@ use tables::TablesGiven;
 use wiring::{Check, DomainRead, Refusal, Setting};
 
 // Of an accepted file: the number of tables, the number of words, and where one of them belongs.
-#[derive(Drop)]
+#[derive(Clone, Copy)]
 enum Survey {
     Refused(Refusal),
     Accepted(u32, u32, WordPlace),

@@ -1,4 +1,6 @@
 // What the tables of an accepted file are, without writing them: how many tables and words, and which entry a word is.
+#![tactic(auto)]
+
 mod calls;
 mod word_places;
 
@@ -6,7 +8,7 @@ pub use calls::{needed, word_place};
 use wiring::{ExpanderNumber, PhyId, Refusal, RouteIndex};
 
 // An entry of a table: its expander, phy and route index.
-#[derive(Drop)]
+#[derive(Clone, Copy)]
 pub struct Entry {
     pub expander: ExpanderNumber,
     pub phy: PhyId,
@@ -14,7 +16,7 @@ pub struct Entry {
 }
 
 // What asking for a word of the tables answers: the entry that it is.
-#[derive(Drop)]
+#[derive(Clone, Copy)]
 pub enum WordPlace {
     Refused(Refusal),
     At(Entry),

@@ -7,7 +7,7 @@ use crate::{Entry, WordPlace};
 use wiring::{ExpanderNumber, PhyId, RouteIndex};
 
 // What going through the tables of one expander gives: the entry, or how many words are left to go.
-#[derive(Drop)]
+#[derive(Clone, Copy)]
 enum Sought {
     At(Entry),
     Left(u64),

@@ -1,4 +1,6 @@
 // Level lists, routing tables, the judging call and the table call.
+#![tactic(auto)]
+
 mod calls;
 pub mod events;
 pub mod filling;
@@ -51,21 +53,21 @@ pub(crate) const ORDER_OF_8: usize = 8 * MOST_DOWNSTREAM + 1;
 pub(crate) const ORDER_OF_64: usize = 64 * MOST_DOWNSTREAM + 1;
 
 // What the judging call answers: the number of expanders.
-#[derive(Drop)]
+#[derive(Clone, Copy)]
 pub enum Judgement {
     Refused(Refusal),
     Expanders(u8),
 }
 
 // What the table call answers: the number of tables, and of words.
-#[derive(Drop)]
+#[derive(Clone, Copy)]
 pub enum TablesGiven {
     Refused(Refusal),
     Counts(u32, u32),
 }
 
 // What a drive plugged or pulled over rows answers: the number of tables touched, and of words changed.
-#[derive(Drop)]
+#[derive(Clone, Copy)]
 pub enum Replugged {
     Refused(Refusal),
     Counts(u32, u32),

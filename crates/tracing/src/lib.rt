@@ -1,4 +1,6 @@
 // Connection requests, traced over lent table words.
+#![tactic(auto)]
+
 mod calls;
 mod packing;
 mod reasons;
@@ -24,7 +26,7 @@ pub use tables::{
 
 // What an expander does with a request: it ends there, with its outcome and phy (255 unless arrived at an end device), or goes
 // on to an expander with its arrival phy.
-#[derive(Drop)]
+#[derive(Clone, Copy)]
 pub enum Step {
     Ended(Outcome, PhyId),
     Onward(ExpanderNumber, PhyId),
@@ -32,7 +34,7 @@ pub enum Step {
 
 // Why an expander does what it does: the rule, 1 to 5 for (i) to (v), the phy picked (255 where there is none), and the
 // route index of the entry that matched (65535 where there is none).
-#[derive(Drop)]
+#[derive(Clone, Copy)]
 pub struct Reason {
     pub rule: u8,
     pub phy: PhyId,
@@ -40,14 +42,14 @@ pub struct Reason {
 }
 
 // What the call on one expander's step answers: the reason, and the step.
-#[derive(Drop)]
+#[derive(Clone, Copy)]
 pub enum StepAnswer {
     Refused(Refusal),
     Told(Reason, Step),
 }
 
 // The outcome of a request: arrived, NO DESTINATION, BAD DESTINATION.
-#[derive(Drop)]
+#[derive(Clone, Copy)]
 pub enum Outcome {
     Arrived,
     NoDestination,
@@ -56,7 +58,7 @@ pub enum Outcome {
 
 // How a request ends: outcome, last expander, phy (255 unless arrived at an end device), and the
 // count of expanders passed.
-#[derive(Drop)]
+#[derive(Clone, Copy)]
 pub struct End {
     pub outcome: Outcome,
     pub last: ExpanderNumber,
@@ -65,14 +67,14 @@ pub struct End {
 }
 
 // What the trace call answers: how the request ends.
-#[derive(Drop)]
+#[derive(Clone, Copy)]
 pub enum TraceAnswer {
     Refused(Refusal),
     Ended(End),
 }
 
 // What tracing a list of requests answers: how many requests there are.
-#[derive(Drop)]
+#[derive(Clone, Copy)]
 pub enum ListAnswer {
     Refused(Refusal),
     Requests(usize),

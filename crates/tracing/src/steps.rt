@@ -13,7 +13,7 @@ use crate::{Outcome, Step};
 use tables::{ExpanderNumber, Phy, PhyId, words_before};
 
 // The phy that a step picks, if any.
-#[derive(Drop)]
+#[derive(Clone, Copy)]
 pub(crate) enum Pick {
     At(PhyId),
     Nowhere,

@@ -1,4 +1,6 @@
 // Judges the wiring of a domain in rows.
+#![tactic(auto)]
+
 pub mod graph;
 pub mod index;
 pub mod phys;
@@ -51,14 +53,14 @@ pub const PHYS_OF_8: usize = 8 * PHY_SLOTS;
 pub const PHYS_OF_64: usize = 64 * PHY_SLOTS;
 
 // What testing a domain for some causes answers.
-#[derive(Drop)]
+#[derive(Clone, Copy)]
 pub enum Check {
     Refused(Refusal),
     Passed,
 }
 
 // What the wiring call answers: how many bits are set in all.
-#[derive(Drop)]
+#[derive(Clone, Copy)]
 pub enum Wiring {
     Refused(Refusal),
     Bits(u64),

@@ -18,7 +18,7 @@ use crate::levels::{downstream, order};
 use wiring::{ExpanderNumber, Phy, PhyId};
 
 // How far the tables gone through reach, how many of them were touched, and how many words changed.
-#[derive(Drop)]
+#[derive(Clone, Copy)]
 struct Tally {
     at: usize,
     tables: usize,

@@ -11,7 +11,7 @@ ghost use Rattle.tables.specs.filling.WordsChanged.{changed, copied, Replaced};
 use wiring::{ExpanderNumber, PhyId};
 
 // How many words of a part are written, and how many of them changed.
-#[derive(Drop)]
+#[derive(Clone, Copy)]
 struct Copied {
     at: usize,
     words: usize,
