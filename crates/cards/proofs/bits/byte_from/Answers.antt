@@ -1,0 +1,17 @@
+-- byte_from puts the byte that bit `at` stands in and the next one behind each other, and takes the eight bits.
+use native.Mathlib.Omega.{arith}
+use Rattle.cards.proofs.BitPlaces.{byte-from}
+use Rattle.cards.proofs.bits.byte_from.Goals as goal
+
+pub overflow_mul-v : goal.overflow_mul-v
+overflow_mul-v c = omega (arith, c.byte_at.ensures)
+
+pub overflow_add-v : goal.overflow_add-v
+overflow_add-v c = omega (arith, c.byte_at.ensures, c.byte_at-2.ensures)
+
+pub returns : goal.returns
+returns c =
+    let a = c.args in
+    let x = c.byte_at.ensures in
+    let y = c.byte_at-2.ensures in
+    (byte-from a.s.now a.at _ _ x.0 x.1 y.0 y.1, omega arith)

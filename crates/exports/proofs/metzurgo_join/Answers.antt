@@ -1,0 +1,17 @@
+-- metzurgo_join answers the packing of what join answers, and leaves the bytes that it leaves.
+use mathlib.Core.Path.{sym, ◌∙◌, ap}
+use Rattle.exports.specs.Packing.{packed, number}
+use Rattle.benches.specs.JoinCall.{joining_answer}
+use Rattle.exports.proofs.metzurgo_join.Goals as goal
+
+pub returns-in-Refused : goal.returns-in-Refused
+returns-in-Refused c =
+    let done = rw c.setting-course.ensures at c.join-answer.ensures in
+    let e = sym done.answers ∙ ap joining_answer c.in-Refused.is in
+    (c.refusal.ensures ∙ sym (ap (packed number) e), done.bytes)
+
+pub returns-in-Bytes : goal.returns-in-Bytes
+returns-in-Bytes c =
+    let done = rw c.setting-course.ensures at c.join-answer.ensures in
+    let e = sym done.answers ∙ ap joining_answer c.in-Bytes.is in
+    (sym (ap (packed number) e), done.bytes)

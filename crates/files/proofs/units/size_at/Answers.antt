@@ -1,0 +1,28 @@
+-- size_at finds the size by the first four bytes of the frame, then asks whether so many are there: one return for each test that fails, and the size.
+use mathlib.Core.Path.{sym, ◌∙◌, ap}
+use native.Mathlib.Omega.{arith}
+use borrow.Author.Tests.{not-true, not-false}
+use Rattle.frames.specs.Sizes.{frame_size, size_answer}
+use Rattle.files.proofs.UnitReading.{rest-whole, size-cut, size-refused, size-by}
+use Rattle.files.proofs.units.size_at.Goals as goal
+
+pub returns-then-file-from : goal.returns-then-file-from
+returns-then-file-from c = let a = c.args in c.size_refused.ensures ∙ sym (size-cut a.kind a.file.now a.from (omega arith))
+
+pub returns-then-not-has_bytes : goal.returns-then-not-has_bytes
+returns-then-not-has_bytes c =
+    let a = c.args in
+    let e = ap (frame_size a.kind) (sym (rest-whole a.file.now a.from)) ∙ sym c.frame_size-size.ensures ∙ ap size_answer c.in-Size.is in
+    c.size_refused-then-not-has_bytes.ensures ∙ sym (size-by a.kind a.file.now a.from _ e (omega arith) (sym c.has_bytes.ensures ∙ not-true _ c.if-not-has_bytes.true-raw))
+
+pub returns-in-Refused : goal.returns-in-Refused
+returns-in-Refused c =
+    let a = c.args in
+    let e = ap (frame_size a.kind) (sym (rest-whole a.file.now a.from)) ∙ sym c.frame_size-size.ensures ∙ ap size_answer c.in-Refused.is in
+    sym (size-refused a.kind a.file.now a.from _ e)
+
+pub returns-else-not-has_bytes : goal.returns-else-not-has_bytes
+returns-else-not-has_bytes c =
+    let a = c.args in
+    let e = ap (frame_size a.kind) (sym (rest-whole a.file.now a.from)) ∙ sym c.frame_size-size.ensures ∙ ap size_answer c.in-Size.is in
+    sym (size-by a.kind a.file.now a.from _ e (omega arith) (sym c.has_bytes.ensures ∙ not-false _ c.if-not-has_bytes.false-raw))

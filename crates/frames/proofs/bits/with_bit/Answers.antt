@@ -1,0 +1,25 @@
+-- with_bit takes the bit away by its mask and puts the other in its place.
+use Prim.Native.Nat.{ℕ, ◌%◌, ◌<◌}
+use mathlib.Core.Path.{sym, subst}
+use native.Mathlib.Omega.{arith}
+use lib.Bits.{and_le_l}
+use Rattle.frames.proofs.SetBits.{bit_worth, with_is, with_bit_lt}
+use Rattle.frames.proofs.bits.with_bit.Goals as goal
+
+pub overflow_sub-result : goal.overflow_sub-result
+overflow_sub-result c = and_le_l c.args.byte c.weight-m.result
+
+pub overflow_mul-result : goal.overflow_mul-result
+overflow_mul-result c = omega (arith, bit_worth c.weight-m.result (c.args.b % 2) (omega arith))
+
+pub overflow_add-result : goal.overflow_add-result
+overflow_add-result c = omega (arith, bit_worth c.weight-m.result (c.args.b % 2) (omega arith))
+
+pub overflow_cast-result : goal.overflow_cast-result
+overflow_cast-result c =
+    let x = c.args in
+    let e = with_is x.byte c.weight-m.result (x.b % 2) _ c.weight-m.ensures.0 in
+    record { fits = subst (λ (y : ℕ). y < 256) (sym e) (with_bit_lt x.byte (x.k % 8) (x.b % 2) (omega arith) (omega arith) (omega arith)) }
+
+pub returns : goal.returns
+returns c = with_is _ _ _ _ c.weight-m.ensures.0

@@ -1,0 +1,17 @@
+-- survey_few: the second byte states how many expanders there are, so the room is enough.
+use Prim.Native.Nat.{ℕ, ◌*◌}
+use lib.ListN.{length-replicate}
+use Rattle.files.proofs.ReadDomain.{stated-expanders}
+use Rattle.files.specs.Rows.{row_words}
+use Rattle.files.specs.Settings.{most_phys}
+use Rattle.wiring.proofs.FileRows.{file-room}
+use Rattle.wiring.specs.index.AddressIndex.{slots_before}
+use native.Mathlib.Omega.{arith}
+use Rattle.surveys.proofs.calls.survey_few.Goals as goal
+
+pub survey_in-requires : goal.survey_in-requires
+survey_in-requires c =
+    let a = c.args in
+    let f = a.file.now in
+    file-room a.setting 8 f _ _ _ (λ d e. omega (arith, stated-expanders a.setting f d e, c.requires))
+    (omega (arith, length-replicate {A = ℕ} (8 * row_words) 0)) (omega (arith, length-replicate {A = ℕ} (slots_before 8) 0)) (omega (arith, length-replicate {A = ℕ} (8 * most_phys) 0))

@@ -1,0 +1,33 @@
+-- trace_rows meets its contract: past causes 15 to 18 there is a byte for each expander, as walk wants.
+use mathlib.Core.Path.{sym, ◌∙◌, ap}
+use lib.ListN.{length}
+use Rattle.tables.specs.WiringDefinitions.{Domain}
+use Rattle.tables.specs.WiringDefinitions.{domain_in}
+use Rattle.tables.specs.WiringDefinitions.{check_answer}
+use Rattle.tables.specs.filling.Entries.{entries, room_of}
+use Rattle.tracing.specs.Trace.{request}
+use Rattle.tracing.proofs.RequestCauses.{room, answer_no, answer_yes}
+use Rattle.tracing.proofs.requests.trace_rows.Goals as goal
+
+pub walk-requires : goal.walk-requires
+walk-requires c =
+    let at_pre = c.requires in
+    let a = c.args in
+    let d : Domain = domain_in a.rows.now in
+    let e = ap (check_answer d) (sym c.in-Passed.is) ∙ c.check_request.ensures in
+    (at_pre, room (room_of (entries a.words.now a.bits.now)) (length a.passed.now) (request a.start.0 a.arrival.0 a.s) d e)
+
+pub returns-in-Refused : goal.returns-in-Refused
+returns-in-Refused c =
+    let a = c.args in
+    let d : Domain = domain_in a.rows.now in
+    answer_no d (entries a.words.now a.bits.now) (request a.start.0 a.arrival.0 a.s) a.passed.now
+    (ap (check_answer d) (sym c.in-Refused.is) ∙ c.check_request.ensures)
+
+pub returns-in-Passed : goal.returns-in-Passed
+returns-in-Passed c =
+    let a = c.args in
+    let d : Domain = domain_in a.rows.now in
+    let e = c.check_request.ensures in
+    answer_yes d (entries a.words.now a.bits.now) (request a.start.0 a.arrival.0 a.s) a.passed.now
+    (ap (check_answer d) (sym c.in-Passed.is) ∙ e) c.walk.ensures

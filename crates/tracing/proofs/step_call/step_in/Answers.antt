@@ -1,0 +1,29 @@
+-- step_in meets its contract: the rows that the file is read into are its domain, and there is room for the entries.
+use mathlib.Core.Path.{sym, ◌∙◌, ap}
+use lib.Seq.{length-take-le}
+use Rattle.tables.proofs.WiringLemmas.{opened_as, opened-fits}
+use Rattle.tables.proofs.lists.LevelListsByOwn.{judged_own}
+use Rattle.tracing.specs.Reasons.{step_answer_of}
+use Rattle.tracing.proofs.StepRules.{file_no, file_yes}
+use Rattle.tracing.proofs.step_call.step_in.Goals as goal
+
+pub slice_bounds-judged_step-end : goal.slice_bounds-judged_step-end
+slice_bounds-judged_step-end c =
+    let at_pre = c.requires in
+    opened-fits _ _ _ _ _ _ at_pre.rows c.read_domain-read.ensures c.in-Expanders.is c.read_domain-read.auto.rows
+
+pub slice_bounds-judged_step-end-in-Expanders : goal.slice_bounds-judged_step-end-in-Expanders
+slice_bounds-judged_step-end-in-Expanders c =
+    let at_pre = c.requires in
+    sym (length-take-le _ c.read_domain-read.new.rows (opened-fits _ _ _ _ _ _ at_pre.rows c.read_domain-read.ensures c.in-Expanders.is c.read_domain-read.auto.rows))
+
+pub returns-in-Refused : goal.returns-in-Refused
+returns-in-Refused c =
+    let at_pre = c.requires in
+    ap step_answer_of (file_no _ _ _ _ _ (opened_as _ _ _ _ _ _ at_pre.rows c.read_domain-read.ensures c.in-Refused.is))
+
+pub returns-in-Expanders : goal.returns-in-Expanders
+returns-in-Expanders c =
+    let at_pre = c.requires in
+    let o = opened_as _ _ _ _ _ _ at_pre.rows c.read_domain-read.ensures c.in-Expanders.is in
+    c.judged_step.ensures ∙ ap step_answer_of (file_yes _ _ _ _ _ _ _ o.0 (judged_own _ _ _ _ _ o.0 (at_pre.index _ o.0)))

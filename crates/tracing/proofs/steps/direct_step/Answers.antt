@@ -1,0 +1,31 @@
+-- direct_step meets its contract: the phy that (ii) picks bears the address, so it is attached; without one the table step follows.
+use mathlib.Core.Path.{sym, ◌∙◌, ap}
+use Rattle.tables.specs.WiringDefinitions.{Domain, domain_in}
+use Rattle.tables.specs.filling.Entries.{entries, counted}
+use Rattle.tracing.specs.Steps.{Step}
+use Rattle.tracing.specs.Answers.{pick_answer, table_step}
+use Rattle.tracing.proofs.PhyPicks.{bearing-attached, direct-at, direct-none}
+use Rattle.tracing.proofs.steps.direct_step.Goals as goal
+
+pub arrive_unless-requires : goal.arrive_unless-requires
+arrive_unless-requires c =
+    let at_pre = c.requires in
+    let a = c.args in
+    let e = ap pick_answer (sym c.in-At.is) ∙ c.pick_bearing.ensures in
+    (at_pre, bearing-attached (domain_in a.rows.now) a.i.0 a.s e)
+
+pub returns-in-At : goal.returns-in-At
+returns-in-At c =
+    let a = c.args in
+    let d : Domain = domain_in a.rows.now in
+    let after : Step = table_step d (counted (entries a.words.now a.bits.now)) a.i.0 a.came a.s in
+    let e = ap pick_answer (sym c.in-At.is) ∙ c.pick_bearing.ensures in
+    c.arrive_unless.ensures ∙ direct-at d a.i.0 a.came after e
+
+pub returns-in-Nowhere : goal.returns-in-Nowhere
+returns-in-Nowhere c =
+    let a = c.args in
+    let d : Domain = domain_in a.rows.now in
+    let after : Step = table_step d (counted (entries a.words.now a.bits.now)) a.i.0 a.came a.s in
+    let e = ap pick_answer (sym c.in-Nowhere.is) ∙ c.pick_bearing.ensures in
+    c.table_step.ensures ∙ direct-none d a.i.0 a.came after e

@@ -1,0 +1,34 @@
+-- neighbour_word meets its contract. The loop's invariant: w is the set of the neighbours below j.
+use Prim.Native.Nat.{◌-◌}
+use mathlib.Core.Logic.{⊎_elim}
+use mathlib.Core.Path.{◌≡◌, refl, sym, ◌∙◌, ap}
+use lib.ListN.{length}
+use Rattle.wiring.specs.graph.Neighbours.{neighbours}
+use Rattle.files.specs.Rows.{domain_in}
+use Rattle.wiring.proofs.graph.NeighbourWords.{bit-go, bit_skip}
+use Rattle.wiring.proofs.graph.WordSets.{word_below, neighbour_word_lem}
+use native.Mathlib.Omega.{arith}
+use Rattle.wiring.proofs.graph.neighbours.neighbour_word.Goals as goal
+
+pub loop-j-init : goal.loop-j-init
+unfolding word_below
+loop-j-init c = (omega arith, refl)
+
+pub are_neighbours-requires : goal.are_neighbours-requires
+are_neighbours-requires c =
+    let pre = c.requires in
+    (pre.0, (pre.1, omega (arith, c.expander_count-n.ensures.0)))
+
+pub loop-j-preserved : goal.loop-j-preserved
+loop-j-preserved c =
+    let a = c.args in
+    let t = neighbours (domain_in a.rows.now) a.i.0 in
+    let q = sym c.are_neighbours.ensures in
+    (omega arith, ⊎_elim (λ w. w.1 ∙ bit-go t c.loop-j.w c.loop-j.j c.loop-j.invariant.1 (omega arith) (q ∙ w.0.taken)) (λ w. w.1 ∙ bit_skip t c.loop-j.w c.loop-j.j c.loop-j.invariant.1 (q ∙ w.0.left)) c.if-are_neighbours.branch)
+
+pub returns : goal.returns
+returns c =
+    let a = c.args in
+    let d = domain_in a.rows.now in
+    let e : c.loop-j.j ≡ length d = omega arith in
+    c.loop-j.invariant.1 ∙ ap (word_below (neighbours d a.i.0)) e ∙ sym (neighbour_word_lem d a.i.0)
