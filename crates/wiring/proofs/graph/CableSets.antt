@@ -2,7 +2,7 @@
 use Prim.Native.Nat.{ℕ, suc, ◌+◌, ◌-◌, ◌*◌, ◌/◌, ◌%◌, ◌^◌, ◌≤◌, ◌<◌, max}
 use mathlib.Core.Path.{◌≡◌, refl, sym, ◌∙◌, ap, ap₂}
 use mathlib.Core.Logic.{by_cases}
-use mathlib.Core.Bool.{true, false, ◌||◌, ◌&&◌, or_false}
+use mathlib.Core.Bool.{true, false, ◌||◌, ◌&&◌, or-false}
 use mathlib.Core.List.{List, [], ◌∷◌}
 use native.Mathlib.Decide.{ℕ_discrete, dec_lt}
 use native.Mathlib.Omega.{arith}
@@ -67,7 +67,7 @@ module _ (d : Domain) where
   module _ (φ : Phy) where
     one-phy : (w : ℕ) → ((m : ℕ) → m < 64 → has_bit w m ≡ leads_to d m φ) → CableSet d (φ ∷ []) w
     unfolding any
-    one-phy w e = record { bit = λ m h. e m h ∙ sym (or_false (leads_to d m φ)) }
+    one-phy w e = record { bit = λ m h. e m h ∙ sym (or-false (leads_to d m φ)) }
 
     pub far_no : type_of φ < 2 → CableSet d (φ ∷ []) 0
     far_no h = one-phy 0 (λ m l. no_bit m ∙ rw (lt-leb 2 (type_of φ) h))

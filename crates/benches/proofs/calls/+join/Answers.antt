@@ -15,7 +15,7 @@ pub join-requires : goal.join-requires
 join-requires t c =
     let at_pre = c.requires in
     let at-args = c.args in
-    (omega (arith, at_pre.0, c.if-first-gt2.true, length-take-le 2 at-args.first.now (omega (arith, c.if-first-gt2.true))), tt)
+    (omega (arith, c.if-first-gt2.true, length-take-le 2 at-args.first.now (omega (arith, c.if-first-gt2.true))), tt)
 
 pub returns-then-first-gt2 : goal.returns-then-first-gt2
 returns-then-first-gt2 t c =

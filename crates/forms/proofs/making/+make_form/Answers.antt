@@ -18,7 +18,7 @@ pub make_form-requires : goal.make_form-requires
 make_form-requires t c =
     let at_pre = c.requires in
     let at-args = c.args in
-    (omega (arith, at_pre.0, c.if-file-gt2.true, length-take-le 2 at-args.file.now (omega (arith, c.if-file-gt2.true))), tt)
+    (omega (arith, c.if-file-gt2.true, length-take-le 2 at-args.file.now (omega (arith, c.if-file-gt2.true))), tt)
 
 pub returns-then-file-gt2 : goal.returns-then-file-gt2
 unfolding form_call

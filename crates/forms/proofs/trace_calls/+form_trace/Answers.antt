@@ -17,7 +17,7 @@ pub form_trace-requires : goal.form_trace-requires
 form_trace-requires t c =
     let at_pre = c.requires in
     let at-args = c.args in
-    (omega (arith, at_pre.0, c.if-form-gt-ROWS_OF_64.true, length-take-le 0 at-args.form.now (omega arith)), tt)
+    (omega (arith, c.if-form-gt-ROWS_OF_64.true, length-take-le 0 at-args.form.now (omega arith)), tt)
 
 pub returns-then-form-gt-ROWS_OF_64 : goal.returns-then-form-gt-ROWS_OF_64
 returns-then-form-gt-ROWS_OF_64 t c =

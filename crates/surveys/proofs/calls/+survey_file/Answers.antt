@@ -17,7 +17,7 @@ pub survey_file-requires : goal.survey_file-requires
 survey_file-requires t c =
     let at_pre = c.requires in
     let at-args = c.args in
-    (omega (arith, at_pre.0, c.if-file-gt2.true, length-take-le 2 at-args.file.now (omega (arith, c.if-file-gt2.true))), tt)
+    (omega (arith, c.if-file-gt2.true, length-take-le 2 at-args.file.now (omega (arith, c.if-file-gt2.true))), tt)
 
 pub returns-then-file-gt2 : goal.returns-then-file-gt2
 returns-then-file-gt2 t c =

@@ -29,7 +29,7 @@ slice_bounds-wire-end t c = let at-args = c.args in sym (length-take-le 2 at-arg
 
 pub wire-requires : goal.wire-requires
 unfolding wiring_call
-wire-requires t c = let h = c.if-file-gt2.true in (omega (arith, c.requires.0, length-take-le 2 c.args.file.now (omega arith)), tt)
+wire-requires t c = let h = c.if-file-gt2.true in (omega (arith, length-take-le 2 c.args.file.now (omega arith)), tt)
 
 pub shape_of-words-then-file-gt2 : goal.shape_of-words-then-file-gt2
 unfolding wiring_call

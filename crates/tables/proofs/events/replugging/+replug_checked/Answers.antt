@@ -6,7 +6,7 @@ use Rattle.tables.proofs.events.replugging.+replug_checked.Goals as goal
 pub replug_checked-requires : goal.replug_checked-requires
 replug_checked-requires t c =
     let at_pre = c.requires in
-    (omega (arith, at_pre.0, c.if-p-gt128.true), at_pre.1)
+    (omega (arith, c.if-p-gt128.true), at_pre)
 
 pub returns-then-p-gt128 : goal.returns-then-p-gt128
 returns-then-p-gt128 t c =
@@ -16,9 +16,9 @@ returns-then-p-gt128 t c =
 pub replug_few-requires : goal.replug_few-requires
 replug_few-requires t c =
     let at_pre = c.requires in
-    (omega (arith, c.expander_count.ensures.0, c.if-expander_count-le8.true), at_pre.1)
+    (omega (arith, c.expander_count.ensures.0, c.if-expander_count-le8.true), at_pre)
 
 pub replug_many-requires : goal.replug_many-requires
 replug_many-requires t c =
     let at_pre = c.requires in
-    at_pre.1
+    at_pre

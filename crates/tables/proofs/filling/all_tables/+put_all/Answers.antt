@@ -15,7 +15,7 @@ pub put_all-requires : goal.put_all-requires
 put_all-requires t c =
     let at-args = c.args in
     let at_pre = c.requires in
-    let ws = at-args.rows.now in (omega (arith, at_pre.0, length-take-le most_row_words ws (omega (arith, c.if-rows-gt-ROWS_OF_64.true))), rw (rows_cut ws c.if-rows-gt-ROWS_OF_64.true) at_pre.1)
+    let ws = at-args.rows.now in (omega (arith, length-take-le most_row_words ws (omega (arith, c.if-rows-gt-ROWS_OF_64.true))), rw (rows_cut ws c.if-rows-gt-ROWS_OF_64.true) at_pre)
 
 pub returns-then-rows-gt-ROWS_OF_64 : goal.returns-then-rows-gt-ROWS_OF_64
 returns-then-rows-gt-ROWS_OF_64 t c =
@@ -25,9 +25,9 @@ returns-then-rows-gt-ROWS_OF_64 t c =
 pub put_few-requires : goal.put_few-requires
 put_few-requires t c =
     let at_pre = c.requires in
-    (omega (arith, c.expander_count.ensures.0, c.if-expander_count-le8.true), at_pre.1)
+    (omega (arith, c.expander_count.ensures.0, c.if-expander_count-le8.true), at_pre)
 
 pub put_many-requires : goal.put_many-requires
 put_many-requires t c =
     let at_pre = c.requires in
-    at_pre.1
+    at_pre

@@ -1,6 +1,5 @@
 -- neighbour_word meets its contract. The loop's invariant: w is the set of the neighbours below j.
 use Prim.Native.Nat.{◌-◌}
-use mathlib.Core.Logic.{⊎_elim}
 use mathlib.Core.Path.{◌≡◌, refl, sym, ◌∙◌, ap}
 use lib.ListN.{length}
 use Rattle.wiring.specs.graph.Neighbours.{neighbours}
@@ -9,6 +8,7 @@ use Rattle.wiring.proofs.graph.NeighbourWords.{bit-go, bit_skip}
 use Rattle.wiring.proofs.graph.WordSets.{word_below, neighbour_word_lem}
 use native.Mathlib.Omega.{arith}
 use Rattle.wiring.proofs.graph.neighbours.neighbour_word.Goals as goal
+use Rattle.wiring.proofs.graph.neighbours.neighbour_word.Goals.{then-are_neighbours, else-are_neighbours}
 
 pub loop-j-init : goal.loop-j-init
 unfolding word_below
@@ -24,7 +24,10 @@ loop-j-preserved c =
     let a = c.args in
     let t = neighbours (domain_in a.rows.now) a.i.0 in
     let q = sym c.are_neighbours.ensures in
-    (omega arith, ⊎_elim (λ w. w.1 ∙ bit-go t c.loop-j.w c.loop-j.j c.loop-j.invariant.1 (omega arith) (q ∙ w.0.taken)) (λ w. w.1 ∙ bit_skip t c.loop-j.w c.loop-j.j c.loop-j.invariant.1 (q ∙ w.0.left)) c.if-are_neighbours.branch)
+    (omega arith, elim c.if-are_neighbours.branch [
+      then-are_neighbours w ↦ w.w-is ∙ bit-go t c.loop-j.w c.loop-j.j c.loop-j.invariant.1 (omega arith) (q ∙ w.if-are_neighbours.true)
+      | else-are_neighbours w ↦ w.w-is ∙ bit_skip t c.loop-j.w c.loop-j.j c.loop-j.invariant.1 (q ∙ w.if-are_neighbours.false)
+    ])
 
 pub returns : goal.returns
 returns c =

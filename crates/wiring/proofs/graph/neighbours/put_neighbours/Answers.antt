@@ -53,7 +53,7 @@ unfolding neighbour_words
 returns c =
     let a = c.args in
     let d = domain_in a.rows.now in
-    let e : c.loop-i.i ≡ length d = omega arith in (
-      c.loop-i.invariant.3 ∙ ap (λ (n : ℕ). bits_in (map (neighbour_word d) (numbers 0 n))) e,
-      c.loop-i.invariant.4 ∙ ap (λ (n : ℕ). map (neighbour_word d) (numbers 0 n) ++ drop n a.words.now) e,
-    )
+    let e : c.loop-i.i ≡ length d = omega arith in record {
+      value = c.loop-i.invariant.3 ∙ ap (λ (n : ℕ). bits_in (map (neighbour_word d) (numbers 0 n))) e;
+      words_after = c.loop-i.invariant.4 ∙ ap (λ (n : ℕ). map (neighbour_word d) (numbers 0 n) ++ drop n a.words.now) e;
+    }

@@ -1,6 +1,5 @@
 -- round meets its contract. The loop's invariant: `next` is the set of those among the first v expanders that belong to it.
 use Prim.Native.Nat.{◌-◌}
-use mathlib.Core.Logic.{⊎_elim}
 use mathlib.Core.Path.{◌≡◌, refl, sym, ◌∙◌, ap}
 use native.Mathlib.Omega.{arith}
 use lib.ListN.{length}
@@ -11,6 +10,7 @@ use Rattle.wiring.specs.graph.Neighbours.{neighbours}
 use Rattle.wiring.specs.graph.Rounds.{members, round_test}
 use Rattle.files.specs.Rows.{domain_in}
 use Rattle.wiring.proofs.graph.rounds.round.Goals as goal
+use Rattle.wiring.proofs.graph.rounds.round.Goals.{then-is_next, else-is_next}
 
 pub loop-v-init : goal.loop-v-init
 unfolding word_below
@@ -33,10 +33,10 @@ loop-v-preserved c =
         c.loop-v.invariant.1.0,
         (
           c.loop-v.invariant.1.1.0,
-          ⊎_elim
-              (λ k. k.1 ∙ bit-go t c.loop-v.next c.loop-v.v c.loop-v.invariant.1.1.1 (omega arith) (sym e ∙ k.0.taken))
-              (λ k. k.1 ∙ bit_skip t c.loop-v.next c.loop-v.v c.loop-v.invariant.1.1.1 (sym e ∙ k.0.left))
-              c.if-is_next.branch,
+          elim c.if-is_next.branch [
+            then-is_next k ↦ k.next-is ∙ bit-go t c.loop-v.next c.loop-v.v c.loop-v.invariant.1.1.1 (omega arith) (sym e ∙ k.if-is_next.true)
+            | else-is_next k ↦ k.next-is ∙ bit_skip t c.loop-v.next c.loop-v.v c.loop-v.invariant.1.1.1 (sym e ∙ k.if-is_next.false)
+          ],
         ),
       ),
     )
