@@ -1,7 +1,7 @@
 -- Walking through a card: one phy more, one expander more, and the ends.
 use Prim.Native.Nat.{ℕ, suc, ◌+◌, ◌-◌, ◌*◌, ◌≤◌, ◌<◌}
 use mathlib.Core.Path.{◌≡◌, sym, ◌∙◌, ap}
-use mathlib.Core.Bool.{Bool, true, cond, ◌&&◌, and_true, and_assoc}
+use mathlib.Core.Bool.{Bool, true, cond, ◌&&◌, and-true, and_assoc}
 use mathlib.Core.List.{List, [], ◌∷◌, ◌++◌}
 use native.Mathlib.Omega.{arith}
 use lib.ListN.{length, take, drop, set, replicate}
@@ -60,7 +60,7 @@ module _ (l : List ℕ) (n p at : ℕ) where
 
   pub fine_end : (fine v : Bool) → (fine && results_fine (phys_on (n - p) (drop at l))) ≡ v → n ≤ p → fine ≡ v
   unfolding results_fine
-  fine_end fine v inv h = sym (ap (λ (φs : List Phy). fine && results_fine φs) (no_phys l at n p h) ∙ and_true fine) ∙ inv
+  fine_end fine v inv h = sym (ap (λ (φs : List Phy). fine && results_fine φs) (no_phys l at n p h) ∙ and-true fine) ∙ inv
 
   pub count-go : (r s v k : ℕ) → r ≤ p → cond (eqb r p) (p + ranged_count (phys_on (n - p) (drop at l))) r ≡ v → k ≡ cond (eqb r p && phy_ranged (phy_on (drop at l))) (r + 1) r → s ≡ phy_size (phy_on (drop at l)) → p < n
       → (k ≤ p + 1) × (cond (eqb k (p + 1)) (p + 1 + ranged_count (phys_on (n - (p + 1)) (drop (at + s) l))) k ≡ v)
@@ -159,6 +159,6 @@ module _ (most : Setting) (l before : List ℕ) (d : Domain) (n i at : ℕ) (row
         words = sym (ap (λ (x : Domain). sets rows (row_words * i) (rows_of x)) w) ∙ inv.words;
         place = omega (arith, inv.place);
         few = f;
-        results = sym (ap (λ (x : Domain). fine && all_fine x) w ∙ and_true fine) ∙ inv.results;
+        results = sym (ap (λ (x : Domain). fine && all_fine x) w ∙ and-true fine) ∙ inv.results;
         tests = λ k. sym (ap (λ (x : Domain). after_check check (units_tested most i (take i used) x k)) w) ∙ inv.tests k;
       }

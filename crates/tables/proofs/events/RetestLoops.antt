@@ -3,7 +3,7 @@
 use Prim.Native.Nat.{ℕ, zero, suc, ◌+◌, ◌-◌, ◌*◌, ◌≤◌, ◌<◌}
 use mathlib.Core.Path.{◌≡◌, refl, sym, ◌∙◌, ap, ap₂}
 use mathlib.Core.Logic.{by_cases}
-use mathlib.Core.Bool.{Bool, true, false, ◌||◌, ◌&&◌, or_assoc, or_false}
+use mathlib.Core.Bool.{Bool, true, false, ◌||◌, ◌&&◌, or_assoc, or-false}
 use mathlib.Core.List.{List, [], ◌∷◌, ◌++◌}
 use native.Mathlib.Decide.{dec_lt}
 use native.Mathlib.Omega.{arith}
@@ -75,7 +75,7 @@ module _ (k : ℕ) (d : Domain) (i : ℕ) where
 -- before the first expander
 pub taken_start : (s : ℕ) (d : Domain) {t : Bool} → t ≡ ltb (number_of d s) (length d) → t ≡ is_taken d 0 s
 unfolding any
-taken_start s d e = e ∙ sym (or_false (ltb (number_of d s) (length d)))
+taken_start s d e = e ∙ sym (or-false (ltb (number_of d s) (length d)))
 
 -- 8 of one address at one expander
 module _ (s : ℕ) (d : Domain) (i : ℕ) where
@@ -100,7 +100,7 @@ module _ (s : ℕ) (d : Domain) (i : ℕ) where
       let y : Bool = any (end_at s) (take i d) in
       let n : take (i + 1) d ≡ take i d ++ (expander_at d i ∷ []) = rw add-one (take-suc d i no_expander h) in
       let z : any (end_at s) (take (i + 1) d) ≡ (y || end_at s (expander_at d i)) =
-      ap (any (end_at s)) n ∙ any_append (end_at s) (take i d) (expander_at d i ∷ []) ∙ ap (λ (b : Bool). y || b) (or_false (end_at s (expander_at d i))) in
+      ap (any (end_at s)) n ∙ any_append (end_at s) (take i d) (expander_at d i ∷ []) ∙ ap (λ (b : Bool). y || b) (or-false (end_at s (expander_at d i))) in
       ap₂ ◌||◌ p (q ∙ found-end a e) ∙ or_assoc x y (end_at s (expander_at d i)) ∙ ap (λ (b : Bool). x || b) (sym z)
 
   -- one turn

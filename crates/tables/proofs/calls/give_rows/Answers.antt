@@ -8,18 +8,18 @@ use Rattle.tables.proofs.calls.give_rows.Goals as goal
 
 pub returns-then-words-needed : goal.returns-then-words-needed
 returns-then-words-needed c =
-    (
-      own_few _ _ _ (sym c.judge_rows-verdict.ensures.result_value ∙ ap (check_answer _) c.in-Passed.is) (omega (arith, c.needed_words-needed.ensures.0)) _ c.refuse.ensures,
-      c.judge_rows-verdict.ensures.index_left,
-    )
+    record {
+      own_done = own_few _ _ _ (sym c.judge_rows-verdict.ensures.result_value ∙ ap (check_answer _) c.in-Passed.is) (omega (arith, c.needed_words-needed.ensures.0)) _ c.refuse.ensures;
+      index_left = c.judge_rows-verdict.ensures.index_left;
+    }
 
 pub returns-then-bits-bytes_for : goal.returns-then-bits-bytes_for
 returns-then-bits-bytes_for c =
-    (
-      own_few-bits _ _ _ (sym c.judge_rows-verdict.ensures.result_value ∙ ap (check_answer _) c.in-Passed.is) (omega (arith, c.needed_words-needed.ensures.0))
-          (omega (arith, c.needed_words-needed.ensures.0, c.bytes_for.ensures)) _ c.refuse-then-bits-bytes_for.ensures,
-      c.judge_rows-verdict.ensures.index_left,
-    )
+    record {
+      own_done = own_few-bits _ _ _ (sym c.judge_rows-verdict.ensures.result_value ∙ ap (check_answer _) c.in-Passed.is) (omega (arith, c.needed_words-needed.ensures.0))
+          (omega (arith, c.needed_words-needed.ensures.0, c.bytes_for.ensures)) _ c.refuse-then-bits-bytes_for.ensures;
+      index_left = c.judge_rows-verdict.ensures.index_left;
+    }
 
 pub put_all-requires : goal.put_all-requires
 put_all-requires c =
@@ -34,13 +34,16 @@ slice_bounds-mark_zeros-end-in-Passed c = sym (length-take-le _ c.put_all.new.wo
 
 pub returns-in-Refused : goal.returns-in-Refused
 returns-in-Refused c =
-    (own_refused _ _ _ _ (sym c.judge_rows-verdict.ensures.result_value ∙ ap (check_answer _) c.in-Refused.is), c.judge_rows-verdict.ensures.index_left)
+    record {
+      own_done = own_refused _ _ _ _ (sym c.judge_rows-verdict.ensures.result_value ∙ ap (check_answer _) c.in-Refused.is);
+      index_left = c.judge_rows-verdict.ensures.index_left;
+    }
 
 pub returns-else-bits-bytes_for : goal.returns-else-bits-bytes_for
 returns-else-bits-bytes_for c =
-    (
-      own_done_lem _ _ _ (sym c.judge_rows-verdict.ensures.result_value ∙ ap (check_answer _) c.in-Passed.is) _ _ _ _
+    record {
+      own_done = own_done_lem _ _ _ (sym c.judge_rows-verdict.ensures.result_value ∙ ap (check_answer _) c.in-Passed.is) _ _ _ _
           (record { words = omega (arith, c.needed_words-needed.ensures.0); bits = omega (arith, c.needed_words-needed.ensures.0, c.bytes_for.ensures) })
-          c.table_count-count.ensures.0 c.needed_words-needed.ensures.0 c.put_all.ensures c.mark_zeros.ensures,
-      c.judge_rows-verdict.ensures.index_left,
-    )
+          c.table_count-count.ensures.0 c.needed_words-needed.ensures.0 c.put_all.ensures c.mark_zeros.ensures;
+      index_left = c.judge_rows-verdict.ensures.index_left;
+    }

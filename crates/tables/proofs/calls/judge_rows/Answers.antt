@@ -11,8 +11,14 @@ first_overlong-requires c =
 
 pub returns-in-Refused : goal.returns-in-Refused
 returns-in-Refused c =
-    (sym (own_checked _ _ _ _ _ (sym c.check_domain-checked.ensures.result_value ∙ ap (check_answer _) c.in-Refused.is)), c.check_domain-checked.ensures.index_left)
+    record {
+      result_value = sym (own_checked _ _ _ _ _ (sym c.check_domain-checked.ensures.result_value ∙ ap (check_answer _) c.in-Refused.is));
+      index_left = c.check_domain-checked.ensures.index_left;
+    }
 
 pub returns-in-Passed : goal.returns-in-Passed
 returns-in-Passed c =
-    (c.first_overlong.ensures ∙ sym (own_checked _ _ _ _ _ (sym c.check_domain-checked.ensures.result_value ∙ ap (check_answer _) c.in-Passed.is)), c.check_domain-checked.ensures.index_left)
+    record {
+      result_value = c.first_overlong.ensures ∙ sym (own_checked _ _ _ _ _ (sym c.check_domain-checked.ensures.result_value ∙ ap (check_answer _) c.in-Passed.is));
+      index_left = c.check_domain-checked.ensures.index_left;
+    }

@@ -13,9 +13,17 @@ replug_checked-requires c =
 pub returns-in-Refused : goal.returns-in-Refused
 returns-in-Refused c =
     let at-args = c.args in
-    let u = unchecked _ at-args.e.0 at-args.p.0 at-args.a (domain_in at-args.rows.now) _ _ _ _ (sym c.check_domain-checked.ensures.result_value ∙ ap (check_answer _) c.in-Refused.is) in (rows_stay _ _ _ _ _ _ u.0, (replug-refused _ _ _ _ u.1, c.check_domain-checked.ensures.index_left))
+    let u = unchecked _ at-args.e.0 at-args.p.0 at-args.a (domain_in at-args.rows.now) _ _ _ _ (sym c.check_domain-checked.ensures.result_value ∙ ap (check_answer _) c.in-Refused.is) in record {
+      rows_after = rows_stay _ _ _ _ _ _ u.0;
+      replug_done = replug-refused _ _ _ _ u.1;
+      index_left = c.check_domain-checked.ensures.index_left;
+    }
 
 pub returns-in-Passed : goal.returns-in-Passed
 returns-in-Passed c =
     let at-args = c.args in
-    let u = as_run _ at-args.e.0 at-args.p.0 at-args.a (domain_in at-args.rows.now) _ _ _ _ (sym c.check_domain-checked.ensures.result_value ∙ ap (check_answer _) c.in-Passed.is) in (rows_as _ _ _ _ _ _ _ u.0 c.replug_checked.ensures.rows, (replug_as _ _ _ _ _ _ u.1 c.replug_checked.ensures.done, c.check_domain-checked.ensures.index_left))
+    let u = as_run _ at-args.e.0 at-args.p.0 at-args.a (domain_in at-args.rows.now) _ _ _ _ (sym c.check_domain-checked.ensures.result_value ∙ ap (check_answer _) c.in-Passed.is) in record {
+      rows_after = rows_as _ _ _ _ _ _ _ u.0 c.replug_checked.ensures.rows;
+      replug_done = replug_as _ _ _ _ _ _ u.1 c.replug_checked.ensures.done;
+      index_left = c.check_domain-checked.ensures.index_left;
+    }

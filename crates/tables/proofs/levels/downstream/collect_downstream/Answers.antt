@@ -1,6 +1,5 @@
 -- collect_below meets its contract. The loop's invariant: the numbers so far are those below by the phys below p, each once.
 use Prim.Native.Nat.{◌+◌, ◌-◌, ◌<◌}
-use mathlib.Core.Logic.{⊎_elim}
 use mathlib.Core.Path.{sym, ◌∙◌}
 use Rattle.files.specs.Domain.{Domain}
 use Rattle.files.specs.Rows.{domain_in}
@@ -8,6 +7,7 @@ use Rattle.files.proofs.RowsAsDomain.{phy-held, domain-few}
 use Rattle.tables.proofs.levels.DownstreamCollected.{Collected, collect_start, collect_go, collect_skip, collect_end}
 use native.Mathlib.Omega.{arith}
 use Rattle.tables.proofs.levels.downstream.collect_downstream.Goals as goal
+use Rattle.tables.proofs.levels.downstream.collect_downstream.Goals.{then-q-p, else-q-p}
 
 pub loop-p-init : goal.loop-p-init
 loop-p-init c = (omega arith, collect_start (domain_in c.args.rows.now) c.args.i.0 c.args.part.now c.requires.1)
@@ -28,7 +28,10 @@ loop-p-preserved c =
     let a = c.args in
     let n = c.phy_count-n.ensures in
     let d : Domain = domain_in a.rows.now in
-    let got : Collected d a.i.0 (c.loop-p.p + 1) c.if-q-p.m c.if-q-p.part = ⊎_elim (λ w. rw (w.5, w.6) (collect_go d a.i.0 c.loop-p.p c.loop-p.invariant.1 c.phy_in_row-f.result (c.phy_in_row-f.ensures ∙ phy-held _ _ _ (omega arith)) w.2.ensures (omega arith))) (λ w. rw (w.1, w.2) (let low : c.lower_phy-q.result.0 < c.loop-p.p = omega (arith, w.0) in collect_skip d a.i.0 c.loop-p.p c.loop-p.invariant.1 c.lower_phy-q.result.0 low (c.lower_phy-q.ensures low) (omega arith))) c.if-q-p.branch in
+    let got : Collected d a.i.0 (c.loop-p.p + 1) c.if-q-p.m c.if-q-p.part = elim c.if-q-p.branch [
+      then-q-p w ↦ rw (w.m-is, w.part-is) (collect_go d a.i.0 c.loop-p.p c.loop-p.invariant.1 c.phy_in_row-f.result (c.phy_in_row-f.ensures ∙ phy-held _ _ _ (omega arith)) w.add_phy-m.ensures (omega arith))
+      | else-q-p w ↦ rw (w.m-is, w.part-is) (let low : c.lower_phy-q.result.0 < c.loop-p.p = omega (arith, w.if-q-p.false) in collect_skip d a.i.0 c.loop-p.p c.loop-p.invariant.1 c.lower_phy-q.result.0 low (c.lower_phy-q.ensures low) (omega arith))
+    ] in
     (omega arith, got)
 
 pub shape_of-part : goal.shape_of-part

@@ -2,13 +2,13 @@
 use Prim.Native.Nat.{ℕ, ◌+◌, ◌-◌, ◌≤◌, ◌<◌}
 use mathlib.Core.Bool.{Bool, true, false, cond}
 use mathlib.Core.List.{List}
-use mathlib.Core.Logic.{⊎_elim}
 use mathlib.Core.Path.{◌≡◌, refl, sym}
 use native.Mathlib.Omega.{arith}
 use lib.ListN.{length, get_or, drop}
 use Rattle.files.specs.Lists.{is_in}
 use Rattle.files.proofs.UnitReading.{in_stop, in_go, in_end}
 use Rattle.tables.proofs.levels.downstream.has_number.Goals as goal
+use Rattle.tables.proofs.levels.downstream.has_number.Goals.{then-l-i, else-l-i}
 
 -- what a turn of the loop keeps, where the number is found and where it is not, and what is known after the last
 module _ (a i : ℕ) (l : List ℕ) {v : Bool} where
@@ -32,10 +32,10 @@ loop-i-preserved c =
     let a = c.args in
     let h : c.loop-i.i < length a.l.now = c.loop-i-test.true in (
       omega arith,
-      ⊎_elim
-          (λ w. rw w.1 (found-stop a.j.0 c.loop-i.i a.l.now c.loop-i.found c.loop-i.invariant.1 (sym w.0.taken) h))
-          (λ w. rw w.1 (found-go a.j.0 c.loop-i.i a.l.now c.loop-i.found c.loop-i.invariant.1 (λ e. w.0.left (sym e)) h))
-          c.if-l-i.branch,
+      elim c.if-l-i.branch [
+        then-l-i w ↦ rw w.found-is (found-stop a.j.0 c.loop-i.i a.l.now c.loop-i.found c.loop-i.invariant.1 (sym w.if-l-i.true) h)
+        | else-l-i w ↦ rw w.found-is (found-go a.j.0 c.loop-i.i a.l.now c.loop-i.found c.loop-i.invariant.1 (λ e. w.if-l-i.false (sym e)) h)
+      ],
     )
 
 pub returns : goal.returns

@@ -1,6 +1,6 @@
 -- are_one_link meets its contract: the addresses, and whether the levels go on at each, tell.
 use mathlib.Core.Path.{refl, sym, ◌∙◌, ap}
-use mathlib.Core.Bool.{◌&&◌, and_true, and-false}
+use mathlib.Core.Bool.{◌&&◌, and-true, and-false}
 use borrow.Author.Tests.{eq-eqb, ne_eqb, not-true, not-false}
 use Rattle.files.specs.Domain.{address_of}
 use Rattle.files.specs.Rows.{domain_in}
@@ -37,4 +37,4 @@ returns c =
     let f = c.phy_address.ensures in
     let g = c.phy_address-2.ensures in
     let same = eq-eqb (address_of a.f) (address_of a.g) (omega arith) in
-    c.is_down-2.ensures ∙ sym (linked-by (domain_in a.rows.now) a.f a.g (sym c.is_down.ensures ∙ not-false _ c.if-not-is_down.false-raw) refl same ∙ and_true _)
+    c.is_down-2.ensures ∙ sym (linked-by (domain_in a.rows.now) a.f a.g (sym c.is_down.ensures ∙ not-false _ c.if-not-is_down.false-raw) refl same ∙ and-true _)
