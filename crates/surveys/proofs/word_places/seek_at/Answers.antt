@@ -15,7 +15,7 @@ pub loop-p-init : goal.loop-p-init
 loop-p-init c = (omega arith, λ after. rw (sub-zero c.phy_count-n.result))
 
 pub returns-then-left-size : goal.returns-then-left-size
-returns-then-left-size c =
+returns-then-left-size c after =
     let a = c.args in
     let d : Domain = domain_in a.rows.now in
     let n : ℕ = c.phy_count-n.result in
@@ -30,7 +30,7 @@ loop-p-preserved c =
     (omega arith, λ after. rw c.size_at-size.ensures.0 (seek_go d a.i.0 n c.loop-p.p c.loop-p.left after (c.loop-p.invariant.1 after) (omega (arith, c.size_at-size.ensures.0)) (omega arith)))
 
 pub returns : goal.returns
-returns c =
+returns c after =
     let a = c.args in
     let d : Domain = domain_in a.rows.now in
     let n : ℕ = c.phy_count-n.result in

@@ -11,8 +11,14 @@ trace_rows-requires c =
 
 pub returns-in-Refused : goal.returns-in-Refused
 returns-in-Refused c =
-    (rows-refused _ _ _ _ _ _ _ _ (sym c.judge_rows-verdict.ensures.result_value ∙ ap (check_answer _) c.in-Refused.is), c.judge_rows-verdict.ensures.index_left)
+    record {
+      trace_done = rows-refused _ _ _ _ _ _ _ _ (sym c.judge_rows-verdict.ensures.result_value ∙ ap (check_answer _) c.in-Refused.is);
+      index_left = c.judge_rows-verdict.ensures.index_left;
+    }
 
 pub returns-in-Passed : goal.returns-in-Passed
 returns-in-Passed c =
-    (rows-done _ _ _ _ _ _ _ _ _ (sym c.judge_rows-verdict.ensures.result_value ∙ ap (check_answer _) c.in-Passed.is) c.trace_rows.ensures, c.judge_rows-verdict.ensures.index_left)
+    record {
+      trace_done = rows-done _ _ _ _ _ _ _ _ _ (sym c.judge_rows-verdict.ensures.result_value ∙ ap (check_answer _) c.in-Passed.is) c.trace_rows.ensures;
+      index_left = c.judge_rows-verdict.ensures.index_left;
+    }

@@ -11,8 +11,14 @@ answer_list-requires c =
 
 pub returns-in-Refused : goal.returns-in-Refused
 returns-in-Refused c =
-    (list-refused _ _ _ _ _ _ _ _ _ (sym c.judge_rows-verdict.ensures.result_value ∙ ap (check_answer _) c.in-Refused.is), c.judge_rows-verdict.ensures.index_left)
+    record {
+      list_traced = list-refused _ _ _ _ _ _ _ _ _ (sym c.judge_rows-verdict.ensures.result_value ∙ ap (check_answer _) c.in-Refused.is);
+      index_left = c.judge_rows-verdict.ensures.index_left;
+    }
 
 pub returns-in-Passed : goal.returns-in-Passed
 returns-in-Passed c =
-    (list-judged _ _ _ _ _ _ _ _ _ _ (sym c.judge_rows-verdict.ensures.result_value ∙ ap (check_answer _) c.in-Passed.is) c.answer_list.ensures, c.judge_rows-verdict.ensures.index_left)
+    record {
+      list_traced = list-judged _ _ _ _ _ _ _ _ _ _ (sym c.judge_rows-verdict.ensures.result_value ∙ ap (check_answer _) c.in-Passed.is) c.answer_list.ensures;
+      index_left = c.judge_rows-verdict.ensures.index_left;
+    }
