@@ -41,8 +41,8 @@ pub overflow_mul-at : goal.overflow_mul-at
 overflow_mul-at c =
     omega (arith, c.phy_count-m.ensures.1)
 
-pub overflow_add-at : goal.overflow_add-at
-overflow_add-at c =
+pub overflow_add-at-in-loop-i-2 : goal.overflow_add-at-in-loop-i-2
+overflow_add-at-in-loop-i-2 c =
     omega (arith, c.phy_count-m.ensures.1)
 
 pub overflow_add-at-in-loop-i-3 : goal.overflow_add-at-in-loop-i-3

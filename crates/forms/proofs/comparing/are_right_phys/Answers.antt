@@ -31,8 +31,8 @@ returns-then-not-is_right_field c =
     let at-args = c.args in
     phys-field (domain_in at-args.rows.now) (expander_at (domain_in at-args.rows.now) at-args.i.0).phys c.loop-p.p c.loop-p.to at-args.ws.now c.loop-p.invariant.1.1 _ _ (omega (arith, c.phy_count-n.ensures.0)) c.word_at.ensures (c.phy_address.ensures ∙ ap address_of c.phy_at-f.ensures) c.if-word_at-phy_address.false (rights _ _ _ _ _ _ c.phy_at-f.ensures c.word_at-in-loop-p.ensures c.is_right_field.ensures (not-true _ c.if-not-is_right_field.true-raw))
 
-pub overflow_add-to : goal.overflow_add-to
-overflow_add-to c =
+pub overflow_add-to-in-loop-p : goal.overflow_add-to-in-loop-p
+overflow_add-to-in-loop-p c =
     omega (arith, c.phy_count-n.ensures.1)
 
 pub loop-p-preserved : goal.loop-p-preserved
