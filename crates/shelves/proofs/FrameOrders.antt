@@ -107,6 +107,7 @@ module _ (phys route_indexes : ℕ) (kinds : List ℕ) (numbers : CanBeTold phys
   -- the frames of the table, and no others
   from : (i count : ℕ) → i + count ≤ route_indexes → (f : List ℕ) → Memᴰ f (frames_from stated phy entry i count) → From f
   unfolding frames_from
+  from i zero h f m = elim m [ ]
   from i (suc count) h f (Memᴰ.head e) = record { index = i; below = omega arith; is = e ∙ writes i }
   from i (suc count) h f (Memᴰ.tail m) = from (i + 1) count (omega arith) f m
 
@@ -153,6 +154,7 @@ module _ (phys route_indexes : ℕ) (kinds : List ℕ) (numbers : CanBeTold phys
     -- once its frame came, an entry is right
     reached : (fs : List (List ℕ)) → ((f : List ℕ) → Memᴰ f fs → From f) → (t : Table) (j : ℕ) → j < route_indexes → Memᴰ (route_frame (q j)) fs → last t fs phy j ≡ goal phy j
     unfolding table_left
+    reached [] all t j h m = elim m [ ]
     reached (f ∷ fs) all t j h (Memᴰ.head e) =
         let s : step t f ≡ replaced t (q j) = ap (step t) (sym e) ∙ one t j h in
         rw s (stays fs (λ g m. all g (Memᴰ.tail m)) (replaced t (q j)) phy j (put_same t (q j) ∙ sym (table_in t₀ phy route_indexes entry j h)))

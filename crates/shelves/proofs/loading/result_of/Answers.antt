@@ -12,22 +12,22 @@ returns-then-count-p c = let a = c.args in simp (le-leb (min 16 a.phys) a.phy.0 
 
 pub returns-then-kind-eq0 : goal.returns-then-kind-eq0
 unfolding result_of
-returns-then-kind-eq0 c = let a = c.args in simp (lt-leb (min 16 a.phys) a.phy.0 (omega arith), eq-eqb (kind_in a.t3 a.phy.0) 0 c.if-kind-eq0.true)
+returns-then-kind-eq0 c = let a = c.args in simp (lt-leb (min 16 a.phys) a.phy.0 (omega arith), eq-eqb (kind_in a.kinds a.phy.0) 0 c.if-kind-eq0.true)
 
 pub returns-then-kind-ne1 : goal.returns-then-kind-ne1
 unfolding result_of
 returns-then-kind-ne1 c =
     let a = c.args in
-    simp (lt-leb (min 16 a.phys) a.phy.0 (omega arith), ne_eqb (kind_in a.t3 a.phy.0) 0 c.if-kind-eq0.false, ne_eqb (kind_in a.t3 a.phy.0) 1 c.if-kind-ne1.true)
+    simp (lt-leb (min 16 a.phys) a.phy.0 (omega arith), ne_eqb (kind_in a.kinds a.phy.0) 0 c.if-kind-eq0.false, ne_eqb (kind_in a.kinds a.phy.0) 1 c.if-kind-ne1.true)
 
 pub returns-then-end-k : goal.returns-then-end-k
 unfolding result_of
 returns-then-end-k c =
     let a = c.args in
-    simp (lt-leb (min 16 a.phys) a.phy.0 (omega arith), eq-eqb (kind_in a.t3 a.phy.0) 1 c.if-kind-ne1.false, ne_eqb (kind_in a.t3 a.phy.0) 0 c.if-kind-eq0.false, le-ltb a.index.0 (min 64 a.route_indexes) (omega arith))
+    simp (lt-leb (min 16 a.phys) a.phy.0 (omega arith), eq-eqb (kind_in a.kinds a.phy.0) 1 c.if-kind-ne1.false, ne_eqb (kind_in a.kinds a.phy.0) 0 c.if-kind-eq0.false, le-ltb a.index.0 (min 64 a.route_indexes) (omega arith))
 
 pub returns : goal.returns
 unfolding result_of
 returns c =
     let a = c.args in
-    simp (lt-leb (min 16 a.phys) a.phy.0 (omega arith), eq-eqb (kind_in a.t3 a.phy.0) 1 c.if-kind-ne1.false, ne_eqb (kind_in a.t3 a.phy.0) 0 c.if-kind-eq0.false, lt-ltb a.index.0 (min 64 a.route_indexes) (omega arith))
+    simp (lt-leb (min 16 a.phys) a.phy.0 (omega arith), eq-eqb (kind_in a.kinds a.phy.0) 1 c.if-kind-ne1.false, ne_eqb (kind_in a.kinds a.phy.0) 0 c.if-kind-eq0.false, lt-ltb a.index.0 (min 64 a.route_indexes) (omega arith))
