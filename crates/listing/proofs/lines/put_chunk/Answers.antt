@@ -64,7 +64,7 @@ put_line_at-end-requires c =
 pub next_index-at-requires : goal.next_index-at-requires
 next_index-at-requires c =
     let s = c.entry_count.ensures in
-    (omega arith, omega arith)
+    record { index_bound = omega arith; word_bound = omega arith }
 
 pub loop-at-smaller : goal.loop-at-smaller
 loop-at-smaller c =

@@ -15,4 +15,4 @@ pub returns : goal.returns
 returns c =
     let at-args = c.args in
     let m : c.decimal-k.result ≤ 20 = digits_few 10 1 20 at-args.n c.decimal-k.result (omega arith) (omega arith) c.decimal-k.ensures.len (omega arith) in
-    put_as c.put_bytes.ensures (c.decimal-k.ensures.1.1 ∙ decimal_is at-args.n c.decimal-k.result c.decimal-k.ensures.len m)
+    put_as c.put_bytes.ensures (c.decimal-k.ensures.digits ∙ decimal_is at-args.n c.decimal-k.result c.decimal-k.ensures.len m)

@@ -15,4 +15,4 @@ pub returns : goal.returns
 returns c =
     let at-args = c.args in
     let m : c.hex-k.result ≤ 16 = digits_few 16 16 16 at-args.w c.hex-k.result (omega arith) (omega arith) c.hex-k.ensures.len (omega arith) in
-    put_as c.put_bytes.ensures (c.hex-k.ensures.1.1 ∙ hex_is at-args.w c.hex-k.result c.hex-k.ensures.len.0 m)
+    put_as c.put_bytes.ensures (c.hex-k.ensures.digits ∙ hex_is at-args.w c.hex-k.result c.hex-k.ensures.len.0 m)

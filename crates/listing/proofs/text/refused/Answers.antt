@@ -39,4 +39,7 @@ returns c =
     let y = v.same in
     let z = w.same in
     let t = put_then u (put_then v (put_then w x)) in
-    (put-within t (omega arith), t)
+    record {
+      prefix_len = put-within t (omega arith);
+      words_put = t;
+    }

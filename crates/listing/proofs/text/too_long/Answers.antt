@@ -7,4 +7,7 @@ pub returns : goal.returns
 returns c =
     let u = c.put_bytes.ensures in
     let e = u.next in
-    (put-within u (omega arith), u)
+    record {
+      prefix_len = put-within u (omega arith);
+      words_put = u;
+    }
