@@ -17,8 +17,8 @@ abbrev said_packed : StepAnswer → ℕ
 said_packed (Refused r) = pack_refusal r
 said_packed (Told r s) = step_packed (record { reason = r; step = step_to_pack s })
 
-said_packed : (setting : Setting) (file : List ℕ) (t : Entries) (q : Request) → said_packed (step_answer_of (step_call setting file t q)) ≡ packed step_packed (step_call setting file t q)
-said_packed setting file t q = told (step_call setting file t q)
+said_packed_lem : (setting : Setting) (file : List ℕ) (t : Entries) (q : Request) → said_packed (step_answer_of (step_call setting file t q)) ≡ packed step_packed (step_call setting file t q)
+said_packed_lem setting file t q = told (step_call setting file t q)
   where
     step : (r : Reason) (s : Step) → step_packed (record { reason = r; step = step_to_pack (step_of s) }) ≡ step_packed (record { reason = r; step = s })
     step r here = refl
@@ -34,9 +34,9 @@ said_packed setting file t q = told (step_call setting file t q)
 pub returns-in-Refused : goal.returns-in-Refused
 returns-in-Refused c =
     let done = rw c.setting-course.ensures at c.explain_step-answer.ensures in
-    c.refusal.ensures ∙ ap said_packed (sym c.in-Refused.is ∙ done) ∙ said_packed _ _ _ _
+    c.refusal.ensures ∙ ap said_packed (sym c.in-Refused.is ∙ done) ∙ said_packed_lem _ _ _ _
 
 pub returns-in-Told : goal.returns-in-Told
 returns-in-Told c =
     let done = rw c.setting-course.ensures at c.explain_step-answer.ensures in
-    c.step.ensures ∙ ap said_packed (sym c.in-Told.is ∙ done) ∙ said_packed _ _ _ _
+    c.step.ensures ∙ ap said_packed (sym c.in-Told.is ∙ done) ∙ said_packed_lem _ _ _ _
