@@ -5,6 +5,7 @@
 ghost use Rattle.io.specs.Counts.{IsPrefixLen};
 
 use listing::{DomainRead, Refusal, TablesGiven};
+use std::io::{Read, Stderr, Stdin, Stdout, Write};
 
 // How many bytes of input are listed at most.
 const MOST_INPUT: usize = 65536;
@@ -20,23 +21,28 @@ struct Input {
 }
 
 // One read into the start of the buffer. It reads no byte where the input ends or the read fails.
-fn read_some(buf: &mut [u8]) -> Input
+fn read_some(mut input: Stdin, buf: &mut [u8]) -> Input
     ensures { IsPrefixLen result.length buf.new }
 {
-    let got = libc::read(0, buf);
-    Input {
-        length: io::count(got, buf),
-        failed: got < 0,
+    match input.read(buf) {
+        Ok(n) => Input {
+            length: n,
+            failed: false,
+        },
+        Err(_) => Input {
+            length: 0,
+            failed: true,
+        },
     }
 }
 
 // Reads until the buffer is full, the input ends or a read fails.
-fn read_input(buf: &mut [u8]) -> Input
+fn read_input(input: Stdin, buf: &mut [u8]) -> Input
     ensures { IsPrefixLen result.length buf.new }
 {
     let mut n: usize = 0;
     while n < buf.len() {
-        let more = read_some(&mut buf[n..]);
+        let more = read_some(input, &mut buf[n..]);
         if more.length == 0 {
             return Input {
                 length: n,
@@ -51,9 +57,19 @@ fn read_input(buf: &mut [u8]) -> Input
     }
 }
 
+// Writes a text on standard output, and answers whether all of it was written.
+fn print(mut to: Stdout, text: &[u8]) -> bool {
+    to.write_all(text).is_ok()
+}
+
+// Writes a text on standard error, as far as that can be written.
+fn tell(mut to: Stderr, text: &[u8]) {
+    to.write_all(text).is_ok();
+}
+
 // Writes the lines of the table words of a domain in rows, chunk by chunk until one has no line, and
 // answers whether all were written.
-fn print_lines(rows: &[u64], words: &[u64]) -> bool {
+fn print_lines(to: Stdout, rows: &[u64], words: &[u64]) -> bool {
     let mut out = io::large_buffer();
     let mut at = listing::start();
     while at.word < words.len() {
@@ -61,7 +77,7 @@ fn print_lines(rows: &[u64], words: &[u64]) -> bool {
         if chunk.end == 0 {
             return true;
         }
-        if !io::write_all(1, &out[..chunk.end]) {
+        if !print(to, &out[..chunk.end]) {
             return false;
         }
         at = chunk.next;
@@ -70,25 +86,25 @@ fn print_lines(rows: &[u64], words: &[u64]) -> bool {
 }
 
 // Writes the lines of all entries, and the totals, and answers whether all were written.
-fn print_tables(rows: &[u64], words: &[u64], tables: u64, entries: u64) -> bool {
-    if !print_lines(rows, words) {
+fn print_tables(to: Stdout, rows: &[u64], words: &[u64], tables: u64, entries: u64) -> bool {
+    if !print_lines(to, rows, words) {
         return false;
     }
     let mut line = [0u8; listing::LINE_BYTES];
     let end = listing::totals(&mut line, tables, entries);
-    io::write_all(1, &line[..end])
+    print(to, &line[..end])
 }
 
 // Writes the refusal line, and answers whether it was written.
-fn print_refusal(r: Refusal) -> bool {
+fn print_refusal(to: Stdout, r: Refusal) -> bool {
     let mut line = [0u8; listing::LINE_BYTES];
     let end = listing::refused(&mut line, r);
-    io::write_all(1, &line[..end])
+    print(to, &line[..end])
 }
 
 // Writes the listing of a domain in rows, or why there is none, and answers whether all was written. A chain
 // may have `chain` expanders.
-fn print_rows(rows: &[u64], chain: u8) -> bool {
+fn print_rows(to: Stdout, rows: &[u64], chain: u8) -> bool {
     let mut first = [0u16; listing::SLOTS_OF_64];
     let mut low = [0u8; listing::PHYS_OF_64];
     let mut words = [0u64; TABLE_WORDS];
@@ -102,39 +118,39 @@ fn print_rows(rows: &[u64], chain: u8) -> bool {
         chain,
     );
     match given {
-        TablesGiven::Refused(r) => print_refusal(r),
-        TablesGiven::Counts(t, w) => print_tables(rows, &words[..], t as u64, w as u64),
+        TablesGiven::Refused(r) => print_refusal(to, r),
+        TablesGiven::Counts(t, w) => print_tables(to, rows, &words[..], t as u64, w as u64),
     }
 }
 
 // Writes the listing of a file, which is read once, under the widest setting, and answers whether all was written.
-fn print_listing(file: &[u8]) -> bool {
+fn print_listing(to: Stdout, file: &[u8]) -> bool {
     if file.len() > MOST_INPUT {
         let mut line = [0u8; listing::LINE_BYTES];
         let end = listing::too_long(&mut line);
-        return io::write_all(1, &line[..end]);
+        return print(to, &line[..end]);
     }
     let mut rows = [0u64; listing::ROWS_OF_64];
     let course = listing::widest();
     let read = listing::read_domain(course, file, &mut rows[..]);
     match read {
-        DomainRead::Refused(r) => print_refusal(r),
+        DomainRead::Refused(r) => print_refusal(to, r),
         DomainRead::Expanders(n) => {
             let e = listing::ROW_WORDS * (n as usize);
-            print_rows(&rows[..e], course.chain)
+            print_rows(to, &rows[..e], course.chain)
         }
     }
 }
 
 // At most 65,536 bytes of input and 8,192 table words.
-fn main() {
+fn main(rt: HostRuntime) {
     let mut file = [0u8; MOST_INPUT + 1];
-    let input = read_input(&mut file[..]);
+    let input = read_input(rt.stdin(), &mut file[..]);
     if input.failed {
-        io::write_all(2, b"routes: standard input cannot be read\n");
+        tell(rt.stderr(), b"routes: standard input cannot be read\n");
         return;
     }
-    if !print_listing(&file[..input.length]) {
-        io::write_all(2, b"routes: standard output cannot be written\n");
+    if !print_listing(rt.stdout(), &file[..input.length]) {
+        tell(rt.stderr(), b"routes: standard output cannot be written\n");
     }
 }

@@ -10,8 +10,8 @@ slice_bounds-out-end c =
     let s = f.text.same in
     omega (arith, f.counts.0)
 
-pub slice_bounds-write_all-end : goal.slice_bounds-write_all-end
-slice_bounds-write_all-end c = c.put_chunk-chunk.ensures.counts.1
+pub slice_bounds-print-end : goal.slice_bounds-print-end
+slice_bounds-print-end c = c.put_chunk-chunk.ensures.counts.1
 
 pub loop-at-smaller : goal.loop-at-smaller
 loop-at-smaller c =
