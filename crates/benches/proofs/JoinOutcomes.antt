@@ -13,10 +13,10 @@ use Rattle.frames.specs.declared.Refusal.{Refusal}
 use Rattle.files.specs.declared.Setting.{Setting}
 use Rattle.wiring.specs.declared.Check.TheVariants.{Refused as NotPassed, Passed}
 use Rattle.files.specs.Lists.{any}
-use Rattle.files.specs.Settings.{within, in_range}
+use Rattle.files.specs.Settings.{in_range}
 use Rattle.files.specs.Domain.{Domain, expander_at, phy_at, is_subtractive, attached}
 use Rattle.wiring.specs.phys.Checks.{FileRoom}
-use Rattle.files.specs.File.{header_unit, domain_read, expanders}
+use Rattle.files.specs.File.{header_unit, domain_read}
 use Rattle.files.proofs.ListMembers.{tests, is_true, and_left, and_right}
 use Rattle.files.proofs.SettingRanges.{range_iff}
 use Rattle.files.proofs.ReadDomain.{read-good, stated-expanders}

@@ -20,7 +20,6 @@ use Rattle.wiring.specs.phys.PhyCauses.{Place, place, places}
 use Rattle.files.proofs.ListMembers.{is_true, was_true, and_left, and_right}
 use Rattle.files.proofs.Domains.{attribute-range}
 use Rattle.wiring.proofs.phys.WiredPhys.{in_places}
-use Rattle.tables.specs.levels.Levels.{levels}
 use Rattle.tables.specs.filling.Tables.{level_list, table, table_places, size, sizes, needed, offset_in, offset, stretch}
 use Rattle.tables.specs.filling.Entries.{Entries, room_of, Enough}
 use Rattle.tables.specs.JudgingCall.{judged}

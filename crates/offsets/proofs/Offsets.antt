@@ -19,7 +19,7 @@ use Rattle.files.specs.declared.Setting.{Setting}
 use Rattle.files.specs.declared.ExpanderUnit.{ExpanderUnit}
 use Rattle.files.specs.declared.Phy.{Phy}
 use Rattle.files.specs.declared.Phy.TheVariants.{Vacant}
-use Rattle.files.specs.Settings.{within, in_range, most_phys}
+use Rattle.files.specs.Settings.{in_range, most_phys}
 use Rattle.files.specs.Domain.{Expander, Domain, expander_at}
 use Rattle.files.specs.File.{Parsed, parsed, size_at, phy_of, phy_unit, phy_units, unit_of, unit_tested, expander_unit, expander_of, expanders, header_unit, domain_read}
 use Rattle.files.specs.UnitAnswers.{ends_at}

@@ -6,7 +6,7 @@ use mathlib.Core.Logic.{inl, inr, ⊎_elim}
 use mathlib.Core.List.{List}
 use native.Mathlib.Omega.{arith}
 use lib.ListN.{length}
-use lib.Dec.{T, eqb, ltb, leb, eqb→eq, ltb→lt, lt→ltb, leb→le, le→leb, not_T, T_not}
+use lib.Dec.{T, eqb, leb, eqb→eq, ltb→lt, lt→ltb, leb→le, le→leb, not_T, T_not}
 use Rattle.tables.specs.WiringDefinitions.{bytes_for, Result, refused, good, then, refusal, Setting, Domain, phy_at, attached, RefusesExactly}
 use Rattle.tables.specs.filling.Tables.{needed}
 use Rattle.tables.specs.filling.Entries.{Entries, Room, room_of, counted}

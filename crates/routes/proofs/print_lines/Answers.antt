@@ -1,5 +1,4 @@
 -- Meets: nothing but safety, and that it ends: a chunk that has text moves the cursor on to a later word.
-use Prim.Native.Nat.{◌-◌}
 use native.Mathlib.Omega.{arith}
 use Rattle.listing.proofs.Chunks.{chunk_moves}
 use Rattle.routes.proofs.print_lines.Goals as goal

@@ -1,6 +1,5 @@
 -- has_upward looks at phy after phy; its loop's invariant: there is one among the phys to come where there is one at all.
 use native.Mathlib.Omega.{arith}
-use Prim.Native.Nat.{◌-◌}
 use mathlib.Core.Path.{refl, sym, ◌∙◌, ap}
 use Rattle.files.specs.Domain.{expander_at}
 use Rattle.files.specs.Rows.{domain_in}

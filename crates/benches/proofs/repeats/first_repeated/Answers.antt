@@ -1,5 +1,5 @@
 -- first_repeated meets its contract: the lowest from k on is the lowest of all.
-use Prim.Native.Nat.{ℕ, ◌-◌}
+use Prim.Native.Nat.{ℕ}
 use mathlib.Core.Path.{sym, ◌∙◌, ap}
 use native.Mathlib.Omega.{arith}
 use Rattle.files.specs.Domain.{number_of}

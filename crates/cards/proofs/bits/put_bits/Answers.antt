@@ -1,5 +1,4 @@
 -- put_bits puts bit after bit; its loop's invariant: the bits with those still to come put behind are all of them put.
-use Prim.Native.Nat.{◌-◌}
 use mathlib.Core.Path.{refl, ◌∙◌}
 use native.Mathlib.Omega.{arith}
 use Rattle.cards.proofs.BitPlaces.{put-start, put-turn, put-end}

@@ -1,6 +1,5 @@
 -- put_expanders puts expander after expander; its loop's invariant: the bits with those of the expanders to come put behind are all of them put.
 use native.Mathlib.Omega.{arith}
-use Prim.Native.Nat.{◌-◌}
 use mathlib.Core.Path.{refl}
 use Rattle.files.specs.Domain.{Domain}
 use Rattle.files.specs.Rows.{domain_in}

@@ -1,6 +1,5 @@
 -- put_phys puts phy after phy; its loop's invariant: the bits with those of the phys to come put behind are all of them put.
 use native.Mathlib.Omega.{arith}
-use Prim.Native.Nat.{◌-◌}
 use mathlib.Core.Path.{◌≡◌, refl, ◌∙◌, ap}
 use mathlib.Core.List.{List}
 use lib.Seq.{sets}

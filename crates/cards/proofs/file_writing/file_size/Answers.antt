@@ -1,6 +1,5 @@
 -- file_size adds the sizes of units; its loop's invariant: the sum, with the units to come, is that of the file.
 use native.Mathlib.Omega.{arith}
-use Prim.Native.Nat.{◌-◌}
 use mathlib.Core.Path.{refl}
 use Rattle.files.specs.Rows.{domain_in}
 use Rattle.cards.proofs.FilePuts.{length-next, length_none, length-file}

@@ -1,6 +1,5 @@
 -- put_units writes unit after unit; its loop's invariant: the file with the units to come stored behind is that with all of them.
 use native.Mathlib.Omega.{arith}
-use Prim.Native.Nat.{◌-◌}
 use mathlib.Core.Path.{refl, ◌∙◌}
 use Rattle.files.specs.Domain.{Domain}
 use Rattle.files.specs.Rows.{domain_in}

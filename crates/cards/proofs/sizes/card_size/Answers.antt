@@ -1,6 +1,5 @@
 -- card_size adds the sizes of expanders; its loop's invariant: the sum, with the sizes of the expanders to come, is that of the card.
 use native.Mathlib.Omega.{arith}
-use Prim.Native.Nat.{◌-◌}
 use mathlib.Core.Path.{refl}
 use Rattle.files.specs.Rows.{domain_in}
 use Rattle.cards.proofs.CardPuts.{total-next, total-none}

@@ -1,6 +1,5 @@
 -- phys_size adds the sizes of phys; its loop's invariant: the sum, with the sizes of the phys to come, is that of all.
 use native.Mathlib.Omega.{arith}
-use Prim.Native.Nat.{◌-◌}
 use mathlib.Core.Path.{◌≡◌, ◌∙◌, ap}
 use mathlib.Core.List.{List}
 use Rattle.files.specs.declared.Phy.{Phy}

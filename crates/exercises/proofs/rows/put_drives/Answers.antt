@@ -1,5 +1,4 @@
 -- put_drives stores phy after phy; its loop's invariant: the row with the words of the phys to come stored behind is that with all of them.
-use Prim.Native.Nat.{◌-◌}
 use mathlib.Core.Path.{refl}
 use native.Mathlib.Omega.{arith}
 use lib.ListN.{length-set}

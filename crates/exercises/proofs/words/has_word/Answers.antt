@@ -1,5 +1,4 @@
 -- has_word looks at word after word; its loop's invariant: the address is among the words left exactly when it is among all.
-use Prim.Native.Nat.{◌-◌}
 use mathlib.Core.Path.{refl}
 use Rattle.files.proofs.UnitReading.{in_stop, in_go, in_end}
 use native.Mathlib.Omega.{arith}

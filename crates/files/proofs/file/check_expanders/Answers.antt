@@ -1,5 +1,4 @@
 -- check_expanders meets its contract. The loop's invariant: reading the rest from offset `at`, with the addresses of the first i expanders used, gives what reading all gives.
-use Prim.Native.Nat.{◌-◌}
 use mathlib.Core.List.{[]}
 use mathlib.Core.Path.{refl, sym, ◌∙◌, ap}
 use native.Mathlib.Nat.{sub-zero}

@@ -1,5 +1,4 @@
 -- check_phys meets its contract. The loop's invariant: reading the phys from p on at `next` ends where reading all of them ends.
-use Prim.Native.Nat.{◌-◌}
 use mathlib.Core.Path.{sym, ◌∙◌, ap}
 use native.Mathlib.Nat.{sub-zero}
 use native.Mathlib.Omega.{arith}

@@ -1,5 +1,5 @@
 -- clear meets its contract. The loop's invariant: the first k words are zero, and the others are as lent.
-use Prim.Native.Nat.{ℕ, ◌-◌}
+use Prim.Native.Nat.{ℕ}
 use mathlib.Core.List.{List}
 use mathlib.Core.Path.{refl, ◌∙◌, ap}
 use native.Mathlib.Omega.{arith}

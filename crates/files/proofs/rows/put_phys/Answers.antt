@@ -1,5 +1,4 @@
 -- put_phys meets its contract. The loop's invariant: setting the words of the phys from p on gives what setting those of all gives.
-use Prim.Native.Nat.{◌-◌}
 use mathlib.Core.Path.{refl, sym, ◌∙◌, ap}
 use native.Mathlib.Nat.{sub-zero}
 use native.Mathlib.Omega.{arith}

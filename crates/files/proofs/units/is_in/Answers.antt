@@ -1,5 +1,4 @@
 -- is_in meets its contract. The loop's invariant: the address is not among the first i.
-use Prim.Native.Nat.{◌-◌}
 use mathlib.Core.Path.{refl}
 use native.Mathlib.Omega.{arith}
 use Rattle.files.proofs.UnitReading.{in_stop, in_go, in_end}

@@ -1,5 +1,4 @@
 -- are_right meets its contract: the comparison from here on is the whole comparison.
-use Prim.Native.Nat.{◌-◌}
 use mathlib.Core.Path.{refl, sym, ◌∙◌}
 use Rattle.files.specs.Rows.{domain_in}
 use borrow.Author.Tests.{not-true, not-false}

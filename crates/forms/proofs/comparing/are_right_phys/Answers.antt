@@ -1,5 +1,4 @@
 -- are_right_phys meets its contract: the comparison from here on is the whole comparison.
-use Prim.Native.Nat.{◌-◌}
 use mathlib.Core.Path.{refl, sym, ◌∙◌, ap, subst}
 use Rattle.files.specs.Domain.{expander_at, address_of}
 use Rattle.files.specs.Rows.{domain_in}

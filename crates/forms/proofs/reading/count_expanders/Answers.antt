@@ -1,5 +1,5 @@
 -- count_expanders meets its contract: as many as were counted, and those that are left.
-use Prim.Native.Nat.{ℕ, ◌+◌, ◌-◌, ◌*◌}
+use Prim.Native.Nat.{ℕ, ◌+◌, ◌*◌}
 use mathlib.Core.Path.{ap}
 use Rattle.forms.proofs.FormRows.{count-start, count-go, count_none, count_full}
 use native.Mathlib.Omega.{arith}

@@ -1,5 +1,4 @@
 -- put_phys meets its contract: the words of the phys that are left, stored from here on, are those of all phys stored from word 2 on.
-use Prim.Native.Nat.{◌-◌}
 use mathlib.Core.Path.{refl, ◌∙◌}
 use lib.ListN.{length-set}
 use Rattle.forms.proofs.FormRows.{put-start, put_go, put-end}

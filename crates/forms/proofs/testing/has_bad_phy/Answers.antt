@@ -1,5 +1,4 @@
 -- has_bad_phy meets its contract: a search from here on finds what the whole search finds.
-use Prim.Native.Nat.{◌-◌}
 use mathlib.Core.Path.{refl, sym, ◌∙◌, ap}
 use Rattle.files.specs.declared.Phy.TheVariants.{Vacant}
 use Rattle.forms.specs.FormCalls.{bad_phy}

@@ -1,5 +1,4 @@
 -- is_unread meets its contract: a search from here on finds what the whole search finds.
-use Prim.Native.Nat.{◌-◌}
 use mathlib.Core.Path.{refl, sym, ◌∙◌, ap}
 use native.Mathlib.Nat.{sub-zero}
 use borrow.Author.Tests.{not-true, not-false}

@@ -1,5 +1,4 @@
 -- form_size meets its contract: the words counted so far, and those of the expanders that are left.
-use Prim.Native.Nat.{◌-◌}
 use mathlib.Core.Path.{ap}
 use lib.ListN.{length}
 use Rattle.files.specs.Rows.{domain_in}

@@ -1,5 +1,4 @@
 -- put_form meets its contract: the words of the expanders that are left, stored from here on, are the form stored from the front on.
-use Prim.Native.Nat.{◌-◌}
 use mathlib.Core.Path.{refl, ◌∙◌, ap}
 use lib.ListN.{length, length-set}
 use lib.Seq.{sets}

@@ -1,5 +1,4 @@
 -- put_phys meets its contract: the words of the phys that are left, stored from here on, are those of all phys stored from the first place on.
-use Prim.Native.Nat.{◌-◌}
 use mathlib.Core.Path.{refl, ◌∙◌, ap}
 use lib.ListN.{length-set}
 use Rattle.files.specs.Domain.{expander_at, address_of}

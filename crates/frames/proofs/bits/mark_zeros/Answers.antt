@@ -1,6 +1,5 @@
 -- mark_zeros puts byte after byte; its loop's invariant: the bytes with those still to come put behind are the marked bytes.
 use native.Mathlib.Omega.{arith}
-use Prim.Native.Nat.{◌-◌}
 use mathlib.Core.Path.{refl, sym}
 use lib.ListN.{length-set}
 use Rattle.frames.specs.Bits.{zero_bits}

@@ -1,6 +1,6 @@
 -- zero_byte's loop holds the number of the first k of eight bits.
 use native.Mathlib.Omega.{arith}
-use Prim.Native.Nat.{◌+◌, ◌-◌}
+use Prim.Native.Nat.{◌+◌}
 use mathlib.Core.Path.{◌≡◌}
 use Rattle.frames.specs.Bits.{zero_bits}
 use Rattle.frames.proofs.DisableBits.{digit, eight, field-more, field-none}

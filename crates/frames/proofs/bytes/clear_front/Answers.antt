@@ -1,5 +1,5 @@
 -- clear_front meets its contract. The loop's invariant: the first i bytes are zero, and those from i on are as lent.
-use Prim.Native.Nat.{ℕ, ◌-◌}
+use Prim.Native.Nat.{ℕ}
 use mathlib.Core.List.{List}
 use mathlib.Core.Path.{◌≡◌, ◌∙◌, ap}
 use native.Mathlib.Omega.{arith}

@@ -1,5 +1,5 @@
 -- number_at meets its contract. The loop's invariant: x is the number in the first k bytes, which is below 256 to the power of k.
-use Prim.Native.Nat.{◌+◌, ◌-◌}
+use Prim.Native.Nat.{◌+◌}
 use mathlib.Core.Path.{◌≡◌, refl, sym, ◌∙◌}
 use native.Mathlib.Omega.{arith}
 use Rattle.frames.proofs.ByteNumbers.{digit, room, number-next}

@@ -1,5 +1,4 @@
 -- The kinds are fine from here on exactly where all of them are.
-use Prim.Native.Nat.{◌-◌}
 use mathlib.Core.Path.{refl, sym, ◌∙◌}
 use native.Mathlib.Omega.{arith}
 use Rattle.shelves.proofs.ToldKinds.{kinds_wrong, kinds-next, kinds-end}

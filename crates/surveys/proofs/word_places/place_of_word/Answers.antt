@@ -1,5 +1,4 @@
 -- place_of_word: going through the expanders from i on for the words that are left is going through all of them for word k.
-use Prim.Native.Nat.{◌-◌}
 use mathlib.Core.Path.{refl, ap, ◌∙◌}
 use native.Mathlib.Omega.{arith}
 use Rattle.files.specs.Domain.{Domain}

@@ -1,5 +1,5 @@
 -- seek_at: going through the phys from p on for the words that are left is going through all of them for word k, whatever comes after.
-use Prim.Native.Nat.{ℕ, ◌-◌}
+use Prim.Native.Nat.{ℕ}
 use mathlib.Core.Path.{sym, ◌∙◌, ap}
 use mathlib.Core.List.{◌++◌}
 use native.Mathlib.Omega.{arith}

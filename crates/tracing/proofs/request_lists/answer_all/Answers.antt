@@ -1,5 +1,4 @@
 -- answer_all meets its contract: the answers to the requests that are left, stored from here on, are all answers stored from the front on.
-use Prim.Native.Nat.{◌-◌}
 use mathlib.Core.Path.{refl, ◌∙◌}
 use native.Mathlib.Omega.{arith}
 use lib.ListN.{length-set}

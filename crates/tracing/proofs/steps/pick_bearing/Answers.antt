@@ -1,5 +1,5 @@
 -- pick_bearing meets its contract. The loop's invariant: none of the first p phys bears the address.
-use Prim.Native.Nat.{ℕ, ◌-◌}
+use Prim.Native.Nat.{ℕ}
 use mathlib.Core.Path.{sym, ◌∙◌, ap}
 use native.Mathlib.Omega.{arith}
 use native.Mathlib.Nat.{sub-zero}

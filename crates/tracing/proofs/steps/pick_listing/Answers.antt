@@ -1,5 +1,5 @@
 -- pick_listing meets its contract. The loop's invariant: none of the first p phys lists the address, and `at` is where the stretch of phy p starts.
-use Prim.Native.Nat.{ℕ, ◌-◌}
+use Prim.Native.Nat.{ℕ}
 use mathlib.Core.Path.{sym, ◌∙◌, ap}
 use native.Mathlib.Omega.{arith}
 use native.Mathlib.Nat.{sub-zero}

@@ -1,5 +1,5 @@
 -- pick_subtracting meets its contract. The loop's invariant: none of the first p phys is a subtractive one at an expander.
-use Prim.Native.Nat.{ℕ, ◌-◌}
+use Prim.Native.Nat.{ℕ}
 use mathlib.Core.Path.{sym, ◌∙◌, ap}
 use native.Mathlib.Omega.{arith}
 use native.Mathlib.Nat.{sub-zero}

@@ -1,5 +1,4 @@
 -- passed_over meets its contract; its loop's invariant: the first r words are there, and s is not among them.
-use Prim.Native.Nat.{◌-◌}
 use mathlib.Core.Path.{refl, sym, ◌∙◌}
 use native.Mathlib.Omega.{arith}
 use borrow.Author.Tests.{not-true, not-false}

@@ -1,5 +1,4 @@
 -- stretch_start meets its contract; its loop's invariant: `at` is the words before the expander and of its phys below q.
-use Prim.Native.Nat.{◌-◌}
 use mathlib.Core.Path.{◌≡◌, sym, ◌∙◌}
 use native.Mathlib.Omega.{arith}
 use Rattle.tables.specs.WiringDefinitions.{domain_in}

@@ -1,5 +1,5 @@
 -- walk meets its contract. The loop's invariant: what is left of the walk from here, behind the k expanders passed, is the whole walk.
-use Prim.Native.Nat.{ℕ, ◌-◌}
+use Prim.Native.Nat.{ℕ}
 use mathlib.Core.Path.{refl, sym, ◌∙◌, ap}
 use native.Mathlib.Omega.{arith}
 use native.Mathlib.Nat.{sub-zero}
@@ -15,8 +15,7 @@ pub loop-k-init : goal.loop-k-init
 unfolding traced
 loop-k-init c =
     let a = c.args in
-    let d : Domain = domain_in a.rows.now in
-    (
+    let d : Domain = domain_in a.rows.now in (
       omega arith,
       refl,
       refl,

@@ -1,5 +1,4 @@
 -- mark_each puts bit after bit. The loop's invariant: the bits with those still to come put behind are all of them put.
-use Prim.Native.Nat.{◌-◌}
 use mathlib.Core.Path.{refl, ◌∙◌}
 use native.Mathlib.Omega.{arith}
 use Rattle.tables.proofs.events.BitsReplaced.{mark-first, mark-turn, mark-last}

@@ -1,5 +1,5 @@
 -- refill_all meets its contract. The loop's invariant: the tables of the first i expanders are gone through.
-use Prim.Native.Nat.{◌+◌, ◌-◌, ◌*◌}
+use Prim.Native.Nat.{◌+◌, ◌*◌}
 use mathlib.Core.Path.{refl, ◌∙◌, ap}
 use native.Mathlib.Omega.{arith}
 use lib.ListN.{take}

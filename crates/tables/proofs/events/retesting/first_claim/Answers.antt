@@ -1,5 +1,4 @@
 -- first_claim meets its contract. The loop's invariant: `taken` says whether the address is taken before expander i, and no phy before it has the cause.
-use Prim.Native.Nat.{◌-◌}
 use mathlib.Core.Path.{refl}
 use Rattle.files.specs.Domain.{Domain}
 use Rattle.files.specs.Rows.{domain_in}

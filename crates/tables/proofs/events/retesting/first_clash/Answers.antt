@@ -1,5 +1,5 @@
 -- first_clash meets its contract. The loop's invariant: no phy below p clashes with a lower one.
-use Prim.Native.Nat.{ℕ, ◌-◌}
+use Prim.Native.Nat.{ℕ}
 use mathlib.Core.Path.{sym, ◌∙◌, ap}
 use native.Mathlib.Nat.{sub-zero}
 use Rattle.files.specs.Domain.{Domain}

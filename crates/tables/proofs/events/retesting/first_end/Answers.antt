@@ -1,5 +1,5 @@
 -- first_end meets its contract. The loop's invariant: no phy below p is attached to such an end device.
-use Prim.Native.Nat.{ℕ, ◌-◌}
+use Prim.Native.Nat.{ℕ}
 use mathlib.Core.Path.{sym, ◌∙◌, ap}
 use native.Mathlib.Nat.{sub-zero}
 use Rattle.files.proofs.RowsAsDomain.{phy-held}

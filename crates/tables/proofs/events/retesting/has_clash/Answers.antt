@@ -1,5 +1,4 @@
 -- has_clash meets its contract. The loop's invariant: no phy below q clashes with phy p.
-use Prim.Native.Nat.{◌-◌}
 use mathlib.Core.Path.{sym, ◌∙◌}
 use borrow.Author.Tests.{eq-eqb}
 use Rattle.files.proofs.RowsAsDomain.{phy-held}

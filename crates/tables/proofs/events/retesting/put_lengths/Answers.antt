@@ -1,5 +1,5 @@
 -- put_lengths meets its contract. The loop's invariant: the lengths of the own lists of the expanders below i are written.
-use Prim.Native.Nat.{ℕ, ◌-◌, ◌*◌}
+use Prim.Native.Nat.{ℕ, ◌*◌}
 use mathlib.Core.Path.{refl}
 use lib.ListN.{length, get_or, length-set}
 use Rattle.files.specs.Rows.{domain_in}

@@ -1,5 +1,5 @@
 -- count_at meets its contract. The loop's invariant: `sum` counts the table phys among the first p phys.
-use Prim.Native.Nat.{ℕ, ◌-◌}
+use Prim.Native.Nat.{ℕ}
 use mathlib.Core.Path.{ap}
 use native.Mathlib.Omega.{arith}
 use native.Mathlib.Nat.{sub-zero, zero-add}

@@ -1,5 +1,4 @@
 -- put_all_in meets its contract: the words so far, with the tables of the expanders from i on put in, are the words after the call.
-use Prim.Native.Nat.{◌-◌}
 use mathlib.Core.List.{List}
 use mathlib.Core.Path.{refl, ◌∙◌}
 use native.Mathlib.Omega.{arith}

@@ -1,5 +1,4 @@
 -- table_count meets its contract. The loop's invariant: `sum` counts the tables of the first i expanders.
-use Prim.Native.Nat.{◌-◌}
 use mathlib.Core.Path.{◌∙◌}
 use native.Mathlib.Omega.{arith}
 use native.Mathlib.Nat.{zero-add}

@@ -1,5 +1,4 @@
 -- words_before meets its contract. The loop's invariant: `sum` is the number of words of the tables of the first j expanders.
-use Prim.Native.Nat.{◌-◌}
 use mathlib.Core.Path.{◌≡◌, refl, ◌∙◌, ap}
 use native.Mathlib.Omega.{arith}
 use lib.ListN.{take}

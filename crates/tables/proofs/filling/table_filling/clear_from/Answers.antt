@@ -1,5 +1,4 @@
 -- clear_from meets its contract. The loop's invariant: the words from the first place to i are zero, those changed are counted, and the others are as lent.
-use Prim.Native.Nat.{◌-◌}
 use mathlib.Core.Path.{refl, ◌∙◌}
 use native.Mathlib.Omega.{arith}
 use lib.ListN.{length-set}

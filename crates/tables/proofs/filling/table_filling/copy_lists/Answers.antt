@@ -1,5 +1,4 @@
 -- copy_lists meets its contract. The loop's invariant: the own lists of the first k expanders stand at the front, those changed are counted, and the words after them are as lent.
-use Prim.Native.Nat.{◌-◌}
 use mathlib.Core.Path.{refl, ◌∙◌}
 use native.Mathlib.Omega.{arith}
 use Rattle.files.specs.Rows.{domain_in}

@@ -1,5 +1,4 @@
 -- copy_words meets its contract. The loop's invariant: so many of the words stand after the first ones, those changed are counted, and the words after them are as lent.
-use Prim.Native.Nat.{◌-◌}
 use mathlib.Core.Path.{refl, ◌∙◌}
 use native.Mathlib.Omega.{arith}
 use lib.ListN.{length-set}

@@ -1,5 +1,5 @@
 -- collect_below meets its contract. The loop's invariant: the numbers so far are those below by the phys below p, each once.
-use Prim.Native.Nat.{◌+◌, ◌-◌, ◌<◌}
+use Prim.Native.Nat.{◌+◌, ◌<◌}
 use mathlib.Core.Path.{sym, ◌∙◌}
 use Rattle.files.specs.Domain.{Domain}
 use Rattle.files.specs.Rows.{domain_in}
@@ -29,7 +29,7 @@ loop-p-preserved c =
     let n = c.phy_count-n.ensures in
     let d : Domain = domain_in a.rows.now in
     let got : Collected d a.i.0 (c.loop-p.p + 1) c.if-q-p.m c.if-q-p.part = elim c.if-q-p.branch [
-      then-q-p w ↦ rw (w.m-is, w.part-is) (collect_go d a.i.0 c.loop-p.p c.loop-p.invariant.1 c.phy_in_row-f.result (c.phy_in_row-f.ensures ∙ phy-held _ _ _ (omega arith)) w.add_phy-m.ensures (omega arith))
+      | then-q-p w ↦ rw (w.m-is, w.part-is) (collect_go d a.i.0 c.loop-p.p c.loop-p.invariant.1 c.phy_in_row-f.result (c.phy_in_row-f.ensures ∙ phy-held _ _ _ (omega arith)) w.add_phy-m.ensures (omega arith))
       | else-q-p w ↦ rw (w.m-is, w.part-is) (let low : c.lower_phy-q.result.0 < c.loop-p.p = omega (arith, w.if-q-p.false) in collect_skip d a.i.0 c.loop-p.p c.loop-p.invariant.1 c.lower_phy-q.result.0 low (c.lower_phy-q.ensures low) (omega arith))
     ] in
     (omega arith, got)

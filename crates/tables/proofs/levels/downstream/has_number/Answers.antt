@@ -1,5 +1,5 @@
 -- has_number meets its contract. The loop's invariant: the number was found, or is among those from i on exactly when it is among them all.
-use Prim.Native.Nat.{ℕ, ◌+◌, ◌-◌, ◌≤◌, ◌<◌}
+use Prim.Native.Nat.{ℕ, ◌+◌, ◌≤◌, ◌<◌}
 use mathlib.Core.Bool.{Bool, true, false, cond}
 use mathlib.Core.List.{List}
 use mathlib.Core.Path.{◌≡◌, refl, sym}
@@ -33,7 +33,7 @@ loop-i-preserved c =
     let h : c.loop-i.i < length a.l.now = c.loop-i-test.true in (
       omega arith,
       elim c.if-l-i.branch [
-        then-l-i w ↦ rw w.found-is (found-stop a.j.0 c.loop-i.i a.l.now c.loop-i.found c.loop-i.invariant.1 (sym w.if-l-i.true) h)
+        | then-l-i w ↦ rw w.found-is (found-stop a.j.0 c.loop-i.i a.l.now c.loop-i.found c.loop-i.invariant.1 (sym w.if-l-i.true) h)
         | else-l-i w ↦ rw w.found-is (found-go a.j.0 c.loop-i.i a.l.now c.loop-i.found c.loop-i.invariant.1 (λ e. w.if-l-i.false (sym e)) h)
       ],
     )

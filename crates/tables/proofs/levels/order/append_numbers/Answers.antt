@@ -1,5 +1,4 @@
 -- append_numbers meets its contract. The loop's invariant: the first k numbers stand behind the first m of `order`.
-use Prim.Native.Nat.{◌-◌}
 use mathlib.Core.Path.{refl, ◌∙◌}
 use native.Mathlib.Omega.{arith}
 use lib.ListN.{length-set}

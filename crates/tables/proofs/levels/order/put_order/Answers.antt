@@ -1,5 +1,4 @@
 -- put_order meets its contract. The loop's invariant: the numbers so far are a queue of which the first k were followed.
-use Prim.Native.Nat.{◌-◌}
 use mathlib.Core.Path.{refl, ◌∙◌}
 use Rattle.files.specs.Domain.{Domain}
 use Rattle.files.specs.Rows.{domain_in}

@@ -1,5 +1,5 @@
 -- count_words meets its contract. The loop's invariant: `sum` is the number of words in the own lists of the first k expanders.
-use Prim.Native.Nat.{ℕ, ◌+◌, ◌-◌}
+use Prim.Native.Nat.{ℕ, ◌+◌}
 use mathlib.Core.List.{List, flat_map}
 use mathlib.Core.Path.{◌∙◌, ap}
 use native.Mathlib.Omega.{arith}

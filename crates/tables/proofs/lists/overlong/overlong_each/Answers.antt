@@ -1,5 +1,4 @@
 -- overlong_each meets its contract. The loop's invariant: no phy of the expanders below i has too long a list.
-use Prim.Native.Nat.{◌-◌}
 use mathlib.Core.Path.{refl, ◌∙◌}
 use Rattle.files.specs.Rows.{domain_in}
 use Rattle.wiring.proofs.phys.PlaceSearches.{from_next, from_end}

@@ -1,6 +1,5 @@
 -- overlong_phy meets its contract. The loop's invariant: no phy below p has too long a list.
-use Prim.Native.Nat.{ℕ, ◌-◌}
-use mathlib.Core.Bool.{false}
+use Prim.Native.Nat.{ℕ}
 use mathlib.Core.Path.{refl, sym, ◌∙◌, ap}
 use native.Mathlib.Nat.{sub-zero}
 use Rattle.files.proofs.RowsAsDomain.{phy-held}

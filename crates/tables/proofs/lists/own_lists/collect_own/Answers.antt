@@ -1,5 +1,4 @@
 -- collect_own meets its contract. The loop's invariant: the words so far, and what the phys from p on give, are the own list.
-use Prim.Native.Nat.{◌-◌}
 use mathlib.Core.List.{List}
 use mathlib.Core.Path.{refl, ◌∙◌}
 use lib.ListN.{take}

@@ -1,5 +1,4 @@
 -- count_own meets its contract. The loop's invariant: the words counted so far, and those of the phys from p on, are as many as the own list has.
-use Prim.Native.Nat.{◌-◌}
 use mathlib.Core.List.{List, []}
 use mathlib.Core.Path.{refl, ◌∙◌, ap}
 use lib.ListN.{length}

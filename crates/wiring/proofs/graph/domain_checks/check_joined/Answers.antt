@@ -1,5 +1,4 @@
 -- check_joined meets its contract. The loop's invariant: the first i expanders are in the set that the rounds from expander 0 reach.
-use Prim.Native.Nat.{◌-◌}
 use mathlib.Core.Path.{sym, ◌∙◌, ap}
 use native.Mathlib.Nat.{sub-zero}
 use native.Mathlib.Omega.{arith}

@@ -1,5 +1,4 @@
 -- far_word meets its contract. The loop's invariant: w is the set of the phys below p.
-use Prim.Native.Nat.{◌-◌}
 use mathlib.Core.Path.{subst}
 use lib.Seq.{take_all}
 use Rattle.files.specs.Domain.{expander_at}

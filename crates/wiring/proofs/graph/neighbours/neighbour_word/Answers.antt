@@ -1,5 +1,4 @@
 -- neighbour_word meets its contract. The loop's invariant: w is the set of the neighbours below j.
-use Prim.Native.Nat.{◌-◌}
 use mathlib.Core.Path.{◌≡◌, refl, sym, ◌∙◌, ap}
 use lib.ListN.{length}
 use Rattle.wiring.specs.graph.Neighbours.{neighbours}
@@ -23,11 +22,13 @@ pub loop-j-preserved : goal.loop-j-preserved
 loop-j-preserved c =
     let a = c.args in
     let t = neighbours (domain_in a.rows.now) a.i.0 in
-    let q = sym c.are_neighbours.ensures in
-    (omega arith, elim c.if-are_neighbours.branch [
-      then-are_neighbours w ↦ w.w-is ∙ bit-go t c.loop-j.w c.loop-j.j c.loop-j.invariant.1 (omega arith) (q ∙ w.if-are_neighbours.true)
-      | else-are_neighbours w ↦ w.w-is ∙ bit_skip t c.loop-j.w c.loop-j.j c.loop-j.invariant.1 (q ∙ w.if-are_neighbours.false)
-    ])
+    let q = sym c.are_neighbours.ensures in (
+      omega arith,
+      elim c.if-are_neighbours.branch [
+        | then-are_neighbours w ↦ w.w-is ∙ bit-go t c.loop-j.w c.loop-j.j c.loop-j.invariant.1 (omega arith) (q ∙ w.if-are_neighbours.true)
+        | else-are_neighbours w ↦ w.w-is ∙ bit_skip t c.loop-j.w c.loop-j.j c.loop-j.invariant.1 (q ∙ w.if-are_neighbours.false)
+      ],
+    )
 
 pub returns : goal.returns
 returns c =

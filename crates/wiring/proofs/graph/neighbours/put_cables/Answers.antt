@@ -1,5 +1,5 @@
 -- put_far meets its contract. The loop's invariant: the sets of the expanders before expander i are written.
-use Prim.Native.Nat.{ℕ, ◌-◌}
+use Prim.Native.Nat.{ℕ}
 use mathlib.Core.Path.{refl, subst}
 use lib.ListN.{length-set}
 use Rattle.files.specs.Domain.{expander_at}

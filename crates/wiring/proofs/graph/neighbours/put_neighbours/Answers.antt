@@ -1,6 +1,6 @@
 -- put_neighbours meets its contract. The loop's invariant: the words of the expanders before expander i are written, and sum is the number of
 -- their bits.
-use Prim.Native.Nat.{ℕ, ◌-◌}
+use Prim.Native.Nat.{ℕ}
 use mathlib.Core.List.{◌++◌, map}
 use mathlib.Core.Path.{◌≡◌, refl, ◌∙◌, ap}
 use lib.Count.{ones, ones-le}

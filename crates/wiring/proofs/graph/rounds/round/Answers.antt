@@ -1,5 +1,4 @@
 -- round meets its contract. The loop's invariant: `next` is the set of those among the first v expanders that belong to it.
-use Prim.Native.Nat.{◌-◌}
 use mathlib.Core.Path.{◌≡◌, refl, sym, ◌∙◌, ap}
 use native.Mathlib.Omega.{arith}
 use lib.ListN.{length}
@@ -34,7 +33,7 @@ loop-v-preserved c =
         (
           c.loop-v.invariant.1.1.0,
           elim c.if-is_next.branch [
-            then-is_next k ↦ k.next-is ∙ bit-go t c.loop-v.next c.loop-v.v c.loop-v.invariant.1.1.1 (omega arith) (sym e ∙ k.if-is_next.true)
+            | then-is_next k ↦ k.next-is ∙ bit-go t c.loop-v.next c.loop-v.v c.loop-v.invariant.1.1.1 (omega arith) (sym e ∙ k.if-is_next.true)
             | else-is_next k ↦ k.next-is ∙ bit_skip t c.loop-v.next c.loop-v.v c.loop-v.invariant.1.1.1 (sym e ∙ k.if-is_next.false)
           ],
         ),

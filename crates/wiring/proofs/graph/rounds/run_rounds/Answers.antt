@@ -1,5 +1,4 @@
 -- run_rounds meets its contract. The loop's invariant: the rounds that are left, from `next`, end where all rounds end.
-use Prim.Native.Nat.{◌-◌}
 use mathlib.Core.Path.{◌≡◌, ◌∙◌, ap}
 use native.Mathlib.Nat.{sub-zero}
 use native.Mathlib.Omega.{arith}

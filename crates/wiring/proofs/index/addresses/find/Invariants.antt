@@ -1,4 +1,3 @@
-use Prim.Native.Nat.{◌-◌}
 use lib.ListN.{length}
 use Rattle.files.specs.Rows.{domain_in}
 use Rattle.wiring.specs.index.AddressIndex.{address_from}

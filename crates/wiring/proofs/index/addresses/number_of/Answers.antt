@@ -1,5 +1,4 @@
 -- number_of meets its contract: as many as were passed, and the number among those that are left.
-use Prim.Native.Nat.{◌-◌}
 use mathlib.Core.Path.{sym, ◌∙◌}
 use Rattle.files.specs.Rows.{domain_in}
 use Rattle.wiring.proofs.index.ExpanderNumbers.{number-stop, number-go, number-end}

@@ -1,5 +1,4 @@
 -- put_all meets its contract. The loop's invariant: all entries of the expanders, and of the phys of those below i, are written.
-use Prim.Native.Nat.{◌-◌}
 use mathlib.Core.Path.{refl, ◌∙◌}
 use Rattle.wiring.proofs.index.IndexWriting.{phys-start, all_indexed}
 use Rattle.wiring.proofs.index.IndexKept.{kept-none, kept_then}

@@ -1,5 +1,4 @@
 -- put_expanders meets its contract. The loop's invariant: the expanders below j are in the tree, and their entries are written.
-use Prim.Native.Nat.{◌-◌}
 use mathlib.Core.Path.{refl, ◌∙◌}
 use lib.ListN.{length-set}
 use Rattle.wiring.proofs.index.IndexWriting.{expander-can, expander-next, expanders-end}

@@ -1,5 +1,4 @@
 -- put_first meets its contract. The loop's invariant: the entries of the expander's phys below p are written, and its devices are in the tree.
-use Prim.Native.Nat.{◌-◌}
 use mathlib.Core.Path.{refl, ◌∙◌}
 use Rattle.files.proofs.RowsAsDomain.{phy-held}
 use Rattle.wiring.proofs.index.IndexWriting.{firsts-start, phys-end}

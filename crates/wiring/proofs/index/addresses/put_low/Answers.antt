@@ -1,5 +1,4 @@
 -- put_low meets its contract. The loop's invariant: the entries of the expander's phys below p are written, and its attached phys are in its tree.
-use Prim.Native.Nat.{◌-◌}
 use mathlib.Core.Path.{refl, ◌∙◌}
 use Rattle.files.proofs.RowsAsDomain.{phy-held}
 use Rattle.wiring.proofs.index.IndexWriting.{lows-start, lows-end}

@@ -1,5 +1,4 @@
 -- first_of meets its contract. The loop's invariant: the first place from expander i on is the first of all.
-use Prim.Native.Nat.{◌-◌}
 use mathlib.Core.Path.{refl}
 use Rattle.wiring.specs.phys.Checks.{cause_of}
 use Rattle.files.specs.Rows.{domain_in}

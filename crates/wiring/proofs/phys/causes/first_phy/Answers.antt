@@ -1,5 +1,5 @@
 -- first_phy meets its contract. The loop's invariant: the cause holds at no phy below p.
-use Prim.Native.Nat.{ℕ, ◌-◌}
+use Prim.Native.Nat.{ℕ}
 use mathlib.Core.Path.{◌≡◌, sym, ◌∙◌, ap}
 use mathlib.Core.Bool.{false}
 use borrow.Author.Count.{below_more}
