@@ -1,5 +1,5 @@
 #!/bin/sh
-# Makes the library as programs link it, from the archive that `rt staticlib exports` writes:
+# Makes the library as programs link it, from the archive that tools/build.sh writes:
 #
 #     tools/make_library.sh [FOLDER]
 #
@@ -12,7 +12,7 @@ archive=${METZURGO_LIB_DIR:-$root/target/staticlib}/libexports.a
 folder=${1:-$root/target}
 version=$("$root/tools/version.sh")
 if [ ! -e "$archive" ]; then
-    echo "$archive is missing: rt staticlib exports makes it" >&2
+    echo "$archive is missing: tools/build.sh makes it" >&2
     exit 1
 fi
 mkdir -p "$folder/lib/pkgconfig" "$folder/include"

@@ -1,6 +1,6 @@
 #!/bin/sh
 # Makes metzurgo-VERSION-x86_64.tar.gz for lab machines, with Python 3 and glibc and no
-# toolchain, from what `rt check routes` and `rt staticlib exports` built:
+# toolchain, from what tools/build.sh built:
 #
 #     tools/make_tarball.sh [FOLDER]
 #
@@ -12,7 +12,7 @@ out=$(cd "${1:-$root/target}" && pwd)
 name=metzurgo-$("$root/tools/version.sh")-x86_64
 routes=$root/target/bin/routes
 if [ ! -e "$routes" ]; then
-    echo "$routes is missing: rt check routes makes it" >&2
+    echo "$routes is missing: tools/build.sh makes it" >&2
     exit 1
 fi
 work=$(mktemp -d)
