@@ -100,10 +100,10 @@ pub record CardBack (one : Setting) (card file : List ℕ) : Type 0 where
   pub same : (room : ℕ) → card_call one file room ≡ fitting room card
   pub others : (other : Setting) (room : ℕ) → card_call other file room ≡ then (card_read other card) (λ _. fitting room card)
 
-pub card-file-card : (one : Setting) (card before after : List ℕ) (n : ℕ) → Bytes card → MadeDone (file_call one card (length before)) (MadeBytes n) before after
+pub card_back_under : (one : Setting) (card before after : List ℕ) (n : ℕ) → Bytes card → MadeDone (file_call one card (length before)) (MadeBytes n) before after
     → CardBack one card (take n after)
 unfolding card_call
-card-file-card one card before after n b p = record { same = λ room. under one room ∙ ap (λ x. then x (λ _. fitting room card)) f.read; others = under }
+card_back_under one card before after n b p = record { same = λ room. under one room ∙ ap (λ x. then x (λ _. fitting room card)) f.read; others = under }
   where
     f : FileMade one card (take n after)
     f = file-made one card before after n p
@@ -121,6 +121,11 @@ card-file-card one card before after n b p = record { same = λ room. under one 
         let l : limited other f.domain ≡ card_read other card = sym (card-other one other f.domain c.legal) ∙ ap (card_read other) c.same in
         ap (λ x. then x (card_for room)) k ∙ back room (limited other f.domain) (limited-same other f.domain) ∙ ap (λ x. then x (λ _. fitting room card)) l
 
+-- the same under one setting: where the first call made a file, the second makes the same card of it, byte for byte, where it has room
+pub card-file-card : (setting : Setting) (card before after : List ℕ) (n room : ℕ) → Bytes card → MadeDone (file_call setting card (length before)) (MadeBytes n) before after
+    → card_call setting (take n after) room ≡ fitting room card
+card-file-card setting card before after n room b p = (card_back_under setting card before after n b p).same room
+
 -- the card that was made of a file under one setting reads under any other as the file does
 card_as_file : (one other : Setting) (file before after : List ℕ) (n : ℕ) → Bytes file → MadeDone (card_call one file (length before)) (MadeBytes n) before after
     → card_read other (take n after) ≡ domain_read other file
@@ -131,23 +136,28 @@ card_as_file one other file before after n b p =
 
 -- file to card to file: of the card that was made of a file the second call, under any setting, makes the file of the domain that the first file is read as under
 -- that setting, where it has room, and refuses as the first file is refused
-pub file-card-file : (one other : Setting) (file before after : List ℕ) (n room : ℕ) → Bytes file → MadeDone (card_call one file (length before)) (MadeBytes n) before after
+pub file_back_under : (one other : Setting) (file before after : List ℕ) (n room : ℕ) → Bytes file → MadeDone (card_call one file (length before)) (MadeBytes n) before after
     → file_call other (take n after) room ≡ then (domain_read other file) (file_for room)
 unfolding file_call
-file-card-file one other file before after n room b p = ap (λ x. then x (file_for room)) (card_as_file one other file before after n b p)
+file_back_under one other file before after n room b p = ap (λ x. then x (file_for room)) (card_as_file one other file before after n b p)
+
+-- the same under one setting: where the first call made a card, the second makes of it the file of the first file's domain, where it has room
+pub file-card-file : (setting : Setting) (file before after : List ℕ) (n room : ℕ) (d : Domain) → Bytes file → domain_read setting file ≡ good d
+    → MadeDone (card_call setting file (length before)) (MadeBytes n) before after → file_call setting (take n after) room ≡ fitting room (file_of d)
+file-card-file setting file before after n room d b q p = file_back_under setting setting file before after n room b p ∙ ap (λ x. then x (file_for room)) q
 
 -- both calls one after the other, each under its own setting: the file is that of the first file's domain, and reads as the first file under every setting
-pub record Converted (one back : Setting) (file other : List ℕ) : Type 0 where
+pub record ConvertedUnder (one back : Setting) (file other : List ℕ) : Type 0 where
   pub domain : Domain
   pub read : domain_read one file ≡ good domain
   pub read_back : domain_read back file ≡ good domain
   pub is : other ≡ file_of domain
   pub reads : (setting : Setting) → domain_read setting other ≡ domain_read setting file
 
-pub converted : (one back : Setting) (file before after before' after' : List ℕ) (n m : ℕ) → Bytes file
+pub converted_under : (one back : Setting) (file before after before' after' : List ℕ) (n m : ℕ) → Bytes file
     → MadeDone (card_call one file (length before)) (MadeBytes n) before after → MadeDone (file_call back (take n after) (length before')) (MadeBytes m) before' after'
-    → Converted one back file (take m after')
-converted one back file before after before' after' n m b p q =
+    → ConvertedUnder one back file (take m after')
+converted_under one back file before after before' after' n m b p q =
     let c = card-made one file before after n p in
     let d : Domain = c.domain in
     let f = file-made back (take n after) before' after' m q in
@@ -162,3 +172,17 @@ converted one back file before after before' after' n m b p q =
       is = i;
       reads = λ setting. ap (domain_read setting) i ∙ file-other one setting d l ∙ sym (read-other one setting file d c.read);
     }
+
+-- the same under one setting
+pub record Converted (setting : Setting) (file other : List ℕ) : Type 0 where
+  pub domain : Domain
+  pub read : domain_read setting file ≡ good domain
+  pub is : other ≡ file_of domain
+  pub reads : domain_read setting other ≡ domain_read setting file
+
+pub converted : (setting : Setting) (file before after before' after' : List ℕ) (n m : ℕ) → Bytes file
+    → MadeDone (card_call setting file (length before)) (MadeBytes n) before after → MadeDone (file_call setting (take n after) (length before')) (MadeBytes m) before' after'
+    → Converted setting file (take m after')
+converted setting file before after before' after' n m b p q =
+    let c = converted_under setting setting file before after before' after' n m b p q in
+    record { domain = c.domain; read = c.read; is = c.is; reads = c.reads setting }
