@@ -187,7 +187,7 @@ module _ (setting : Setting) (file : List ℕ) (d : Domain) (j : judged setting 
         },
       )
 
--- a configured domain, which any events from one leave (`paper-9`), has tables that nothing else has altered
+-- a configured domain, which any events from one leave (`paper_9`), has tables that nothing else has altered
 pub configured_unaltered : (setting : Setting) (before : Entries) (l : Lab) (c : Configured setting before l) → Unaltered c.domain l.entries
 configured_unaltered setting before l c =
     let d = c.domain in

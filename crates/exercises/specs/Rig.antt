@@ -40,7 +40,7 @@ unfoldable pub made : ℕ → ℕ → List ℕ → Domain
 made a b ws = first_of a b (length ws) ∷ second_of a b (trimmed ws) ∷ []
 
 -- 24 holds: an address zero, or both equal; a word that is one of them; more words than R can say, or than the second expander has phys for.
--- `rig-iff` (proofs/Exercise): exactly where there is no `Rig`
+-- `rig_iff` (proofs/Exercise): exactly where there is no `Rig`
 unfoldable pub no_rig : ℕ → ℕ → List ℕ → Bool
 no_rig a b ws =
     eqb a 0 || (eqb b 0 || (eqb a b || (is_in a ws || (is_in b ws || (ltb 65535 (length ws) || ltb 127 (length (trimmed ws)))))))

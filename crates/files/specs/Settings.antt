@@ -20,7 +20,7 @@ within most n = leb 1 n && leb n most
 unfoldable pub in_range : Setting → Bool
 in_range setting = within most_expanders setting.expanders && (within most_phys setting.phys && within longest_chain setting.chain)
 
--- a setting in its range, in numbers: `range-iff` (proofs/SettingRanges)
+-- a setting in its range, in numbers: `range_iff` (proofs/SettingRanges)
 pub record InRange (setting : Setting) : Type 0 where
   pub expanders : (1 ≤ setting.expanders) × (setting.expanders ≤ most_expanders)
   pub phys : (1 ≤ setting.phys) × (setting.phys ≤ most_phys)

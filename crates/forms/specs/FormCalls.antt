@@ -45,7 +45,7 @@ same_words (x ∷ l) (y ∷ m) = eqb x y && same_words l m
 unfoldable pub formed : Setting → List ℕ → Bool
 formed most ws = not (unread most (form_in ws)) && (same_words (form_of (form_in ws)) ws && is_good (judged_domain most.chain (form_in ws)))
 
--- 22, then 1 where the words are the form of no accepted domain: `formed-iff` (proofs/AcceptedForms)
+-- 22, then 1 where the words are the form of no accepted domain: `formed_iff` (proofs/AcceptedForms)
 unfoldable pub form_read : Setting → List ℕ → Result Domain
 form_read most ws = unless (in_range most) (refusal 22 0 0) (unless (formed most ws) (refusal 1 0 0) (good (form_in ws)))
 

@@ -8,11 +8,11 @@ use Rattle.wiring.specs.graph.Graph.{loopfree, reached}
 use Rattle.wiring.specs.graph.Neighbours.{neighbours}
 use Rattle.wiring.specs.graph.LongChains.{unlong}
 
--- 11: loop. `loopfree` says exactly that there is none: `loopfree-iff` (proofs/graph/Loops)
+-- 11: loop. `loopfree` says exactly that there is none: `loopfree_iff` (proofs/graph/Loops)
 unfoldable pub unlooped : Domain → Result Domain
 unlooped d = unless (loopfree (length d) (neighbours d)) (refusal 11 0 0) (good d)
 
--- a chain joins expander 0 to expander i. `reached` says exactly that there is one: `reached-iff` (proofs/graph/ReachedByChain)
+-- a chain joins expander 0 to expander i. `reached` says exactly that there is one: `reached_iff` (proofs/graph/ReachedByChain)
 unfoldable pub joined : Domain → ℕ → Bool
 joined d i = reached (length d) (neighbours d) 0 i
 

@@ -9,7 +9,7 @@ use Rattle.wiring.specs.graph.Devices.{ChainIn}
 
 -- A chain has no more expanders than there are. Where fewer are allowed: a round takes away both ends of every chain, and after half as
 -- many rounds as a chain may have expanders none is left, or one where that number is odd. Past causes 11 and 12 this says exactly that no
--- chain has more: `within-iff` (proofs/graph/LongChains)
+-- chain has more: `within_iff` (proofs/graph/LongChains)
 unfoldable pub chains_within : ℕ → Domain → Bool
 chains_within most d = leb (length d) most || leb (length (strip (length d) (neighbours d) (most / 2) (up_to (length d)))) (most % 2)
 

@@ -1,4 +1,4 @@
--- fields_in yields the fields of the definitions: type and attribute, which are decoded by cases, by decoded-by-cases.
+-- fields_in yields the fields of the definitions: type and attribute, which are decoded by cases, by decoded-by_cases.
 use mathlib.Core.Path.{◌∙◌}
 use borrow.Author.Tests.{eq-eqb, ne_eqb}
 use Rattle.frames.proofs.Decoding.{decoded-by_cases}
