@@ -1,5 +1,5 @@
 #!/usr/bin/env python3
-"""Brings the repository's own names to today's spelling, once, after /opt/rattle/port/port.py: words in snake case.
+"""Brings the repository's own names to today's spelling, once, after port.py of the toolchain: words in snake case.
 
 usage: python3 tools/respell.py [--list]     at the top of the repository
 
