@@ -24,17 +24,14 @@ use Rattle.wiring.proofs.WiredAndLinked.{wired-file}
 use Rattle.tables.specs.filling.Entries.{Entries, Room, room_of, Enough, put_before, counted}
 use Rattle.tables.specs.filling.Tables.{table_places, tables, needed}
 use Rattle.tables.specs.JudgingCall.{judged, table_call, counts_in, tables_after, TablesDone}
-use Rattle.tables.specs.declared.TablesGiven.TheVariants.{Counts}
 use Rattle.tables.proofs.filling.CountedWords.{counted-length, counted-at}
 use Rattle.tables.proofs.filling.TableStretches.{index_for_index-file}
 use Rattle.tables.proofs.AcceptedDomains.{judged-routable, judged-file, judged_wires, table_call_iff}
 use Rattle.tracing.specs.Demand3.{Starts, OverTables, Delivered, Mission}
 use Rattle.tracing.specs.Trace.{Traced, Request, request, requested, trace_call, report, traced_request, TraceDone}
 use Rattle.tracing.specs.declared.End.{End}
-use Rattle.tracing.specs.declared.TraceAnswer.TheVariants.{Ended}
 use Rattle.tracing.proofs.RequestCauses.{requested_iff}
 use Rattle.tracing.proofs.Demand3.{demand3-file, demand3-clear}
-use Rattle.benches.specs.declared.Joining.TheVariants.{Bytes as Length}
 use Rattle.benches.specs.AcrossBench.{OneAfterOther, GivenFor, BenchEntries, filled_anew, brought_along, FromEither, AcrossBench}
 use Rattle.benches.specs.Bytes.{joined_file}
 use Rattle.benches.specs.JoinCall.{join_call, JoinDone}
@@ -149,7 +146,7 @@ module _ (setting : Setting) (first : List ℕ) (i p : ℕ) (second : List ℕ) 
 
     -- over the tables given for the two files, one after the other: the table call on the joined file would fill the same entries alike
     module _ (n₁ n₂ n : ℕ) (one other t : Entries) (o₁ : GivenFor setting first n₁ one) (o₂ : GivenFor setting second n₂ other) (along : OneAfterOther n₁ n₂ n one other t)
-        (r : Request) (e : End) (lent left : List ℕ) (done : TraceDone (trace_call setting new t (length lent) r) (Ended e) lent left) where
+        (r : Request) (e : End) (lent left : List ℕ) (done : TraceDone (trace_call setting new t (length lent) r) (good e) lent left) where
       abbrev d : Domain
       d = joined d₁ i p d₂ j q
 
@@ -167,7 +164,7 @@ module _ (setting : Setting) (first : List ℕ) (i p : ℕ) (second : List ℕ) 
           let b = then-good (requested r (room_of t) (length lent) d) _ a.0 (sym (call-is t) ∙ a.1) in
           ((requested_iff (room_of t) (length lent) r d).0 (b.0, b.1)).enough
 
-      given : TablesDone (table_call setting new (room_of t)) (Counts (length (table_places d)) (needed d)) t filled
+      given : TablesDone (table_call setting new (room_of t)) (good (record { table_count = length (table_places d); word_count = needed d })) t filled
       given =
           let g = (table_call_iff setting new d (room_of t)).1 (is-bench, enough) in
           record { answers = sym (ap (λ (x : Result Domain). then x counts_in) g); left = sym (ap (λ (x : Result Domain). tables_after x t) g) }
@@ -203,14 +200,14 @@ module _ (setting : Setting) (first : List ℕ) (i p : ℕ) (second : List ℕ) 
         table_count = length (table_places d);
         word_count = needed d;
         given = given;
-        over = subst (λ (x : Result Traced). TraceDone x (Ended e) lent left) (call-is t ∙ sym same-trace ∙ sym (call-is filled)) done;
+        over = subst (λ (x : Result Traced). TraceDone x (good e) lent left) (call-is t ∙ sym same-trace ∙ sym (call-is filled)) done;
       })
 
   -- from two accepted files without table-to-table links, a join call that answered with a length, and entries for the bench, given anew or brought
   -- along: every trace on the joined file over them that isn't refused
-  pub bench-demand3 : (n : ℕ) (before after : List ℕ) → JoinDone (join_call setting first i p second j q (length before)) (Length n) before after
+  pub bench-demand3 : (n : ℕ) (before after : List ℕ) → JoinDone (join_call setting first i p second j q (length before)) (good n) before after
       → (t : Entries) → BenchEntries setting first second (take n after) t
-      → (r : Request) (e : End) (lent left : List ℕ) → TraceDone (trace_call setting (take n after) t (length lent) r) (Ended e) lent left
+      → (r : Request) (e : End) (lent left : List ℕ) → TraceDone (trace_call setting (take n after) t (length lent) r) (good e) lent left
       → AcrossBench d₁ d₂ (joined d₁ i p d₂ j q) r e lent left
   bench-demand3 n before after done t b r e lent left o =
       across d₁ i p d₂ j q (joinable c) r e lent left (go (subst (λ (f : List ℕ). BenchEntries setting first second f t) y.0 b))
@@ -221,8 +218,8 @@ module _ (setting : Setting) (first : List ℕ) (i p : ℕ) (second : List ℕ) 
       c : Conditions setting d₁ i p d₂ j q
       c = y.2
 
-      x : TraceDone (trace_call setting new t (length lent) r) (Ended e) lent left
-      x = subst (λ (f : List ℕ). TraceDone (trace_call setting f t (length lent) r) (Ended e) lent left) y.0 o
+      x : TraceDone (trace_call setting new t (length lent) r) (good e) lent left
+      x = subst (λ (f : List ℕ). TraceDone (trace_call setting f t (length lent) r) (good e) lent left) y.0 o
 
       go : BenchEntries setting first second new t → Mission (joined d₁ i p d₂ j q) r e lent left
       go (filled_anew w g) = over-given c r e lent left (record { before = g.before; filled = t; table_count = g.table_count; word_count = w; given = g.given; over = x })

@@ -29,12 +29,10 @@ use Rattle.wiring.proofs.WiredAndLinked.{first_of-good, good-first_of, passed_if
 use Rattle.wiring.proofs.graph.LongChains.{never-long}
 use Rattle.tables.specs.JudgingCall.{judged_domain, judged}
 use Rattle.tables.proofs.AcceptedDomains.{judged-routable, judged-file, judged_wires}
-use Rattle.benches.specs.declared.Joining.{Joining}
-use Rattle.benches.specs.declared.Joining.TheVariants.{Refused, Bytes as Length}
 use Rattle.benches.specs.BenchRefusals.{RefusedWith, Repeats, SharedRefused, four, eight}
 use Rattle.benches.specs.BenchRows.{repeated, differing}
 use Rattle.benches.specs.Bytes.{joined_file}
-use Rattle.benches.specs.JoinCall.{free, join_call, joining_answer, JoinDone}
+use Rattle.benches.specs.JoinCall.{free, join_call, JoinDone}
 use Rattle.benches.specs.JoinConditions.{Free, Joinable}
 use Rattle.benches.specs.Joined.{joined}
 use Rattle.benches.proofs.JoinOutcomes.{both-accepted, too_many}
@@ -47,14 +45,14 @@ use Rattle.benches.proofs.LowestPlaces.{first-lowest}
 use Rattle.benches.proofs.SharedAddresses.{four-at, four_not, seven_not, eight_somewhere}
 
 -- a call whose outcome is a refusal
-refused_with : (outcome : Result (List ℕ)) (r : Refusal) (answer : Joining) (before after : List ℕ) → outcome ≡ refused r → JoinDone outcome answer before after
+refused_with : (outcome : Result (List ℕ)) (r : Refusal) (answer : Result ℕ) (before after : List ℕ) → outcome ≡ refused r → JoinDone outcome answer before after
     → RefusedWith r answer before after
 refused_with outcome r answer before after e done =
     record { says = told answer (done.answers ∙ ap (λ (x : Result (List ℕ)). then x length_of) e); bytes = done.bytes ∙ ap (λ (x : Result (List ℕ)). new_after x before) e }
   where
-    told : (a : Joining) → joining_answer a ≡ refused r → a ≡ Refused r
-    told (Refused s) h = let z : s ≡ r = cc in ap Refused z
-    told (Length n) h = never r n (sym h)
+    told : (a : Result ℕ) → a ≡ refused r → a ≡ refused r
+    told (refused s) h = let z : s ≡ r = cc in ap refused z
+    told (good n) h = never r n (sym h)
 
 claimed-range : (d : Domain) (x y : ℕ) → T (claimed d x y) → y < length (expander_at d x).phys
 unfolding claimed
@@ -87,7 +85,7 @@ long-judged chain d w l n =
     rw (w, e)
 
 -- a join call on any two files
-module _ (setting : Setting) (first : List ℕ) (i p : ℕ) (second : List ℕ) (j q : ℕ) (answer : Joining) (before after : List ℕ)
+module _ (setting : Setting) (first : List ℕ) (i p : ℕ) (second : List ℕ) (j q : ℕ) (answer : Result ℕ) (before after : List ℕ)
     (done : JoinDone (join_call setting first i p second j q (length before)) answer before after) where
   -- refusals from judging the first file are the call's
   pub first-refused : (r : Refusal) → judged setting first ≡ refused r → RefusedWith r answer before after
@@ -113,7 +111,7 @@ module _ (setting : Setting) (first : List ℕ) (i p : ℕ) (second : List ℕ) 
 -- from two accepted files whose named phys can take the cable
 module _ (setting : Setting) (first : List ℕ) (i p : ℕ) (second : List ℕ) (j q : ℕ) (d₁ d₂ : Domain)
     (e₁ : judged setting first ≡ good d₁) (e₂ : judged setting second ≡ good d₂) (f₁ : Free d₁ i p) (f₂ : Free d₂ j q)
-    (answer : Joining) (before after : List ℕ) (done : JoinDone (join_call setting first i p second j q (length before)) answer before after) where
+    (answer : Result ℕ) (before after : List ℕ) (done : JoinDone (join_call setting first i p second j q (length before)) answer before after) where
   abbrev new : List ℕ
   new = joined_file first i p second j q
 

@@ -12,7 +12,9 @@ use borrow.Author.Tests.{le-leb, eq-eqb, ne_eqb}
 use Rattle.frames.specs.Bytes.{byte, bits, number_at, bytes_of}
 use Rattle.frames.specs.Refusals.{good, refusal}
 use Rattle.frames.specs.Sizes.{size_stated, frame_size, short_size}
-use Rattle.frames.specs.Discovery.{Discovered, vacant, fields, discover_fixed, discover_fields, by_result, discovered, discover_read}
+use Rattle.frames.specs.Discovery.{discover_fixed, discover_fields, by_result, discovered, discover_read}
+use Rattle.frames.specs.declared.Discovered.{Discovered}
+use Rattle.frames.specs.declared.Discovered.TheVariants.{Vacant as vacant, Fields as fields}
 use Rattle.frames.specs.declared.Discover.{Discover}
 use Rattle.frames.specs.declared.Response.{Response}
 use Rattle.frames.specs.declared.Response.TheVariants.{Discover as DiscoverResponse}
@@ -21,7 +23,8 @@ use Rattle.frames.proofs.ByteNumbers.{number-back}
 use Rattle.files.specs.declared.Phy.{Phy}
 use Rattle.files.specs.declared.Phy.TheVariants.{Vacant, Present}
 use Rattle.files.specs.Domain.{attribute_of}
-use Rattle.files.specs.File.{Parsed, parsed, size_at, fields_of, ranged, phy_of, phy_unit}
+use Rattle.files.specs.File.{parsed, size_at, fields_of, ranged, phy_of, phy_unit}
+use Rattle.files.specs.declared.Parsed.{Parsed}
 use Rattle.files.proofs.ListMembers.{is_true}
 use Rattle.files.proofs.CallResults.{good-one, unless-good, good-unless, then-good}
 use Rattle.files.proofs.UnitReading.{size-whole, size-by, phy-unit-by}

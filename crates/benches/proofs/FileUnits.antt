@@ -26,7 +26,8 @@ use Rattle.files.specs.ReadDomain.{ReadExpander, addresses}
 use Rattle.files.proofs.ListMembers.{is_false, of-is_in, in_cast, in_append}
 use Rattle.files.specs.Domain.{Expander, Domain, expander_at, phy_at, attribute_of}
 use Rattle.files.specs.PhyReplaced.{with_phy, set_phy}
-use Rattle.files.specs.File.{Parsed, parsed, phy_unit, phy_units, unit_of, unit_tested, expander_unit, expander_of, expanders}
+use Rattle.files.specs.File.{parsed, phy_unit, phy_units, unit_of, unit_tested, expander_unit, expander_of, expanders}
+use Rattle.files.specs.declared.Parsed.{Parsed}
 use Rattle.files.specs.UnitAnswers.{ends_at}
 use Rattle.files.proofs.CallResults.{good-one, unless-good, then-good}
 use Rattle.files.proofs.UnitReading.{size-whole, expander-unit-by, phys-count, tested-same}

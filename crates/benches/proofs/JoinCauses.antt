@@ -14,9 +14,8 @@ use Rattle.files.proofs.CallResults.{unless-good, good-unless, then-good, good-t
 use Rattle.files.proofs.ListMembers.{and_left, and_right, and_both}
 use Rattle.tables.specs.JudgingCall.{judged}
 use Rattle.tables.proofs.TableRefusals.{Numbered, numbered-unless, numbered-then, exactly, judged-numbered, judged_causes, causes_judged}
-use Rattle.benches.specs.declared.Joining.{Joining}
 use Rattle.benches.specs.Bytes.{joined_file}
-use Rattle.benches.specs.JoinCall.{free, shifted, join_call, joining_answer, JoinDone}
+use Rattle.benches.specs.JoinCall.{free, shifted, join_call, JoinDone}
 use Rattle.benches.specs.JoinCauses.{NoJoinCause, join_number}
 use Rattle.benches.specs.JoinConditions.{Free}
 use Rattle.benches.proofs.JoinOutcomes.{both-accepted, shifted-good}
@@ -28,12 +27,12 @@ shifted-numbered P n (refused r) h = h
 shifted-numbered P n (good d) h = h
 
 -- the join call answers exactly when none of its causes holds, and refuses with no other number
-pub join-refuses : (setting : Setting) (first : List ℕ) (i p : ℕ) (second : List ℕ) (j q : ℕ) (answer : Joining) (before after : List ℕ)
+pub join-refuses : (setting : Setting) (first : List ℕ) (i p : ℕ) (second : List ℕ) (j q : ℕ) (answer : Result ℕ) (before after : List ℕ)
     → JoinDone (join_call setting first i p second j q (length before)) answer before after
-    → RefusesExactly (joining_answer answer) (NoJoinCause setting first i p second j q (length before)) join_number
+    → RefusesExactly answer (NoJoinCause setting first i p second j q (length before)) join_number
 unfolding join_call
 join-refuses setting first i p second j q answer before after done =
-    exactly join_number (joining_answer answer) (then (join_call setting first i p second j q room) length_of) (NoJoinCause setting first i p second j q room) done.answers numbered from to
+    exactly join_number answer (then (join_call setting first i p second j q room) length_of) (NoJoinCause setting first i p second j q room) done.answers numbered from to
   where
     room : ℕ
     room = length before

@@ -11,7 +11,6 @@ use Rattle.frames.specs.Bytes.{byte}
 use Rattle.frames.specs.Refusals.{Result, refused, good, unless, then, refusal, fitting}
 use Rattle.frames.specs.declared.Refusal.{Refusal}
 use Rattle.files.specs.declared.Setting.{Setting}
-use Rattle.wiring.specs.declared.Check.TheVariants.{Refused as NotPassed, Passed}
 use Rattle.files.specs.Lists.{any}
 use Rattle.files.specs.Settings.{in_range}
 use Rattle.files.specs.Domain.{Domain, expander_at, phy_at, is_subtractive, attached}
@@ -26,31 +25,30 @@ use Rattle.wiring.proofs.FileRows.{file-room}
 use Rattle.files.proofs.Domains.{attribute-range}
 use Rattle.tables.specs.JudgingCall.{judged_domain, judged}
 use Rattle.tables.proofs.AcceptedDomains.{judged-file}
-use Rattle.benches.specs.declared.Joining.{Joining}
-use Rattle.benches.specs.declared.Joining.TheVariants.{Bytes}
-use Rattle.benches.specs.declared.Side.TheVariants.{Accepted as IsAccepted}
 use Rattle.benches.specs.Bytes.{joined_file}
 use Rattle.benches.specs.BenchRows.{check_of}
-use Rattle.benches.specs.JoinCall.{upward, free, shifted, join_for, join_call, joining_answer, JoinDone}
-use Rattle.benches.specs.SidesFound.{Accepted, SideFound, side_answer, side_of, Counts, counts_for, files_for, Ready, stated_both, JoinRoom}
+use Rattle.benches.specs.JoinCall.{upward, free, shifted, join_for, join_call, JoinDone}
+use Rattle.benches.specs.declared.SideFound.{SideFound}
+use Rattle.benches.specs.declared.Counts.{Counts}
+use Rattle.benches.specs.SidesFound.{Accepted, side_of, counts_for, files_for, Ready, stated_both, JoinRoom}
 use Rattle.offsets.specs.Offsets.{Placed}
 use Rattle.benches.proofs.RefusalBounds.{up-refused, judged-up}
 use Rattle.offsets.proofs.Offsets.{units_of, length_bound, phy-placed}
 use Rattle.benches.proofs.JoinedFileWritten.{length-joined}
 
 -- refused, and done
-pub join-refused : (o : Result (List ℕ)) (r : Refusal) (answer : Joining) (before : List ℕ) → o ≡ refused r → joining_answer answer ≡ refused r → JoinDone o answer before before
+pub join-refused : (o : Result (List ℕ)) (r : Refusal) (answer : Result ℕ) (before : List ℕ) → o ≡ refused r → answer ≡ refused r → JoinDone o answer before before
 join-refused o r answer before e a = rw e (record { answers = a; bytes = refl })
 
-pub join-good : (o : Result (List ℕ)) (new : List ℕ) (n : ℕ) (before after : List ℕ) → o ≡ good new → n ≡ length new → after ≡ new ++ drop n before → JoinDone o (Bytes n) before after
+pub join-good : (o : Result (List ℕ)) (new : List ℕ) (n : ℕ) (before after : List ℕ) → o ≡ good new → n ≡ length new → after ≡ new ++ drop n before → JoinDone o (good n) before after
 join-good o new n before after e l w = rw e (record { answers = ap good l; bytes = w ∙ ap (λ (k : ℕ). new ++ drop k before) l })
 
 -- what judging the rows answers
-pub not_passed : (x : Result Domain) (r : Refusal) → NotPassed r ≡ check_of x → x ≡ refused r
+pub not_passed : (x : Result Domain) (r : Refusal) → refused r ≡ check_of x → x ≡ refused r
 not_passed (refused s) r e = let q : r ≡ s = cc in ap refused (sym q)
 not_passed (good d) r e = let z : ◌≡◌ {A = ℕ} 0 1 = cc in absurd (omega arith)
 
-pub was-passed : (x : Result Domain) → Passed ≡ check_of x → (d : Domain) × (x ≡ good d)
+pub was-passed : (x : Result Domain) → (good tt) ≡ check_of x → (d : Domain) × (x ≡ good d)
 was-passed (refused s) e = let z : ◌≡◌ {A = ℕ} 0 1 = cc in absurd (omega arith)
 was-passed (good d) e = (d, refl)
 
@@ -79,7 +77,7 @@ side_refused setting file i p r e = rw e
 
 pub side_good : (setting : Setting) (file : List ℕ) (i p n : ℕ) (f : Bool) (d : Domain) → judged setting file ≡ good d → n ≡ length d → f ≡ free d i p
     → ◌≡◌ {A = Result SideFound} (good (record { count = n; free = f })) (then (judged setting file) (side_of i p))
-side_good setting file i p n f d e a b = ap₂ (λ (k : ℕ) (g : Bool). side_answer (IsAccepted k g)) a b ∙ sym (ap (λ (x : Result Domain). then x (side_of i p)) e)
+side_good setting file i p n f d e a b = ap₂ (λ (k : ℕ) (g : Bool). good (record { count = k; free = g })) a b ∙ sym (ap (λ (x : Result Domain). then x (side_of i p)) e)
 
 -- a file that was read into rows and judged there
 pub judged-by : (setting : Setting) (file : List ℕ) (d : Domain) (x : Result Domain) → domain_read setting file ≡ good d → judged_domain setting.chain d ≡ x → judged setting file ≡ x

@@ -24,12 +24,10 @@ use Rattle.files.proofs.Domains.{in_range_lem}
 use Rattle.wiring.proofs.graph.LongChains.{never-long}
 use Rattle.tables.specs.JudgingCall.{judged}
 use Rattle.tables.proofs.AcceptedDomains.{judged-file}
-use Rattle.benches.specs.declared.Joining.{Joining}
-use Rattle.benches.specs.declared.Joining.TheVariants.{Refused, Bytes as Length}
 use Rattle.benches.specs.JoinConditions.{Free, Joinable}
 use Rattle.benches.specs.Bytes.{joined_file}
 use Rattle.benches.specs.Joined.{joined}
-use Rattle.benches.specs.JoinCall.{upward, free, join_for, join_call, joining_answer, JoinDone}
+use Rattle.benches.specs.JoinCall.{upward, free, join_for, join_call, JoinDone}
 use Rattle.benches.proofs.PartsOfJoined.{joined_length}
 use Rattle.benches.proofs.JoinedReads.{judging-joined, joined-exactly}
 use Rattle.benches.proofs.JoinOutcomes.{both-accepted}
@@ -126,7 +124,7 @@ module _ (setting : Setting) (first : List ℕ) (i p : ℕ) (second : List ℕ) 
   told (good file) n h = (file, refl, good-one n (length file) h)
 
   -- where the call answered with a length, so many of the lent bytes are the joined file, those after stay, and the conditions hold
-  pub join_written : (n : ℕ) (before after : List ℕ) → JoinDone (join_call setting first i p second j q (length before)) (Length n) before after
+  pub join_written : (n : ℕ) (before after : List ℕ) → JoinDone (join_call setting first i p second j q (length before)) (good n) before after
       → (take n after ≡ new) × (drop n after ≡ drop n before) × Conditions setting d₁ i p d₂ j q
   join_written n before after done =
       let y = told (join_call setting first i p second j q (length before)) n done.answers in
@@ -137,32 +135,32 @@ module _ (setting : Setting) (first : List ℕ) (i p : ℕ) (second : List ℕ) 
       (ap (take n) e ∙ take_at new (drop n before) n (sym m), ap (drop n) e ∙ drop_at new (drop n before) n (sym m), g.1)
 
   -- over what the call promises: it answers with a length exactly then
-  pub join-exactly : (answer : Joining) (before after : List ℕ) → length new ≤ length before → JoinDone (join_call setting first i p second j q (length before)) answer before after
-      → ((n : ℕ) × (answer ≡ Length n)) ↔ Conditions setting d₁ i p d₂ j q
+  pub join-exactly : (answer : Result ℕ) (before after : List ℕ) → length new ≤ length before → JoinDone (join_call setting first i p second j q (length before)) answer before after
+      → ((n : ℕ) × (answer ≡ good n)) ↔ Conditions setting d₁ i p d₂ j q
   join-exactly answer before after enough done = (there, back)
     where
       outcome : Result (List ℕ)
       outcome = join_call setting first i p second j q (length before)
 
-      there : (n : ℕ) × (answer ≡ Length n) → Conditions setting d₁ i p d₂ j q
-      there h = let y = told outcome h.0 (sym (ap joining_answer h.1) ∙ done.answers) in (yields-joined (length before) y.0 y.1).1
+      there : (n : ℕ) × (answer ≡ good n) → Conditions setting d₁ i p d₂ j q
+      there h = let y = told outcome h.0 (sym (h.1) ∙ done.answers) in (yields-joined (length before) y.0 y.1).1
 
-      answered : (a : Joining) (n : ℕ) → joining_answer a ≡ good n → (n : ℕ) × (a ≡ Length n)
-      answered (Refused r) n h = never r n h
-      answered (Length m) n h = (m, refl)
+      answered : (a : Result ℕ) (n : ℕ) → a ≡ good n → (n : ℕ) × (a ≡ good n)
+      answered (refused r) n h = never r n h
+      answered (good m) n h = (m, refl)
 
-      back : Conditions setting d₁ i p d₂ j q → (n : ℕ) × (answer ≡ Length n)
+      back : Conditions setting d₁ i p d₂ j q → (n : ℕ) × (answer ≡ good n)
       back c = let y = (yields-exactly (length before) enough).1 c in answered answer (length y.0) (done.answers ∙ ap (λ (x : Result (List ℕ)). then x length_of) y.1)
 
 -- for the setting 64, 128, 64 no chain is too long, and the last condition falls away: the paper's own sentence
 pub join-widest : (first : List ℕ) (i p : ℕ) (second : List ℕ) (j q : ℕ) (d₁ d₂ : Domain) → judged widest first ≡ good d₁ → judged widest second ≡ good d₂
-    → Bytes first → Bytes second → (answer : Joining) (before after : List ℕ) → length (joined_file first i p second j q) ≤ length before
+    → Bytes first → Bytes second → (answer : Result ℕ) (before after : List ℕ) → length (joined_file first i p second j q) ≤ length before
     → JoinDone (join_call widest first i p second j q (length before)) answer before after
-    → ((n : ℕ) × (answer ≡ Length n)) ↔ ((length d₁ + length d₂ ≤ 64) × Joinable d₁ i p d₂ j q)
+    → ((n : ℕ) × (answer ≡ good n)) ↔ ((length d₁ + length d₂ ≤ 64) × Joinable d₁ i p d₂ j q)
 join-widest first i p second j q d₁ d₂ e₁ e₂ b₁ b₂ answer before after enough done = (
   λ h. let c = exactly.0 h in (c.few, record { first = c.first; second = c.second; apart = c.apart }),
   λ h. exactly.1 (record { few = h.0; first = h.1.first; second = h.1.second; apart = h.1.apart; short = never-long 64 (joined d₁ i p d₂ j q) (omega (arith, h.0, joined_length d₁ i p d₂ j q)) }),
 )
   where
-    exactly : ((n : ℕ) × (answer ≡ Length n)) ↔ Conditions widest d₁ i p d₂ j q
+    exactly : ((n : ℕ) × (answer ≡ good n)) ↔ Conditions widest d₁ i p d₂ j q
     exactly = join-exactly widest first i p second j q d₁ d₂ e₁ e₂ b₁ b₂ answer before after enough done

@@ -15,8 +15,8 @@ use Rattle.files.proofs.ReadDomain.{read-good}
 use Rattle.files.proofs.CallResults.{good-one}
 use Rattle.tables.specs.filling.Tables.{tables, needed}
 use Rattle.tables.specs.filling.Entries.{Entries, room_of}
-use Rattle.tables.specs.JudgingCall.{judged, judged_tables, table_call, Counted, counts_in, TablesDone}
-use Rattle.tables.specs.declared.TablesGiven.TheVariants.{Counts}
+use Rattle.tables.specs.declared.Counted.{Counted}
+use Rattle.tables.specs.JudgingCall.{judged, judged_tables, table_call, counts_in, TablesDone}
 use Rattle.tables.proofs.filling.TableLengths.{tables-length}
 use Rattle.tables.proofs.AcceptedDomains.{judged-file, table-call, tables-same}
 use Rattle.tables.proofs.TableRefusals.{counts_iff, tables-of}
@@ -30,13 +30,13 @@ use Rattle.benches.proofs.JoinRefusals.{Conditions}
 
 -- a table call on a file that is accepted as d, and that answered counts
 module _ (setting : Setting) (file : List ℕ) (d : Domain) (e : judged setting file ≡ good d) (t n : ℕ) (before after : Entries)
-    (done : TablesDone (table_call setting file (room_of before)) (Counts t n) before after) where
-  over : TablesDone (judged_tables setting.chain d (room_of before)) (Counts t n) before after
-  over = subst (λ (x : Result Domain). TablesDone x (Counts t n) before after) (table-call setting file d ((judged-file setting file d).0 e).0 (room_of before)) done
+    (done : TablesDone (table_call setting file (room_of before)) (good (record { table_count = t; word_count = n })) before after) where
+  over : TablesDone (judged_tables setting.chain d (room_of before)) (good (record { table_count = t; word_count = n })) before after
+  over = subst (λ (x : Result Domain). TablesDone x (good (record { table_count = t; word_count = n })) before after) (table-call setting file d ((judged-file setting file d).0 e).0 (room_of before)) done
 
   count-is : n ≡ needed d
   count-is =
-      let c = (counts_iff (judged_tables setting.chain d (room_of before)) (Counts t n) before after over).0 (t, n, refl) in
+      let c = (counts_iff (judged_tables setting.chain d (room_of before)) (good (record { table_count = t; word_count = n })) before after over).0 (t, n, refl) in
       let s = tables-same setting.chain d c.0 (room_of before) c.1 in
       ap (λ (x : Counted). x.word_count) (good-one _ _ (over.answers ∙ ap (λ (x : Result Domain). then x counts_in) c.1)) ∙ ap needed (sym s.0)
 
@@ -67,9 +67,9 @@ module _ (setting : Setting) (first : List ℕ) (i p : ℕ) (second : List ℕ) 
 
   -- table calls on the two files and on the joined one, each with its own lent entries
   pub joined-entries : (t₁ n₁ t₂ n₂ t n : ℕ) (before₁ one before₂ other before both : Entries)
-      → TablesDone (table_call setting first (room_of before₁)) (Counts t₁ n₁) before₁ one
-      → TablesDone (table_call setting second (room_of before₂)) (Counts t₂ n₂) before₂ other
-      → TablesDone (table_call setting (joined_file first i p second j q) (room_of before)) (Counts t n) before both
+      → TablesDone (table_call setting first (room_of before₁)) (good (record { table_count = t₁; word_count = n₁ })) before₁ one
+      → TablesDone (table_call setting second (room_of before₂)) (good (record { table_count = t₂; word_count = n₂ })) before₂ other
+      → TablesDone (table_call setting (joined_file first i p second j q) (room_of before)) (good (record { table_count = t; word_count = n })) before both
       → OneAfterOther n₁ n₂ n one other both
   joined-entries t₁ n₁ t₂ n₂ t n before₁ one before₂ other before both o₁ o₂ o =
       record {

@@ -9,7 +9,9 @@ use lib.Dec.{T, eqb, leb, leb→le}
 use Rattle.frames.specs.Bytes.{byte, number_at}
 use Rattle.frames.specs.Refusals.{Result, refused, good, unless, then, refusal}
 use Rattle.frames.specs.ReportGeneral.{general_read}
-use Rattle.frames.specs.Discovery.{Discovered, vacant, fields, discover_read}
+use Rattle.frames.specs.Discovery.{discover_read}
+use Rattle.frames.specs.declared.Discovered.{Discovered}
+use Rattle.frames.specs.declared.Discovered.TheVariants.{Vacant as vacant, Fields as fields}
 use Rattle.frames.specs.declared.Refusal.{Refusal}
 use Rattle.frames.specs.declared.Response.TheVariants.{ReportGeneral, Discover}
 use Rattle.files.specs.declared.Setting.{Setting}

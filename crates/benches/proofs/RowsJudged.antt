@@ -8,11 +8,8 @@ use native.Mathlib.Nat.{zero-add}
 use lib.ListN.{length, take, drop, set, length-append, length-drop, length-set, get_or-append}
 use lib.Seq.{length-take-le, take_at, take-append-le, take-append-add, drop-append-le, get_or-append-add, set-append_left}
 use borrow.Author.Tests.{le-leb, ne_eqb}
-use Rattle.frames.specs.Refusals.{Result, good}
+use Rattle.frames.specs.Refusals.{refused, Result, good}
 use Rattle.files.specs.declared.Setting.{Setting}
-use Rattle.files.specs.declared.DomainRead.{DomainRead}
-use Rattle.wiring.specs.declared.Check.{Check}
-use Rattle.wiring.specs.declared.Check.TheVariants.{Refused, Passed}
 use Rattle.files.specs.Domain.{Expander, Domain, no_expander, expander_at}
 use Rattle.files.specs.ReadDomain.{Bytes}
 use Rattle.wiring.specs.index.AddressIndex.{slots_before, IndexRoom}
@@ -76,7 +73,7 @@ domain-append n m u v h k f =
     ∙ ap₂ (λ (c d : Domain). c ++ d) (sym (domain-rows n u h (omega arith))) (sym (domain-rows m v k (omega arith)))
 
 -- words that a file was read into hold its domain
-rows_hold_lem : (setting : Setting) (file before after : List ℕ) (answer : DomainRead) (d : Domain) → domain_read setting file ≡ good d → row_words * length d ≤ length before
+rows_hold_lem : (setting : Setting) (file before after : List ℕ) (answer : Result ℕ) (d : Domain) → domain_read setting file ≡ good d → row_words * length d ≤ length before
     → RowsRead setting file answer before after → domain_in (take (row_words * length d) after) ≡ d
 unfolding rows_read
 rows_hold_lem setting file before after answer d q h r =
@@ -85,7 +82,7 @@ rows_hold_lem setting file before after answer d q h r =
 
 -- two files read into rows, the second after the first
 pub both-held : (setting : Setting) (first second : List ℕ) (d₁ d₂ : Domain) → domain_read setting first ≡ good d₁ → domain_read setting second ≡ good d₂
-    → (before one between two after : List ℕ) (a b : DomainRead) → RowsRead setting first a before one → RowsRead setting second b between two
+    → (before one between two after : List ℕ) (a b : Result ℕ) → RowsRead setting first a before one → RowsRead setting second b between two
     → (n m : ℕ) → n ≡ length d₁ → m ≡ length d₂ → n + m ≤ 64 → row_words * (n + m) ≤ length before
     → length one ≡ length before → length between ≡ length before - row_words * n → length two ≡ length between
     → domain_in (take (row_words * (n + m)) (take (row_words * n) one ++ (two ++ after))) ≡ d₁ ++ d₂
@@ -161,7 +158,7 @@ module _ (setting : Setting) (first : List ℕ) (n i p : ℕ) (second : List ℕ
   ready_place = omega (arith, ready_few, attribute-inside c.other.domain 1 j q (omega arith) free_other.subtractive, c.other.count)
 
   -- rows that both files were read into, one after the other, with the cable written, were judged: what judging the joined file says
-  pub bench-judged : Bytes first → Bytes second → (rows part rest who low : List ℕ) (answer : Check) → slots_before (n + m) ≤ length who → 128 * (n + m) ≤ length low
+  pub bench-judged : Bytes first → Bytes second → (rows part rest who low : List ℕ) (answer : Result Unit) → slots_before (n + m) ≤ length who → 128 * (n + m) ≤ length low
       → domain_in (take (row_words * (n + m)) rows) ≡ both_read setting first second → domain_in part ≡ cabled (domain_in (take (row_words * (n + m)) rows)) n i p j q → length part ≡ row_words * (n + m)
       → check_answer (domain_in (take (row_words * (n + m)) (part ++ rest))) answer ≡ apart_in setting.chain (length who) (length low) (domain_in (take (row_words * (n + m)) (part ++ rest)))
       → answer ≡ check_of (judged setting (joined_file first i p second j q))
@@ -179,6 +176,6 @@ module _ (setting : Setting) (first : List ℕ) (n i p : ℕ) (second : List ℕ
       let v : check_answer J answer ≡ apart_in setting.chain (length who) (length low) J = rw e at judge in
       told J answer ∙ ap check_of (v ∙ rows_own setting first i p second j q d₁ d₂ read_one read-other b₁ b₂ free_one free_other few who low room)
     where
-      told : (d : Domain) (answer : Check) → answer ≡ check_of (check_answer d answer)
-      told d (Refused r) = refl
-      told d Passed = refl
+      told : (d : Domain) (answer : Result Unit) → answer ≡ check_of (check_answer d answer)
+      told d (refused r) = refl
+      told d (good tt) = refl

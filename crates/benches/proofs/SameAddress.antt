@@ -10,10 +10,8 @@ use lib.Seq.{get_or-append_seam}
 use lib.Dec.{eqb, leb, eqb→eq}
 use borrow.Author.Tests.{eq-eqb, ne_eqb, le-leb, lt-leb}
 use Rattle.frames.specs.declared.Refusal.{Refusal}
-use Rattle.frames.specs.Refusals.{good, unless, then, refusal}
+use Rattle.frames.specs.Refusals.{Result, refused, good, unless, then, refusal}
 use Rattle.files.specs.declared.Setting.{Setting}
-use Rattle.wiring.specs.declared.Check.{Check}
-use Rattle.wiring.specs.declared.Check.TheVariants.{Refused}
 use Rattle.files.specs.Lists.{any, In, is_in}
 use Rattle.files.specs.ReadDomain.{ReadExpander, addresses}
 use Rattle.files.specs.Domain.{Expander, Domain, no_expander, expander_at, number_of}
@@ -41,12 +39,12 @@ module _ (d : Domain) (n k : ℕ) {v : ℕ} (inv : repeated_from d (n - k) k ≡
   repeated-end h = let e : n - k ≡ 0 = omega arith in sym (rw e refl) ∙ inv
 
 -- 4 is refused, or it does not hold and the rest is judged
-pub apart-refused : (chain who low : ℕ) (d : Domain) (k : ℕ) (answer : Check) → k ≡ repeated d → k < length d → answer ≡ Refused (refusal 4 k 0)
+pub apart-refused : (chain who low : ℕ) (d : Domain) (k : ℕ) (answer : Result Unit) → k ≡ repeated d → k < length d → answer ≡ refused (refusal 4 k 0)
     → check_answer d answer ≡ apart_in chain who low d
 unfolding differing
 apart-refused chain who low d k answer e h a = rw (a, ← e, lt-leb (length d) k h) refl
 
-pub apart-judged : (chain who low : ℕ) (d : Domain) (answer : Check) → length d ≤ repeated d → check_answer d answer ≡ judged_in chain who low d
+pub apart-judged : (chain who low : ℕ) (d : Domain) (answer : Result Unit) → length d ≤ repeated d → check_answer d answer ≡ judged_in chain who low d
     → check_answer d answer ≡ apart_in chain who low d
 unfolding differing
 apart-judged chain who low d answer h a = rw (le-leb (length d) (repeated d) h) a

@@ -22,9 +22,7 @@ use Rattle.tracing.specs.Steps.{pick, subtractively, by_table, directly, step}
 use Rattle.tracing.specs.Trace.{after_step, trace_from, Request, request, traced, allowed, requested, traced_request, trace_call, TraceDone}
 use Rattle.tracing.specs.declared.End.{End}
 use Rattle.tracing.specs.declared.Outcome.TheVariants.{Arrived}
-use Rattle.tracing.specs.declared.TraceAnswer.TheVariants.{Ended}
 use Rattle.tracing.proofs.PairRig.{general, discover, phy}
-use Rattle.benches.specs.declared.Joining.TheVariants.{Bytes as Length}
 use Rattle.benches.specs.AcrossBench.{OneAfterOther, GivenFor, BenchEntries, filled_anew, brought_along, AcrossBench}
 use Rattle.benches.specs.Bytes.{cabled_frame, cabled_at, joined_file}
 use Rattle.benches.specs.JoinCall.{free, join_call, JoinDone}
@@ -113,7 +111,7 @@ yields = refl
 abbrev lent : List ℕ
 lent = replicate 562 0
 
-joins : JoinDone (join_call widest (rig 16) 0 1 (rig 64) 0 1 (length lent)) (Length 562) lent bench
+joins : JoinDone (join_call widest (rig 16) 0 1 (rig 64) 0 1 (length lent)) (good 562) lent bench
 unfolding general discover bytes_of
 joins = record {
   answers = sym (ap (λ (x : Result (List ℕ)). then x length_of) yields);
@@ -156,7 +154,7 @@ asked = request 1 1 81
 abbrev ended : End
 ended = record { outcome = Arrived; last = record { 0 = 3 }; phy = record { 0 = 1 }; count = 4 }
 
-traces : TraceDone (trace_call widest bench both 4 asked) (Ended ended) (replicate 4 0) (1 ∷ 0 ∷ 2 ∷ 3 ∷ [])
+traces : TraceDone (trace_call widest bench both 4 asked) (good ended) (replicate 4 0) (1 ∷ 0 ∷ 2 ∷ 3 ∷ [])
 unfolding general discover number_at bytes_of frame_size general_fixed general_read discover_fixed discover_read
     numbers any keep is_in number_of size_at phy_unit phy_units expander_unit expanders header_unit in_range domain_read
     unanswered end_at claimed clash clashing fixed phy_places places_from first_in wired_domain

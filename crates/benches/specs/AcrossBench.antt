@@ -1,12 +1,12 @@
 -- Arrival across the bench (document 02, paper 12): the words and bits over which requests go there, and how they end, in the terms of the two rigs.
 use Rattle.std.specs.Prelude.{ℕ, ◌+◌, ◌<◌, ◌≡◌, ◌⊎◌, ◌↔◌, List, length, get_or}
 use Rattle.frames.specs.Bits.{bits_of}
+use Rattle.frames.specs.Refusals.{good}
 use Rattle.files.specs.declared.Setting.{Setting}
 use Rattle.files.specs.Domain.{Domain}
 use Rattle.wiring.specs.graph.Devices.{Home, Borne}
 use Rattle.tables.specs.filling.Entries.{Entries, room_of}
 use Rattle.tables.specs.JudgingCall.{table_call, TablesDone}
-use Rattle.tables.specs.declared.TablesGiven.TheVariants.{Counts}
 use Rattle.tracing.specs.Trace.{Request, request}
 use Rattle.tracing.specs.Demand3.{Starts, Delivered, Mission}
 use Rattle.tracing.specs.declared.End.{End}
@@ -25,7 +25,7 @@ pub record OneAfterOther (n₁ n₂ n : ℕ) (one other both : Entries) : Type 0
 pub record GivenFor (setting : Setting) (file : List ℕ) (word_count : ℕ) (filled : Entries) : Type 0 where
   pub before : Entries
   pub table_count : ℕ
-  pub given : TablesDone (table_call setting file (room_of before)) (Counts table_count word_count) before filled
+  pub given : TablesDone (table_call setting file (room_of before)) (good (record { table_count = table_count; word_count = word_count })) before filled
 
 -- entries for the bench: those that the table call gave for the joined file, or those that it gave for the first and the second file, one after the other
 pub data BenchEntries (setting : Setting) (first second bench : List ℕ) (t : Entries) : Type 0 where

@@ -1,15 +1,13 @@
 -- What judging the joined file refuses (document 02, paper 12) where some address is a device's in both files: the number and the place.
 use Rattle.std.specs.Prelude.{ℕ, ◌+◌, ◌≤◌, ◌<◌, ◌≡◌, ◌⊎◌, Bool, List, length, T}
-use Rattle.frames.specs.Refusals.{refusal}
+use Rattle.frames.specs.Refusals.{Result, refused, refusal}
 use Rattle.frames.specs.declared.Refusal.{Refusal}
 use Rattle.files.specs.Domain.{Domain, expander_at}
 use Rattle.wiring.specs.phys.PhyCauses.{claimed}
-use Rattle.benches.specs.declared.Joining.{Joining}
-use Rattle.benches.specs.declared.Joining.TheVariants.{Refused}
 
 -- the call is refused so, and no lent byte changes
-pub record RefusedWith (r : Refusal) (answer : Joining) (before after : List ℕ) : Type 0 where
-  pub says : answer ≡ Refused r
+pub record RefusedWith (r : Refusal) (answer : Result ℕ) (before after : List ℕ) : Type 0 where
+  pub says : answer ≡ refused r
   pub bytes : after ≡ before
 
 -- expander y of the second has the address of an expander of the first
@@ -28,7 +26,7 @@ pub record LowestPlace (test : ℕ → ℕ → Bool) (x y : ℕ) : Type 0 where
 
 -- "device addresses shared by both get 4 or 8": 4 where an expander of the second has the address of an expander of the first, at the lowest such;
 -- 8 where none has, at the lowest phy of the joined domain at which 8 holds. Places are in the joined file's numbers
-pub data SharedRefused (d₁ d₂ bench : Domain) (answer : Joining) (before after : List ℕ) : Type 0 where
+pub data SharedRefused (d₁ d₂ bench : Domain) (answer : Result ℕ) (before after : List ℕ) : Type 0 where
   four : (y : ℕ) → LowestRepeat d₁ d₂ y → RefusedWith (refusal 4 (length d₁ + y) 0) answer before after → SharedRefused d₁ d₂ bench answer before after
   eight : ((y : ℕ) → ¬ (Repeats d₁ d₂ y)) → (x y : ℕ) → LowestPlace (claimed bench) x y → RefusedWith (refusal 8 x y) answer before after
       → SharedRefused d₁ d₂ bench answer before after

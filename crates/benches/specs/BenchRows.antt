@@ -2,8 +2,6 @@
 use Rattle.std.specs.Prelude.{ℕ, zero, suc, ◌+◌, cond, List, [], ◌++◌, length, eqb, leb}
 use Rattle.frames.specs.Refusals.{Result, refused, good, unless, then, refusal}
 use Rattle.files.specs.declared.Setting.{Setting}
-use Rattle.wiring.specs.declared.Check.{Check}
-use Rattle.wiring.specs.declared.Check.TheVariants.{Refused, Passed}
 use Rattle.files.specs.Domain.{Domain, expander_at, number_of}
 use Rattle.files.specs.File.{domain_read}
 use Rattle.files.specs.PhyReplaced.{set_phy}
@@ -47,6 +45,6 @@ abbrev pub apart_in : ℕ → ℕ → ℕ → Domain → Result Domain
 apart_in chain who low d = then (differing d) (judged_in chain who low)
 
 -- what a judgement says, without the domain
-abbrev pub check_of : Result Domain → Check
-check_of (refused r) = Refused r
-check_of (good d) = Passed
+abbrev pub check_of : Result Domain → Result Unit
+check_of (refused r) = refused r
+check_of (good d) = (good tt)

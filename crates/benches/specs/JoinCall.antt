@@ -6,8 +6,6 @@ use Rattle.files.specs.declared.Phy.{Phy}
 use Rattle.files.specs.Lists.{any}
 use Rattle.files.specs.Domain.{Domain, expander_at, phy_at, is_subtractive, attached}
 use Rattle.tables.specs.JudgingCall.{judged}
-use Rattle.benches.specs.declared.Joining.{Joining}
-use Rattle.benches.specs.declared.Joining.TheVariants.{Refused, Bytes}
 use Rattle.benches.specs.Bytes.{joined_file}
 
 -- an attached subtractive phy
@@ -38,12 +36,7 @@ join_call setting first i p second j q room =
     then (shifted (length d₁) (judged setting second)) (λ d₂.
     join_for setting first i p d₁ second j q d₂ room))
 
--- what the answer says in the documents' terms: the length in bytes
-abbrev pub joining_answer : Joining → Result ℕ
-joining_answer (Refused r) = refused r
-joining_answer (Bytes n) = good n
-
 -- all that a join call with this outcome promises: the answer, and the lent bytes after
-pub record JoinDone (outcome : Result (List ℕ)) (answer : Joining) (before after : List ℕ) : Type 0 where
-  pub answers : joining_answer answer ≡ then outcome length_of
+pub record JoinDone (outcome : Result (List ℕ)) (answer : Result ℕ) (before after : List ℕ) : Type 0 where
+  pub answers : answer ≡ then outcome length_of
   pub bytes : after ≡ new_after outcome before

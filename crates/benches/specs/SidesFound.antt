@@ -1,15 +1,13 @@
 -- What the inner functions of the join call are told.
 use Rattle.std.specs.Prelude.{ℕ, ◌+◌, ◌*◌, ◌≤◌, min, ◌≡◌, Bool, ◌&&◌, List, length, T, leb}
 use Rattle.frames.specs.Bytes.{byte}
-use Rattle.frames.specs.Refusals.{Result, refused, good, unless, then, refusal}
+use Rattle.frames.specs.Refusals.{Result, good, unless, then, refusal}
 use Rattle.files.specs.declared.Setting.{Setting}
 use Rattle.files.specs.Domain.{Domain}
 use Rattle.wiring.specs.index.AddressIndex.{slots_before}
 use Rattle.tables.specs.JudgingCall.{judged}
-use Rattle.benches.specs.declared.Side.{Side}
-use Rattle.benches.specs.declared.Side.TheVariants.{Refused as NotAccepted, Accepted as IsAccepted}
-use Rattle.benches.specs.declared.Files.{Files}
-use Rattle.benches.specs.declared.Files.TheVariants.{Refused as NotReady, Expanders}
+use Rattle.benches.specs.declared.SideFound.{SideFound}
+use Rattle.benches.specs.declared.Counts.{Counts}
 use Rattle.benches.specs.JoinCall.{free, shifted}
 use Rattle.files.specs.Rows.{row_words}
 use Rattle.files.specs.Settings.{most_expanders, most_phys}
@@ -21,27 +19,8 @@ pub record Accepted (setting : Setting) (file : List ℕ) (n : ℕ) : Type 0 whe
   pub count : n ≡ length domain
 
 -- how many expanders a file has, and whether its named phy can take the cable
-pub record SideFound : Type 0 where
-  pub count : ℕ
-  pub free : Bool
-
--- what the answer for one file says
-abbrev pub side_answer : Side → Result SideFound
-side_answer (NotAccepted r) = refused r
-side_answer (IsAccepted n f) = good (record { count = n; free = f })
-
 abbrev pub side_of : ℕ → ℕ → Domain → Result SideFound
 side_of i p d = good (record { count = length d; free = free d i p })
-
--- how many expanders two files have
-pub record Counts : Type 0 where
-  pub one : ℕ
-  pub other : ℕ
-
--- what the answer for both files says
-abbrev pub files_answer : Files → Result Counts
-files_answer (NotReady r) = refused r
-files_answer (Expanders n m) = good (record { one = n; other = m })
 
 -- 21, and 3 where the expanders are too many, of files of n and m expanders whose named phys can take the cable, or not
 abbrev pub counts_for : ℕ → ℕ → ℕ → Bool → Result Counts

@@ -9,7 +9,7 @@ ghost use Rattle.benches.specs.Joined.{cabled_to};
 ghost use Rattle.benches.specs.SidesFound.{Accepted, Ready, JoinRoom};
 
 use crate::repeats;
-use wiring::{Check, ExpanderNumber, Phy, PhyFields, PhyId, Setting};
+use wiring::{ExpanderNumber, Phy, PhyFields, PhyId, Refusal, Setting};
 
 // Reads two accepted files of n and m expanders into rows: the first's, then the second's.
 fn read_both(setting: Setting, first: &[u8], n: u8, second: &[u8], m: u8, rows: &mut [u64])
@@ -17,8 +17,9 @@ fn read_both(setting: Setting, first: &[u8], n: u8, second: &[u8], m: u8, rows: 
     ensures { domain_in (take (row_words * (n + m)) rows.new) ≡ both_read setting first.now second.now }
 {
     let a = files::ROW_WORDS * (n as usize);
-    wiring::read_domain(setting, first, rows);
-    wiring::read_domain(setting, second, &mut rows[a..]);
+    // both were accepted by themselves, so neither is refused
+    let _ = wiring::read_domain(setting, first, rows);
+    let _ = wiring::read_domain(setting, second, &mut rows[a..]);
 }
 
 // A subtractive phy cabled to phy q of the expander with address s.
@@ -46,12 +47,12 @@ fn cable_rows(rows: &mut [u64], n: u8, i: ExpanderNumber, p: PhyId, j: ExpanderN
 }
 
 // Judges rows that no single file was read into: 4, then causes 7 to 12, 23 and 14 as they are judged in every file's rows.
-fn judge_apart(rows: &[u64], who: &mut [u16], low: &mut [u8], chain: u8) -> Check
+fn judge_apart(rows: &[u64], who: &mut [u16], low: &mut [u8], chain: u8) -> Result<(), Refusal>
     ensures { check_answer (domain_in rows.now) result ≡ apart_in chain (length who.old) (length low.old) (domain_in rows.now) }
 {
     let k = repeats::first_repeated(rows);
     if k < wiring::expander_count(rows) {
-        return Check::Refused(wiring::refusal_at(4, ExpanderNumber(k), PhyId(0)));
+        return Err(wiring::refusal_at(4, ExpanderNumber(k), PhyId(0)));
     }
     tables::judge_rows(rows, who, low, chain)
 }
@@ -70,7 +71,7 @@ pub(crate) fn judge_both(
     rows: &mut [u64],
     who: &mut [u16],
     low: &mut [u8],
-) -> Check
+) -> Result<(), Refusal>
     requires { Ready setting first.now n i.0 p.0 second.now m j.0 q.0 × JoinRoom (n + m) rows.old who.old low.old }
     ensures { result ≡ check_of (judged setting (joined_file first.now i.0 p.0 second.now j.0 q.0)) }
 {

@@ -1,11 +1,12 @@
 // The join call.
+ghost use Rattle.wiring.specs.phys.Checks.{RoomFor};
 ghost use Rattle.std.specs.Prelude.{◌+◌, ◌≤◌, length};
 ghost use Rattle.frames.specs.Bytes.{byte};
 ghost use Rattle.benches.specs.JoinCall.{join_call, JoinDone};
 ghost use Rattle.benches.specs.SidesFound.{Ready, stated_both, JoinRoom};
 
-use crate::{Files, Joining, bench_rows, sides, writing};
-use wiring::{Check, ExpanderNumber, PhyId, Setting};
+use crate::{bench_rows, sides, writing};
+use wiring::{ExpanderNumber, PhyId, Refusal, Setting};
 
 // Judges the joined domain in rows, and writes the joined file where it is accepted and there is room: 16.
 fn join_ready(
@@ -22,22 +23,17 @@ fn join_ready(
     rows: &mut [u64],
     who: &mut [u16],
     low: &mut [u8],
-) -> Joining
+) -> Result<usize, Refusal>
     requires { Ready setting first.now n i.0 p.0 second.now m j.0 q.0 × JoinRoom (n + m) rows.old who.old low.old }
     ensures { JoinDone (join_call setting first.now i.0 p.0 second.now j.0 q.0 (length out.old)) result out.old out.new }
 {
-    let verdict = bench_rows::judge_both(setting, first, n, i, p, second, m, j, q, rows, who, low);
-    match verdict {
-        Check::Refused(r) => Joining::Refused(r),
-        Check::Passed => {
-            let size = first.len() + (second.len() - 2);
-            if out.len() < size {
-                return Joining::Refused(wiring::refused(16));
-            }
-            writing::put_joined(out, first, i, p, second, j, q);
-            Joining::Bytes(size)
-        }
+    bench_rows::judge_both(setting, first, n, i, p, second, m, j, q, rows, who, low)?;
+    let size = first.len() + (second.len() - 2);
+    if out.len() < size {
+        return Err(wiring::refused(16));
     }
+    writing::put_joined(out, first, i, p, second, j, q);
+    Ok(size)
 }
 
 // Both files judged, 21 and 3, then the joined domain judged, then 16: with room for the rows of both files and for who has which address.
@@ -53,53 +49,30 @@ fn join_in(
     rows: &mut [u64],
     who: &mut [u16],
     low: &mut [u8],
-) -> Joining
+) -> Result<usize, Refusal>
     requires { JoinRoom (stated_both first.now second.now) rows.old who.old low.old }
     ensures { JoinDone (join_call setting first.now i.0 p.0 second.now j.0 q.0 (length out.old)) result out.old out.new }
 {
-    let files = sides::judge_files(setting, first, i, p, second, j, q, rows, who, low);
-    match files {
-        Files::Refused(r) => Joining::Refused(r),
-        Files::Expanders(n, m) => join_ready(
-            setting, first, n, i, p, second, m, j, q, out, rows, who, low,
-        ),
-    }
-}
-
-// The join call of files that state few expanders: at most 8 in all.
-fn join_few(
-    setting: Setting,
-    first: &[u8],
-    i: ExpanderNumber,
-    p: PhyId,
-    second: &[u8],
-    j: ExpanderNumber,
-    q: PhyId,
-    out: &mut [u8],
-) -> Joining
-    requires { byte first.now 1 + byte second.now 1 ≤ 8 }
-    ensures { JoinDone (join_call setting first.now i.0 p.0 second.now j.0 q.0 (length out.old)) result out.old out.new }
-{
-    let mut rows = [0u64; files::ROWS_OF_8];
-    let mut who = [0u16; wiring::SLOTS_OF_8];
-    let mut low = [0u8; wiring::PHYS_OF_8];
-    join_in(
+    let counts = sides::judge_files(setting, first, i, p, second, j, q, rows, who, low)?;
+    join_ready(
         setting,
         first,
+        counts.one,
         i,
         p,
         second,
+        counts.other,
         j,
         q,
         out,
-        &mut rows[..],
-        &mut who[..],
-        &mut low[..],
+        rows,
+        who,
+        low,
     )
 }
 
-// The join call, with room for the most expanders.
-fn join_many(
+// The join call, with room of this size: words for rows, and entries for slots and phys.
+fn join_with<const ROWS: usize, const SLOTS: usize, const PHYS: usize>(
     setting: Setting,
     first: &[u8],
     i: ExpanderNumber,
@@ -108,12 +81,13 @@ fn join_many(
     j: ExpanderNumber,
     q: PhyId,
     out: &mut [u8],
-) -> Joining
+) -> Result<usize, Refusal>
+    requires { RoomFor (byte first.now 1 + byte second.now 1) ROWS SLOTS PHYS }
     ensures { JoinDone (join_call setting first.now i.0 p.0 second.now j.0 q.0 (length out.old)) result out.old out.new }
 {
-    let mut rows = [0u64; files::ROWS_OF_64];
-    let mut who = [0u16; wiring::SLOTS_OF_64];
-    let mut low = [0u8; wiring::PHYS_OF_64];
+    let mut rows = [0u64; ROWS];
+    let mut who = [0u16; SLOTS];
+    let mut low = [0u8; PHYS];
     join_in(
         setting,
         first,
@@ -143,7 +117,7 @@ pub fn join(
     j: ExpanderNumber,
     q: PhyId,
     out: &mut [u8],
-) -> Joining
+) -> Result<usize, Refusal>
     ensures { JoinDone (join_call setting first.now i.0 p.0 second.now j.0 q.0 (length out.old)) result out.old out.new }
 {
     let n = wiring::stated_count(first);
@@ -154,7 +128,11 @@ pub fn join(
     }
     let m = wiring::stated_count(second);
     if (n as usize) + (m as usize) <= 8 {
-        return join_few(setting, first, i, p, second, j, q, out);
+        return join_with::<{ files::ROWS_OF_8 }, { wiring::SLOTS_OF_8 }, { wiring::PHYS_OF_8 }>(
+            setting, first, i, p, second, j, q, out,
+        );
     }
-    join_many(setting, first, i, p, second, j, q, out)
+    join_with::<{ files::ROWS_OF_64 }, { wiring::SLOTS_OF_64 }, { wiring::PHYS_OF_64 }>(
+        setting, first, i, p, second, j, q, out,
+    )
 }

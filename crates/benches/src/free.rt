@@ -19,12 +19,10 @@ fn has_upward(rows: &[u64], i: ExpanderNumber) -> bool
     ensures { result ≡ any upward (expander_at (domain_in rows.now) i.0).phys }
 {
     let n = wiring::phy_count(rows, i);
-    let mut p: u8 = 0;
-    while p < n {
+    for p in 0..n {
         if is_upward(wiring::phy_at(rows, i, PhyId(p))) {
             return true;
         }
-        p += 1;
     }
     false
 }

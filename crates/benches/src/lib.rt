@@ -4,31 +4,22 @@
 mod bench_rows;
 mod calls;
 mod free;
-mod refusals;
 mod repeats;
 mod sides;
 mod writing;
 
 pub use calls::join;
-use wiring::Refusal;
 
-// What one of the two files is: refused, or accepted with so many expanders, and whether its named phy can take the cable.
+// How many expanders one of the two files has, and whether its named phy can take the cable.
 #[derive(Clone, Copy)]
-pub(crate) enum Side {
-    Refused(Refusal),
-    Accepted(u8, bool),
+pub(crate) struct SideFound {
+    pub(crate) count: u8,
+    pub(crate) free: bool,
 }
 
-// What both files are: refused, or files of so many expanders that can be joined.
+// How many expanders the two files have.
 #[derive(Clone, Copy)]
-pub(crate) enum Files {
-    Refused(Refusal),
-    Expanders(u8, u8),
-}
-
-// What joining two files answers: the length of the joined file in bytes.
-#[derive(Clone, Copy)]
-pub enum Joining {
-    Refused(Refusal),
-    Bytes(usize),
+pub(crate) struct Counts {
+    pub(crate) one: u8,
+    pub(crate) other: u8,
 }

@@ -10,12 +10,10 @@ pub(crate) fn first_repeated(rows: &[u64]) -> u8
     ensures { result ≡ repeated (domain_in rows.now) }
 {
     let n = wiring::expander_count(rows);
-    let mut k: u8 = 0;
-    while k < n {
+    for k in 0..n {
         if wiring::number_of(rows, wiring::expander_address(rows, ExpanderNumber(k))) != k {
             return k;
         }
-        k += 1;
     }
     n
 }

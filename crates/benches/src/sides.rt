@@ -1,12 +1,12 @@
 // The two files, each by itself: read into rows and judged there, and 21; then 3 where their expanders are too many.
-ghost use Rattle.std.specs.Prelude.{◌≡◌, ◌≤◌, min};
+ghost use Rattle.std.specs.Prelude.{◌≡◌, ◌+◌, ◌≤◌, ◌<◌, min};
 ghost use Rattle.frames.specs.Bytes.{byte};
-ghost use Rattle.wiring.specs.FrameDefinitions.{then};
+ghost use Rattle.wiring.specs.FrameDefinitions.{then, refusal};
 ghost use Rattle.tables.specs.JudgingCall.{judged};
-ghost use Rattle.benches.specs.SidesFound.{side_answer, side_of, files_answer, counts_for, files_for, stated_both, JoinRoom};
+ghost use Rattle.benches.specs.SidesFound.{side_of, counts_for, files_for, stated_both, JoinRoom};
 
-use crate::{Files, Side, free, refusals};
-use wiring::{Check, DomainRead, ExpanderNumber, PhyId, Setting};
+use crate::{Counts, SideFound, free};
+use wiring::{ExpanderNumber, PhyId, Refusal, Setting};
 
 // Reads one file into rows, judges it there, and tests whether phy p of its expander i can take the cable.
 fn judge_side(
@@ -17,36 +17,39 @@ fn judge_side(
     rows: &mut [u64],
     who: &mut [u16],
     low: &mut [u8],
-) -> Side
+) -> Result<SideFound, Refusal>
     requires { JoinRoom (min 64 (byte file.now 1)) rows.old who.old low.old }
-    ensures { side_answer result ≡ then (judged setting file.now) (side_of i.0 p.0) }
+    ensures { result ≡ then (judged setting file.now) (side_of i.0 p.0) }
 {
-    let read = wiring::read_domain(setting, file, rows);
-    match read {
-        DomainRead::Refused(r) => Side::Refused(r),
-        DomainRead::Expanders(n) => {
-            let e = files::ROW_WORDS * (n as usize);
-            let verdict = tables::judge_rows(&rows[..e], who, low, setting.chain);
-            match verdict {
-                Check::Refused(r) => Side::Refused(r),
-                Check::Passed => Side::Accepted(n, free::is_free(&rows[..e], i, p)),
-            }
-        }
-    }
+    let n = wiring::read_domain(setting, file, rows)?;
+    let e = files::ROW_WORDS * (n as usize);
+    tables::judge_rows(&rows[..e], who, low, setting.chain)?;
+    Ok(SideFound {
+        count: n,
+        free: free::is_free(&rows[..e], i, p),
+    })
 }
 
 // 21 where not both named phys can take the cable, then 3 where n and m expanders are more than `most`.
-fn count_both(most: u8, n: u8, m: u8, free: bool) -> Files
+fn count_both(most: u8, n: u8, m: u8, free: bool) -> Result<Counts, Refusal>
     requires { (n ≤ 64) × (m ≤ 64) }
-    ensures { files_answer result ≡ counts_for most n m free }
+    ensures { result ≡ counts_for most n m free }
 {
     if !free {
-        return refusals::files_refused(21);
+        return Err(wiring::refused(21));
     }
     if n + m > most {
-        return refusals::files_refused(3);
+        return Err(wiring::refused(3));
     }
-    Files::Expanders(n, m)
+    Ok(Counts { one: n, other: m })
+}
+
+// A refusal of the second file: the first's n expanders are added to its expander number.
+fn shifted(n: u8, r: Refusal) -> Refusal
+    requires { n + r.expander.0 < 256 }
+    ensures { result ≡ refusal r.number (n + r.expander.0) r.phy.0 }
+{
+    wiring::refusal_at(r.number, ExpanderNumber(n + r.expander.0), r.phy)
 }
 
 // The first file judged, the second file judged (its refusals with the first's expanders added to their expander), 21, and 3.
@@ -61,19 +64,18 @@ pub(crate) fn judge_files(
     rows: &mut [u64],
     who: &mut [u16],
     low: &mut [u8],
-) -> Files
+) -> Result<Counts, Refusal>
     requires { JoinRoom (stated_both first.now second.now) rows.old who.old low.old }
-    ensures { files_answer result ≡ files_for setting first.now i.0 p.0 second.now j.0 q.0 }
+    ensures { result ≡ files_for setting first.now i.0 p.0 second.now j.0 q.0 }
 {
-    let one = judge_side(setting, first, i, p, rows, who, low);
-    match one {
-        Side::Refused(r) => Files::Refused(r),
-        Side::Accepted(n, a) => {
-            let other = judge_side(setting, second, j, q, rows, who, low);
-            match other {
-                Side::Refused(r) => refusals::second_refused(n, r),
-                Side::Accepted(m, b) => count_both(setting.expanders, n, m, a & b),
-            }
-        }
+    let one = judge_side(setting, first, i, p, rows, who, low)?;
+    match judge_side(setting, second, j, q, rows, who, low) {
+        Err(r) => Err(shifted(one.count, r)),
+        Ok(other) => count_both(
+            setting.expanders,
+            one.count,
+            other.count,
+            one.free & other.free,
+        ),
     }
 }

@@ -12,10 +12,8 @@ fn copy(out: &mut [u8], at: usize, from: &[u8])
     requires { at + length from.now ≤ length out.old }
     ensures { out.new ≡ paste out.old at from.now (length from.now) }
 {
-    let mut k: usize = 0;
-    while k < from.len() {
+    for k in 0..from.len() {
         out[at + k] = from[k];
-        k += 1;
     }
 }
 

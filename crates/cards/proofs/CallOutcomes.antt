@@ -13,8 +13,6 @@ use Rattle.frames.specs.declared.Refusal.{Refusal}
 use Rattle.frames.proofs.PackedBits.{length-packed_in}
 use Rattle.frames.proofs.PackedRows.{Bytes}
 use Rattle.files.specs.declared.Setting.{Setting}
-use Rattle.wiring.specs.declared.Check.{Check}
-use Rattle.wiring.specs.declared.Check.TheVariants.{Refused as NotPassed, Passed as AllPassed}
 use Rattle.files.specs.Settings.{within, in_range}
 use Rattle.files.specs.Domain.{Domain}
 use Rattle.files.specs.ReadDomain.{Read}
@@ -24,11 +22,9 @@ use Rattle.frames.proofs.ValuesPut.{sets-front}
 use Rattle.wiring.proofs.FileRows.{Roomy}
 use Rattle.files.proofs.ReadDomain.{read-good}
 use Rattle.files.proofs.RowsRoundTrip.{length-rows_of, domain-back}
-use Rattle.cards.specs.declared.Made.{Made}
-use Rattle.cards.specs.declared.Made.TheVariants.{Refused, Bytes as MadeBytes}
 use Rattle.cards.specs.Card.{card_bits, card_of, card_size, domain_on}
 use Rattle.cards.specs.CardRead.{formed, units_tested, card_read}
-use Rattle.cards.specs.Calls.{card_for, card_call, file_for, file_call, made_answer, MadeDone}
+use Rattle.cards.specs.Calls.{card_for, card_call, file_for, file_call, MadeDone}
 use Rattle.cards.specs.CardWalks.{after_check}
 use Rattle.cards.proofs.CardRoundTrip.{size-card}
 use Rattle.cards.proofs.CardDomain.{card-is, count-expanders}
@@ -36,12 +32,12 @@ use Rattle.cards.proofs.RowPuts.{domain-on}
 use Rattle.cards.proofs.ReadDomainsFit.{legal-read, legal-fits}
 
 -- what was made did not fit, or it fitted
-pub not_fitted : (new before : List ℕ) (answer : Made) → length before < length new → made_answer answer ≡ refused (refusal 16 0 0) → MadeDone (fitting (length before) new) answer before before
+pub not_fitted : (new before : List ℕ) (answer : Result ℕ) → length before < length new → answer ≡ refused (refusal 16 0 0) → MadeDone (fitting (length before) new) answer before before
 not_fitted new before answer h e =
     let t = lt-leb (length new) (length before) h in
     record { answers = e ∙ rw t; bytes = rw t }
 
-pub fitted : (new before after : List ℕ) (n : ℕ) → length new ≤ length before → n ≡ length new → after ≡ new ++ drop n before → MadeDone (fitting (length before) new) (MadeBytes n) before after
+pub fitted : (new before after : List ℕ) (n : ℕ) → length new ≤ length before → n ≡ length new → after ≡ new ++ drop n before → MadeDone (fitting (length before) new) (good n) before after
 fitted new before after n h e q =
     let t = le-leb (length new) (length before) h in
     record { answers = rw t (ap good e); bytes = rw t (q ∙ rw e) }
@@ -54,11 +50,11 @@ pub rows-room : (setting : Setting) (file before : List ℕ) → length before �
 rows-room setting file before l d e = let g = read-good setting file d e in omega (arith, g.few, g.range.expanders.1)
 
 -- file to card, by the outcome of reading the file
-pub card-refused : (setting : Setting) (file before : List ℕ) (r : Refusal) → domain_read setting file ≡ refused r → MadeDone (card_call setting file (length before)) (Refused r) before before
+pub card-refused : (setting : Setting) (file before : List ℕ) (r : Refusal) → domain_read setting file ≡ refused r → MadeDone (card_call setting file (length before)) (refused r) before before
 unfolding card_call
 card-refused setting file before r q = record { answers = rw q; bytes = rw q }
 
-pub card-made : (setting : Setting) (file before after : List ℕ) (d : Domain) (answer : Made) → domain_read setting file ≡ good d → MadeDone (card_for (length before) d) answer before after
+pub card-made : (setting : Setting) (file before after : List ℕ) (d : Domain) (answer : Result ℕ) → domain_read setting file ≡ good d → MadeDone (card_for (length before) d) answer before after
     → MadeDone (card_call setting file (length before)) answer before after
 unfolding card_call
 card-made setting file before after d answer q m = rw q m
@@ -68,34 +64,34 @@ module _ (setting : Setting) (card before : List ℕ) where
   abbrev D : Domain
   D = domain_on (bits_of card)
 
-  pub file_out : (answer : Made) → in_range setting ≡ false → made_answer answer ≡ refused (refusal 22 0 0) → MadeDone (file_call setting card (length before)) answer before before
+  pub file_out : (answer : Result ℕ) → in_range setting ≡ false → answer ≡ refused (refusal 22 0 0) → MadeDone (file_call setting card (length before)) answer before before
   unfolding file_call card_read
   file_out answer o e = record { answers = rw o e; bytes = rw o }
 
   module _ (o : in_range setting ≡ true) where
-    pub file_unformed : (answer : Made) → formed card D ≡ false → made_answer answer ≡ refused (refusal 19 0 0) → MadeDone (file_call setting card (length before)) answer before before
+    pub file_unformed : (answer : Result ℕ) → formed card D ≡ false → answer ≡ refused (refusal 19 0 0) → MadeDone (file_call setting card (length before)) answer before before
     unfolding file_call card_read
     file_unformed answer q e = record { answers = rw (o, q) e; bytes = rw (o, q) }
 
     module _ (n : ℕ) (q : formed card D ≡ true) (e : n ≡ length D) where
-      pub file-many : (answer : Made) → within setting.expanders n ≡ false → made_answer answer ≡ refused (refusal 3 0 0) → MadeDone (file_call setting card (length before)) answer before before
+      pub file-many : (answer : Result ℕ) → within setting.expanders n ≡ false → answer ≡ refused (refusal 3 0 0) → MadeDone (file_call setting card (length before)) answer before before
       unfolding file_call card_read
       file-many answer w a = let w' : within setting.expanders (length D) ≡ false = rw e at w in record { answers = rw (o, q, w') a; bytes = rw (o, q, w') }
 
-      module _ (w : within setting.expanders n ≡ true) (check : Check) (f : (k : Result Domain) → after_check check k ≡ units_tested setting 0 [] D k) where
+      module _ (w : within setting.expanders n ≡ true) (check : Result Unit) (f : (k : Result Domain) → after_check check k ≡ units_tested setting 0 [] D k) where
         read_by : (x : Result Domain) → after_check check (good D) ≡ x → card_read setting card ≡ x
         unfolding card_read
         read_by x g = let w' : within setting.expanders (length D) ≡ true = rw e at w in rw (o, q, w') (sym (f (good D)) ∙ g)
 
-        pub file-refused : (r : Refusal) → check ≡ NotPassed r → MadeDone (file_call setting card (length before)) (Refused r) before before
+        pub file-refused : (r : Refusal) → check ≡ refused r → MadeDone (file_call setting card (length before)) (refused r) before before
         unfolding file_call
         file-refused r g =
-            let z : card_read setting card ≡ refused r = read_by (refused r) (ap (λ (c : Check). after_check c (good D)) g) in
+            let z : card_read setting card ≡ refused r = read_by (refused r) (ap (λ (c : Result Unit). after_check c (good D)) g) in
             record { answers = rw z; bytes = rw z }
 
-        module _ (g : check ≡ AllPassed) (b : Bytes card) where
+        module _ (g : check ≡ (good tt)) (b : Bytes card) where
           read : card_read setting card ≡ good D
-          read = read_by (good D) (ap (λ (c : Check). after_check c (good D)) g)
+          read = read_by (good D) (ap (λ (c : Result Unit). after_check c (good D)) g)
 
           pub read_is : Read setting D
           read_is = legal-read setting D (card-is setting card D b read).legal
@@ -108,7 +104,7 @@ module _ (setting : Setting) (card before : List ℕ) where
               ap (λ (m : List ℕ). domain_in (take k m)) t ∙ ap domain_in (take_at (rows_of D) _ k (omega arith))
               ∙ domain-back setting D read_is (legal-fits setting D (card-is setting card D b read).legal)
 
-          pub file-made : (d : Domain) (answer : Made) (after : List ℕ) → d ≡ D → MadeDone (file_for (length before) d) answer before after → MadeDone (file_call setting card (length before)) answer before after
+          pub file-made : (d : Domain) (answer : Result ℕ) (after : List ℕ) → d ≡ D → MadeDone (file_for (length before) d) answer before after → MadeDone (file_call setting card (length before)) answer before after
           unfolding file_call
           file-made d answer after z m = rw read (subst (λ (x : Domain). MadeDone (file_for (length before) x) answer before after) z m)
 

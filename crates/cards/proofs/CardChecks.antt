@@ -7,18 +7,15 @@ use native.Mathlib.Omega.{arith}
 use native.Mathlib.Nat.{zero-add}
 use lib.ListN.{length, take, drop, set}
 use lib.Dec.{eqb, leb}
+use Rattle.std.specs.Result.{result_and}
 use borrow.Author.Tests.{eq-eqb, ne_eqb, eqb-true, le-leb, lt-leb}
 use Rattle.frames.specs.Bits.{field}
 use Rattle.frames.specs.Refusals.{Result, refused, good, unless, then, refusal}
-use Rattle.frames.specs.declared.Refusal.{Refusal}
 use Rattle.files.specs.declared.Setting.{Setting}
 use Rattle.files.specs.declared.ExpanderUnit.{ExpanderUnit}
 use Rattle.files.specs.declared.Phy.{Phy}
-use Rattle.wiring.specs.declared.Check.{Check}
 use Rattle.files.specs.Domain.{Expander, Domain}
-use Rattle.files.specs.File.{parsed, unit_tested}
-use Rattle.files.specs.UnitAnswers.{ends_at}
-use Rattle.files.proofs.CallResults.{never}
+use Rattle.files.specs.File.{unit_tested}
 use Rattle.files.proofs.OneMore.{set_next}
 use Rattle.cards.specs.Card.{unit_on, expander_on, head_size}
 use Rattle.cards.specs.CardRead.{phy_ranged, phys_tested, unit_fields, units_tested}
@@ -42,12 +39,6 @@ ranged-go φ φs r p v s h inv e = go (eqb r p) (phy_ranged φ) refl inv e
         (omega arith, rw (ne_eqb s (p + 1) (λ (y : s ≡ p + 1). omega arith)) (omega arith))
     go false t q i f = (omega arith, rw (ne_eqb s (p + 1) (λ (y : s ≡ p + 1). omega arith)) (f ∙ i))
 
-pub ranged-more : (r p : ℕ) (t : Bool) → (eqb r p && t) ≡ true → r + 1 ≡ cond (eqb r p && t) (r + 1) r
-ranged-more r p t e = rw e
-
-pub ranged-same : (r p : ℕ) (t : Bool) → (eqb r p && t) ≡ false → r ≡ cond (eqb r p && t) (r + 1) r
-ranged-same r p t e = rw e
-
 pub ranged-end : (r p v : ℕ) → cond (eqb r p) (p + ranged_count []) r ≡ v → r ≡ v
 unfolding ranged_count
 ranged-end r p v inv = go (eqb r p) refl inv
@@ -67,21 +58,10 @@ phys-by i p (φ ∷ φs) k m c e f = go (phy_ranged φ) (phys-by i (p + 1) φs k
     go true h g = h (omega arith) (omega arith)
     go false h g = let z : p ≡ c = omega arith in rw (lt-leb m c (omega arith)) (ap (λ (x : ℕ). refused (refusal 6 i x)) z)
 
--- an expander's fields tested, and what follows
-pub unit-refused : (x : Result ExpanderUnit) (next : ℕ) (r : Refusal) → then x (ends_at next) ≡ refused r → (k : Result Domain) → refused r ≡ then x (λ u. k)
-unit-refused (refused q) next r e k = let z : q ≡ r = cc in ap refused (sym z)
-unit-refused (good u) next r e k = never r (parsed u next) (sym e)
-
-pub unit-passed : (x : Result ExpanderUnit) (next : ℕ) (u : ExpanderUnit) (from : ℕ) → then x (ends_at next) ≡ good (parsed u from) → (k : Result Domain) → k ≡ then x (λ u. k)
-unit-passed (refused q) next u from e k = never q (parsed u from) e
-unit-passed (good v) next u from e k = refl
-
--- and 6 of its phys
-pub six_refused : (i n r : ℕ) → r < n → (k : Result Domain) → refused (refusal 6 i r) ≡ unless (leb n r) (refusal 6 i r) k
-six_refused i n r h k = rw (lt-leb n r h)
-
-pub six_passed : (i n r : ℕ) → n ≤ r → (k : Result Domain) → k ≡ unless (leb n r) (refusal 6 i r) k
-six_passed i n r h k = rw (le-leb n r h)
+-- two answers joined by `and`: the first, then the second
+pub both-checked : (a b both : Result Unit) → both ≡ result_and a b → (k : Result Domain) → after_check both k ≡ after_check a (after_check b k)
+both-checked (refused r) b both e k = ap (λ (x : Result Unit). after_check x k) e
+both-checked (good tt) b both e k = ap (λ (x : Result Unit). after_check x k) e
 
 module _ (most : Setting) (l used : List ℕ) (i at : ℕ) where
   fields-on : unit_fields (expander_on (drop at l)) ≡ unit_on (drop at l)
@@ -98,7 +78,7 @@ module _ (most : Setting) (l used : List ℕ) (i at : ℕ) where
       ∙ ap (λ (x : Result Domain). then (unit_tested most (take i used) i (unit_fields e)) (λ w. x)) (sym b)
 
   -- one expander more: what the tests so far and this one's say, with those of the expanders to come behind
-  pub tests-go : (d : Domain) (check unit both : Check) (u : ExpanderUnit) (r : ℕ) (v : Result Domain → Result Domain) → u ≡ unit_on (drop at l) → r ≡ ranged_count (expander_on (drop at l)).phys
+  pub tests-go : (d : Domain) (check unit both : Result Unit) (u : ExpanderUnit) (r : ℕ) (v : Result Domain → Result Domain) → u ≡ unit_on (drop at l) → r ≡ ranged_count (expander_on (drop at l)).phys
       → ((k : Result Domain) → after_check unit k ≡ then (unit_tested most (take i used) i u) (λ w. unless (leb u.phys r) (refusal 6 i r) k))
       → ((k : Result Domain) → after_check both k ≡ after_check check (after_check unit k)) → i < length used
       → ((k : Result Domain) → after_check check (units_tested most i (take i used) (expander_on (drop at l) ∷ d) k) ≡ v k)

@@ -21,9 +21,6 @@ use Rattle.cards.specs.Card.{phy_bits, phys_bits, head_bits, expanders_bits, car
 use Rattle.cards.proofs.CardRoundTrip.{size-phy, size-phys, length-head, size-expanders, size-card, bits-card}
 use Rattle.cards.proofs.CardDomain.{zero_bits}
 
-pub size-more : (f : PhyFields) → (f.device_type ≡ 0 → ⊥) → phy_size (Present f) ≡ most_phy_size
-size-more f e = rw (ne_eqb f.device_type 0 e)
-
 spelled : (a b c e : ℕ) → ((number_bits 1 1 ++ (number_bits 3 a ++ number_bits 2 b)) ++ number_bits 64 c) ++ number_bits 8 e ≡ 1 ∷ (number_bits 3 a ++ (number_bits 2 b ++ (number_bits 64 c ++ number_bits 8 e)))
 unfolding number_bits
 spelled a b c e = refl

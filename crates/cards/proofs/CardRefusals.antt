@@ -26,11 +26,10 @@ use Rattle.files.proofs.ListMembers.{is_true}
 use Rattle.files.proofs.SettingRanges.{range_iff}
 use Rattle.files.proofs.CallResults.{unless-good, good-unless, then-good, good-then}
 use Rattle.files.proofs.ReadDomain.{read-good, read-numbered}
-use Rattle.cards.specs.declared.Made.{Made}
 use Rattle.cards.specs.Card.{card_of, domain_on}
 use Rattle.cards.specs.CardRead.{all_fine, formed, phy_ranged, phys_tested, unit_fields, units_tested, card_read}
 use Rattle.cards.specs.FileOf.{file_of}
-use Rattle.cards.specs.Calls.{card_call, file_call, made_answer, MadeDone}
+use Rattle.cards.specs.Calls.{card_call, file_call, MadeDone}
 use Rattle.cards.specs.CardCauses.{NoCardCause, card_number, RangedPhy, NoFileCause, file_number}
 use Rattle.cards.proofs.DomainRanges.{PhyRange, ExpandersRange}
 use Rattle.cards.proofs.CardRoundTrip.{formed-is}
@@ -59,13 +58,13 @@ module _ (make : Domain → List ℕ) (room : ℕ) (x : Result Domain) where
       (length (make d), good-then (then x (λ d. fitting room (make d))) length_of (make d) (length (make d)) (good-then x (λ d. fitting room (make d)) d (make d) e f) refl)
 
 -- the call that makes a card of a file answers exactly when none of its causes holds, and refuses with no other number
-pub card-exactly : (setting : Setting) (file before after : List ℕ) (answer : Made) → MadeDone (card_call setting file (length before)) answer before after
-    → RefusesExactly (made_answer answer) (NoCardCause setting file (length before)) card_number
+pub card-exactly : (setting : Setting) (file before after : List ℕ) (answer : Result ℕ) → MadeDone (card_call setting file (length before)) answer before after
+    → RefusesExactly answer (NoCardCause setting file (length before)) card_number
 unfolding card_call
 card-exactly setting file before after answer o =
     let room = length before in
     let x = domain_read setting file in
-    exactly card_number (made_answer answer) (making card_of room x) (NoCardCause setting file room) o.answers
+    exactly card_number answer (making card_of room x) (NoCardCause setting file room) o.answers
     (making-numbered card_of room x card_number (inr refl) (read-numbered setting file card_number (λ n h. inl h)))
     (λ n e. let a = making-from card_of room x n e in record { domain = a.0; range = (read-good setting file a.0 a.1).range; read = a.1; enough = a.2 })
     (λ c. making-to card_of room x c.domain c.read c.enough)
@@ -128,11 +127,11 @@ no_cause_read setting card room c =
     rw (i, c.on, formed-is card d c.formed, w) (units-tested setting 0 [] d (λ a j z. z) c.differ each (good d))
 
 -- the call that makes a file of a card answers exactly when none of its causes holds, and refuses with no other number
-pub file-exactly : (setting : Setting) (card before after : List ℕ) (answer : Made) → MadeDone (file_call setting card (length before)) answer before after
-    → RefusesExactly (made_answer answer) (NoFileCause setting card (length before)) file_number
+pub file-exactly : (setting : Setting) (card before after : List ℕ) (answer : Result ℕ) → MadeDone (file_call setting card (length before)) answer before after
+    → RefusesExactly answer (NoFileCause setting card (length before)) file_number
 unfolding file_call
 file-exactly setting card before after answer o =
-    exactly file_number (made_answer answer) (making file_of room x) (NoFileCause setting card room) o.answers
+    exactly file_number answer (making file_of room x) (NoFileCause setting card room) o.answers
     (making-numbered file_of room x file_number sixteen (read-card-numbered setting card)) from (λ c. making-to file_of room x c.domain (no_cause_read setting card room c) c.enough)
   where
     room : ℕ

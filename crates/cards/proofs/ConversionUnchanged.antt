@@ -10,8 +10,8 @@ use Rattle.wiring.specs.graph.Neighbours.{wiring_call}
 use Rattle.tables.specs.filling.Entries.{Room, Entries}
 use Rattle.tables.specs.JudgingCall.{judged, table_call}
 use Rattle.tracing.specs.Trace.{Request, trace_call}
-use Rattle.cards.specs.declared.Made.TheVariants.{Bytes as MadeBytes}
 use Rattle.cards.specs.Calls.{card_call, file_call, MadeDone}
+use Rattle.frames.specs.Refusals.{good}
 use Rattle.cards.proofs.Conversions.{converted_under}
 
 -- all that the calls say of two files
@@ -42,12 +42,12 @@ module _ (setting : Setting) (file other : List ℕ) (e : domain_read setting ot
 
 -- file to card under one setting, to file under another, over what the calls promise: no judgement, wiring, table or trace changes under any setting
 pub unchanged_under : (one back setting : Setting) (file before after before' after' : List ℕ) (n m : ℕ) → Bytes file
-    → MadeDone (card_call one file (length before)) (MadeBytes n) before after → MadeDone (file_call back (take n after) (length before')) (MadeBytes m) before' after'
+    → MadeDone (card_call one file (length before)) (good n) before after → MadeDone (file_call back (take n after) (length before')) (good m) before' after'
     → Unchanged setting file (take m after')
 unchanged_under one back setting file before after before' after' n m b p q = same_calls setting file (take m after') ((converted_under one back file before after before' after' n m b p q).reads setting)
 
 -- the same under one setting
 pub unchanged : (setting : Setting) (file before after before' after' : List ℕ) (n m : ℕ) → Bytes file
-    → MadeDone (card_call setting file (length before)) (MadeBytes n) before after → MadeDone (file_call setting (take n after) (length before')) (MadeBytes m) before' after'
+    → MadeDone (card_call setting file (length before)) (good n) before after → MadeDone (file_call setting (take n after) (length before')) (good m) before' after'
     → Unchanged setting file (take m after')
 unchanged setting = unchanged_under setting setting setting

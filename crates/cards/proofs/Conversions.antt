@@ -12,7 +12,6 @@ use Rattle.files.specs.ReadDomain.{Bytes, Read, FitsDomain}
 use Rattle.files.specs.File.{domain_read}
 use Rattle.files.proofs.ReadDomain.{read-good, read_fits}
 use Rattle.files.proofs.CallResults.{never, good-one, unless-good, then-good}
-use Rattle.cards.specs.declared.Made.TheVariants.{Bytes as MadeBytes}
 use Rattle.cards.specs.Card.{card_of}
 use Rattle.cards.specs.CardRead.{card_read}
 use Rattle.cards.specs.FileOf.{file_of}
@@ -53,7 +52,7 @@ record MadeIs (outcome : Result (List ℕ)) (n : ℕ) (after : List ℕ) : Type 
   is : outcome ≡ good new
   front : take n after ≡ new
 
-made-is : (outcome : Result (List ℕ)) (n : ℕ) (before after : List ℕ) → MadeDone outcome (MadeBytes n) before after → MadeIs outcome n after
+made-is : (outcome : Result (List ℕ)) (n : ℕ) (before after : List ℕ) → MadeDone outcome (good n) before after → MadeIs outcome n after
 made-is (refused r) n before after m = never r n (sym m.answers)
 made-is (good new) n before after m =
     let e : n ≡ length new = good-one n (length new) m.answers in
@@ -76,7 +75,7 @@ record FileMade (one : Setting) (card file : List ℕ) : Type 0 where
   read : card_read one card ≡ good domain
   is : file ≡ file_of domain
 
-file-made : (one : Setting) (card before after : List ℕ) (n : ℕ) → MadeDone (file_call one card (length before)) (MadeBytes n) before after → FileMade one card (take n after)
+file-made : (one : Setting) (card before after : List ℕ) (n : ℕ) → MadeDone (file_call one card (length before)) (good n) before after → FileMade one card (take n after)
 file-made one card before after n p =
     let x = made-is (file_call one card (length before)) n before after p in
     let f = file-made-is one card (length before) x.new x.is in
@@ -88,7 +87,7 @@ record CardMade (one : Setting) (file card : List ℕ) : Type 0 where
   read : domain_read one file ≡ good domain
   is : card ≡ card_of domain
 
-card-made : (one : Setting) (file before after : List ℕ) (n : ℕ) → MadeDone (card_call one file (length before)) (MadeBytes n) before after → CardMade one file (take n after)
+card-made : (one : Setting) (file before after : List ℕ) (n : ℕ) → MadeDone (card_call one file (length before)) (good n) before after → CardMade one file (take n after)
 card-made one file before after n p =
     let x = made-is (card_call one file (length before)) n before after p in
     let c = card-made-is one file (length before) x.new x.is in
@@ -100,7 +99,7 @@ pub record CardBack (one : Setting) (card file : List ℕ) : Type 0 where
   pub same : (room : ℕ) → card_call one file room ≡ fitting room card
   pub others : (other : Setting) (room : ℕ) → card_call other file room ≡ then (card_read other card) (λ _. fitting room card)
 
-pub card_back_under : (one : Setting) (card before after : List ℕ) (n : ℕ) → Bytes card → MadeDone (file_call one card (length before)) (MadeBytes n) before after
+pub card_back_under : (one : Setting) (card before after : List ℕ) (n : ℕ) → Bytes card → MadeDone (file_call one card (length before)) (good n) before after
     → CardBack one card (take n after)
 unfolding card_call
 card_back_under one card before after n b p = record { same = λ room. under one room ∙ ap (λ x. then x (λ _. fitting room card)) f.read; others = under }
@@ -122,12 +121,12 @@ card_back_under one card before after n b p = record { same = λ room. under one
         ap (λ x. then x (card_for room)) k ∙ back room (limited other f.domain) (limited-same other f.domain) ∙ ap (λ x. then x (λ _. fitting room card)) l
 
 -- the same under one setting: where the first call made a file, the second makes the same card of it, byte for byte, where it has room
-pub card-file-card : (setting : Setting) (card before after : List ℕ) (n room : ℕ) → Bytes card → MadeDone (file_call setting card (length before)) (MadeBytes n) before after
+pub card-file-card : (setting : Setting) (card before after : List ℕ) (n room : ℕ) → Bytes card → MadeDone (file_call setting card (length before)) (good n) before after
     → card_call setting (take n after) room ≡ fitting room card
 card-file-card setting card before after n room b p = (card_back_under setting card before after n b p).same room
 
 -- the card that was made of a file under one setting reads under any other as the file does
-card_as_file : (one other : Setting) (file before after : List ℕ) (n : ℕ) → Bytes file → MadeDone (card_call one file (length before)) (MadeBytes n) before after
+card_as_file : (one other : Setting) (file before after : List ℕ) (n : ℕ) → Bytes file → MadeDone (card_call one file (length before)) (good n) before after
     → card_read other (take n after) ≡ domain_read other file
 card_as_file one other file before after n b p =
     let c = card-made one file before after n p in
@@ -136,14 +135,14 @@ card_as_file one other file before after n b p =
 
 -- file to card to file: of the card that was made of a file the second call, under any setting, makes the file of the domain that the first file is read as under
 -- that setting, where it has room, and refuses as the first file is refused
-pub file_back_under : (one other : Setting) (file before after : List ℕ) (n room : ℕ) → Bytes file → MadeDone (card_call one file (length before)) (MadeBytes n) before after
+pub file_back_under : (one other : Setting) (file before after : List ℕ) (n room : ℕ) → Bytes file → MadeDone (card_call one file (length before)) (good n) before after
     → file_call other (take n after) room ≡ then (domain_read other file) (file_for room)
 unfolding file_call
 file_back_under one other file before after n room b p = ap (λ x. then x (file_for room)) (card_as_file one other file before after n b p)
 
 -- the same under one setting: where the first call made a card, the second makes of it the file of the first file's domain, where it has room
 pub file-card-file : (setting : Setting) (file before after : List ℕ) (n room : ℕ) (d : Domain) → Bytes file → domain_read setting file ≡ good d
-    → MadeDone (card_call setting file (length before)) (MadeBytes n) before after → file_call setting (take n after) room ≡ fitting room (file_of d)
+    → MadeDone (card_call setting file (length before)) (good n) before after → file_call setting (take n after) room ≡ fitting room (file_of d)
 file-card-file setting file before after n room d b q p = file_back_under setting setting file before after n room b p ∙ ap (λ x. then x (file_for room)) q
 
 -- both calls one after the other, each under its own setting: the file is that of the first file's domain, and reads as the first file under every setting
@@ -155,7 +154,7 @@ pub record ConvertedUnder (one back : Setting) (file other : List ℕ) : Type 0 
   pub reads : (setting : Setting) → domain_read setting other ≡ domain_read setting file
 
 pub converted_under : (one back : Setting) (file before after before' after' : List ℕ) (n m : ℕ) → Bytes file
-    → MadeDone (card_call one file (length before)) (MadeBytes n) before after → MadeDone (file_call back (take n after) (length before')) (MadeBytes m) before' after'
+    → MadeDone (card_call one file (length before)) (good n) before after → MadeDone (file_call back (take n after) (length before')) (good m) before' after'
     → ConvertedUnder one back file (take m after')
 converted_under one back file before after before' after' n m b p q =
     let c = card-made one file before after n p in
@@ -181,7 +180,7 @@ pub record Converted (setting : Setting) (file other : List ℕ) : Type 0 where
   pub reads : domain_read setting other ≡ domain_read setting file
 
 pub converted : (setting : Setting) (file before after before' after' : List ℕ) (n m : ℕ) → Bytes file
-    → MadeDone (card_call setting file (length before)) (MadeBytes n) before after → MadeDone (file_call setting (take n after) (length before')) (MadeBytes m) before' after'
+    → MadeDone (card_call setting file (length before)) (good n) before after → MadeDone (file_call setting (take n after) (length before')) (good m) before' after'
     → Converted setting file (take m after')
 converted setting file before after before' after' n m b p q =
     let c = converted_under setting setting file before after before' after' n m b p q in

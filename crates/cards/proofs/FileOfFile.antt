@@ -11,7 +11,8 @@ use Rattle.frames.specs.Bytes.{byte, bits, number_at, bytes_of}
 use Rattle.frames.specs.Refusals.{Result, refused, good, unless, then, refusal}
 use Rattle.frames.specs.Sizes.{frame_size, by_itself}
 use Rattle.frames.specs.ReportGeneral.{general_fields, general_read}
-use Rattle.frames.specs.Discovery.{Discovered, discover_fixed, discover_fields, by_result, discovered, discover_in, discover_read}
+use Rattle.frames.specs.Discovery.{discover_fixed, discover_fields, by_result, discovered, discover_in, discover_read}
+use Rattle.frames.specs.declared.Discovered.{Discovered}
 use Rattle.cards.specs.ShortFrames.{short_general, short_vacant, short_discover}
 use Rattle.frames.specs.declared.Discover.{Discover}
 use Rattle.frames.specs.declared.Response.{Response}
@@ -23,7 +24,8 @@ use Rattle.files.specs.declared.Phy.TheVariants.{Vacant, Present}
 use Rattle.files.specs.Settings.{in_range}
 use Rattle.files.specs.Domain.{Domain}
 use Rattle.files.specs.ReadDomain.{Bytes}
-use Rattle.files.specs.File.{Parsed, parsed, placed, size_at, frame_at, fields_of, ranged, phy_of, phy_unit, phy_units, unit_of, unit_tested, expander_unit, expander_of, expanders, header_unit, domain_read}
+use Rattle.files.specs.File.{parsed, placed, size_at, frame_at, fields_of, ranged, phy_of, phy_unit, phy_units, unit_of, unit_tested, expander_unit, expander_of, expanders, header_unit, domain_read}
+use Rattle.files.specs.declared.Parsed.{Parsed}
 use Rattle.files.specs.ShortFile.{or_stay}
 use Rattle.files.proofs.ListMembers.{and_left, and_right, is_true}
 use Rattle.files.proofs.CallResults.{never, good-one, unless-good, then-good}

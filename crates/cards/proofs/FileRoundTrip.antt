@@ -12,7 +12,8 @@ use Rattle.frames.specs.Bytes.{number_at, bytes_of}
 use Rattle.frames.specs.Refusals.{good, refusal}
 use Rattle.frames.specs.Sizes.{frame_size, short_size}
 use Rattle.frames.specs.ReportGeneral.{general_read}
-use Rattle.frames.specs.Discovery.{vacant, fields, discover_read}
+use Rattle.frames.specs.Discovery.{discover_read}
+use Rattle.frames.specs.declared.Discovered.TheVariants.{Vacant as vacant, Fields as fields}
 use Rattle.frames.specs.declared.Response.{Response}
 use Rattle.frames.specs.declared.Response.TheVariants.{ReportGeneral, Discover as DiscoverResponse}
 use Rattle.cards.specs.ShortFrames.{short_general, short_vacant, short_discover}

@@ -22,7 +22,8 @@ use Rattle.files.specs.Lists.{In, Distinct}
 use Rattle.files.specs.Settings.{within, in_range}
 use Rattle.files.specs.Domain.{Expander, Domain}
 use Rattle.files.specs.ReadDomain.{ReadPhy, ReadExpander, addresses}
-use Rattle.files.specs.File.{Parsed, parsed, placed, frame_at, phy_units, unit_of, unit_tested, expander_unit, expander_of, expanders, header_unit, domain_read}
+use Rattle.files.specs.File.{parsed, placed, frame_at, phy_units, unit_of, unit_tested, expander_unit, expander_of, expanders, header_unit, domain_read}
+use Rattle.files.specs.declared.Parsed.{Parsed}
 use Rattle.files.proofs.CallResults.{good-one, unless-good, good-unless, then-good}
 use Rattle.files.proofs.ReadDomain.{read-good, stated-expanders}
 use Rattle.files.proofs.UnitReading.{tested-same, phys-count}

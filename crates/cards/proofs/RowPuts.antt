@@ -8,14 +8,12 @@ use lib.ListN.{length, take, drop, set, replicate}
 use lib.Seq.{sets, drop-drop}
 use lib.Dec.{eqb, leb}
 use Rattle.frames.specs.Bits.{field}
-use Rattle.frames.specs.Refusals.{Result, unless, then, refusal}
+use Rattle.frames.specs.Refusals.{good, Result, unless, then, refusal}
 use Rattle.frames.proofs.PackedBits.{Bits, bits-drop}
 use Rattle.frames.proofs.ValuesPut.{sets_mid_then}
 use Rattle.files.specs.declared.Setting.{Setting}
 use Rattle.files.specs.declared.ExpanderUnit.{ExpanderUnit}
 use Rattle.files.specs.declared.Phy.{Phy}
-use Rattle.wiring.specs.declared.Check.{Check}
-use Rattle.wiring.specs.declared.Check.TheVariants.{Passed as AllPassed}
 use Rattle.files.specs.Domain.{Expander, Domain, address_of}
 use Rattle.files.specs.File.{unit_tested}
 use Rattle.files.specs.Rows.{phy_word, phy_words, head_word, row_of, rows_of, row_words}
@@ -99,7 +97,7 @@ phys-few l at b =
     omega arith
 
 -- what a walk through the expanders before expander i of a card's domain d holds, where `rest` are those to come
-pub record Walking (most : Setting) (before : List ℕ) (d : Domain) (i at : ℕ) (rows used : List ℕ) (fine : Bool) (check : Check) (rest : Domain) : Type 0 where
+pub record Walking (most : Setting) (before : List ℕ) (d : Domain) (i at : ℕ) (rows used : List ℕ) (fine : Bool) (check : Result Unit) (rest : Domain) : Type 0 where
   pub words : sets rows (row_words * i) (rows_of rest) ≡ sets before 0 (rows_of d)
   pub place : at + expanders_size rest ≡ card_size d
   pub results : (fine && all_fine rest) ≡ all_fine d
@@ -109,7 +107,7 @@ pub domain-on : (l : List ℕ) (n : ℕ) → n ≡ suc (field 6 (drop 4 l)) → 
 unfolding domain_on
 domain-on l n e = rw e
 
-pub walk-starts : (most : Setting) (l rows used : List ℕ) (n : ℕ) → n ≡ suc (field 6 (drop 4 l)) → Walking most rows (domain_on l) 0 16 rows used true AllPassed (expanders_on (n - 0) (drop 16 l))
+pub walk-starts : (most : Setting) (l rows used : List ℕ) (n : ℕ) → n ≡ suc (field 6 (drop 4 l)) → Walking most rows (domain_on l) 0 16 rows used true (good tt) (expanders_on (n - 0) (drop 16 l))
 walk-starts most l rows used n e =
     let z : n - 0 ≡ n = omega arith in
     let q : expanders_on (n - 0) (drop 16 l) ≡ domain_on l = ap (λ (m : ℕ). expanders_on m (drop 16 l)) z ∙ domain-on l n e in
@@ -121,9 +119,9 @@ walk-starts most l rows used n e =
     }
 
 -- one expander more, and the end
-module _ (most : Setting) (l before : List ℕ) (d : Domain) (n i at : ℕ) (rows used : List ℕ) (fine : Bool) (check : Check)
+module _ (most : Setting) (l before : List ℕ) (d : Domain) (n i at : ℕ) (rows used : List ℕ) (fine : Bool) (check : Result Unit)
     (inv : Walking most before d i at rows used fine check (expanders_on (n - i) (drop at l))) where
-  pub walk-goes : (b : Bits l) (u : ExpanderUnit) (walk : PhysWalk) (r : List ℕ) (a k : ℕ) (unit both : Check) → i < n → RowStored (expander_on (drop at l)) at walk r → u ≡ unit_on (drop at l)
+  pub walk-goes : (b : Bits l) (u : ExpanderUnit) (walk : PhysWalk) (r : List ℕ) (a k : ℕ) (unit both : Result Unit) → i < n → RowStored (expander_on (drop at l)) at walk r → u ≡ unit_on (drop at l)
       → ((k : Result Domain) → after_check unit k ≡ then (unit_tested most (take i used) i u) (λ w. unless (leb u.phys walk.ranged) (refusal 6 i walk.ranged) k))
       → ((k : Result Domain) → after_check both k ≡ after_check check (after_check unit k)) → i < length used → a ≡ row_words * i → k ≡ row_words → row_words * i + row_words ≤ length rows
       → Walking most before d (i + 1) walk.next (take a rows ++ (r ++ drop k (drop a rows))) (set used i u.address) (fine && walk.fine) both (expanders_on (n - (i + 1)) (drop walk.next l))

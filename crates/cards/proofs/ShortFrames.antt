@@ -9,7 +9,8 @@ use Rattle.frames.specs.Bytes.{byte, number_at, bytes_of}
 use Rattle.frames.specs.Refusals.{good}
 use Rattle.frames.specs.Sizes.{short_size, frame_size}
 use Rattle.frames.specs.ReportGeneral.{general_fixed, general_read}
-use Rattle.frames.specs.Discovery.{vacant, fields, discover_fixed, discover_read}
+use Rattle.frames.specs.Discovery.{discover_fixed, discover_read}
+use Rattle.frames.specs.declared.Discovered.TheVariants.{Vacant as vacant, Fields as fields}
 use Rattle.frames.specs.declared.General.{General}
 use Rattle.frames.specs.declared.Discover.{Discover}
 use Rattle.frames.specs.declared.Response.{Response}

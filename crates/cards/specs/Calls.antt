@@ -1,11 +1,9 @@
 -- The calls: a card of a file, and a file of a card.
 use Rattle.std.specs.Prelude.{ℕ, ◌≡◌, List}
-use Rattle.frames.specs.Refusals.{Result, refused, good, then, fitting, length_of, new_after}
+use Rattle.frames.specs.Refusals.{Result, then, fitting, length_of, new_after}
 use Rattle.files.specs.declared.Setting.{Setting}
 use Rattle.files.specs.Domain.{Domain}
 use Rattle.files.specs.File.{domain_read}
-use Rattle.cards.specs.declared.Made.{Made}
-use Rattle.cards.specs.declared.Made.TheVariants.{Refused, Bytes}
 use Rattle.cards.specs.Card.{card_of}
 use Rattle.cards.specs.CardRead.{card_read}
 use Rattle.cards.specs.FileOf.{file_of}
@@ -24,12 +22,7 @@ file_for room d = fitting room (file_of d)
 unfoldable pub file_call : Setting → List ℕ → ℕ → Result (List ℕ)
 file_call setting card room = then (card_read setting card) (file_for room)
 
--- the answer: the length in bytes
-abbrev pub made_answer : Made → Result ℕ
-made_answer (Refused r) = refused r
-made_answer (Bytes n) = good n
-
 -- all that a call with this outcome promises: the answer, and the lent bytes after
-pub record MadeDone (outcome : Result (List ℕ)) (answer : Made) (before after : List ℕ) : Type 0 where
-  pub answers : made_answer answer ≡ then outcome length_of
+pub record MadeDone (outcome : Result (List ℕ)) (answer : Result ℕ) (before after : List ℕ) : Type 0 where
+  pub answers : answer ≡ then outcome length_of
   pub bytes : after ≡ new_after outcome before

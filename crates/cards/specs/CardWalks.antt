@@ -1,11 +1,9 @@
 -- What the inner functions of the card's reader and writer promise.
 use Rattle.std.specs.Prelude.{ℕ, suc, ◌+◌, ◌≤◌, ◌≡◌, cond, List, [], ◌∷◌}
 use Rattle.std.proofs.lemmas.List.Edits.{sets}
-use Rattle.frames.specs.Refusals.{Result, refused}
+use Rattle.frames.specs.Refusals.{good, Result, refused}
 use Rattle.files.specs.declared.Setting.{Setting}
 use Rattle.files.specs.declared.Phy.{Phy}
-use Rattle.wiring.specs.declared.Check.{Check}
-use Rattle.wiring.specs.declared.Check.TheVariants.{Refused as NotPassed, Passed as AllPassed}
 use Rattle.files.specs.Domain.{Expander, Domain}
 use Rattle.files.specs.Rows.{phy_words, row_of, rows_of}
 use Rattle.cards.specs.declared.PhysWalk.{PhysWalk}
@@ -19,9 +17,9 @@ ranged_count [] = 0
 ranged_count (φ ∷ φs) = cond (phy_ranged φ) (suc (ranged_count φs)) 0
 
 -- what an answer makes of what follows
-abbrev pub after_check : Check → Result Domain → Result Domain
-after_check (NotPassed r) k = refused r
-after_check AllPassed k = k
+abbrev pub after_check : Result Unit → Result Domain → Result Domain
+after_check (refused r) k = refused r
+after_check (good tt) k = k
 
 -- phys that start at bit `at`, walked through: their words stored in a row, the place after them, their results, and 6
 pub record PhysStored (φs : List Phy) (at : ℕ) (walk : PhysWalk) (before after : List ℕ) : Type 0 where

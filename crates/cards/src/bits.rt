@@ -51,10 +51,8 @@ pub(crate) fn put_bits(s: &mut [u8], at: usize, width: usize, x: u64)
 {
     let j = at / 8;
     let r = at % 8;
-    let mut k: usize = 0;
-    while k < width {
+    for k in 0..width {
         let b = (x >> (width - (k + 1))) % 2;
         set_bit(s, j + (r + k) / 8, (r + k) % 8, b);
-        k += 1;
     }
 }

@@ -10,7 +10,7 @@ ghost use Rattle.cards.specs.CardWalks.{after_check, PhysStored, RowStored, Card
 ghost use Rattle.files.specs.Rows.{row_words};
 
 use crate::{CardWalk, PhysWalk, reading, sizes};
-use wiring::{Check, ExpanderNumber, ExpanderRead, ExpanderUnit, Phy, PhyId, Setting};
+use wiring::{ExpanderNumber, ExpanderUnit, Phy, PhyId, Refusal, Setting};
 
 // Whether a phy is not vacant with result zero.
 fn is_fine(f: Phy) -> bool
@@ -51,8 +51,7 @@ fn put_phys(row: &mut [u64], card: &[u8], at: usize, n: u8) -> PhysWalk
     let mut next = at;
     let mut fine = true;
     let mut ranged: u8 = 0;
-    let mut p: u8 = 0;
-    while p < n {
+    for p in 0..n {
         let f = reading::phy_from(card, next);
         let k = 2 + 2 * (p as usize);
         row[k] = wiring::phy_address(f);
@@ -60,7 +59,6 @@ fn put_phys(row: &mut [u64], card: &[u8], at: usize, n: u8) -> PhysWalk
         fine = fine & is_fine(f);
         ranged = count_ranged(f, ranged, p);
         next += sizes::phy_size(f);
-        p += 1;
     }
     PhysWalk {
         next: next,
@@ -82,29 +80,20 @@ fn put_row(row: &mut [u64], card: &[u8], u: ExpanderUnit, at: usize) -> PhysWalk
 }
 
 // 3 and 4 of expander i, whose fields are u, then 6, where `ranged` of its phys come before the first of which it holds.
-fn check_unit(most: Setting, used: &[u64], u: ExpanderUnit, i: ExpanderNumber, ranged: u8) -> Check
+fn check_unit(
+    most: Setting,
+    used: &[u64],
+    u: ExpanderUnit,
+    i: ExpanderNumber,
+    ranged: u8,
+) -> Result<(), Refusal>
     ensures { (k : Result Domain) → after_check result k ≡ then (unit_tested most used.now i.0 u) (λ _. unless (leb u.phys ranged) (refusal 6 i.0 ranged) k) }
 {
-    let test = wiring::test_unit(most, used, u, i, 0);
-    match test {
-        ExpanderRead::Refused(r) => Check::Refused(r),
-        ExpanderRead::Read(_, _) => {
-            if ranged < u.phys {
-                return Check::Refused(wiring::refusal_at(6, i, PhyId(ranged)));
-            }
-            Check::Passed
-        }
+    wiring::test_unit(most, used, u, i, 0)?;
+    if ranged < u.phys {
+        return Err(wiring::refusal_at(6, i, PhyId(ranged)));
     }
-}
-
-// The first refusal of two tests.
-fn first(a: Check, b: Check) -> Check
-    ensures { (k : Result Domain) → after_check result k ≡ after_check a (after_check b k) }
-{
-    match a {
-        Check::Refused(r) => Check::Refused(r),
-        Check::Passed => b,
-    }
+    Ok(())
 }
 
 // Walks through the n expanders of a card.
@@ -116,20 +105,18 @@ pub(crate) fn walk_card(rows: &mut [u64], most: Setting, card: &[u8], n: u8) -> 
     let mut used = [0u64; 64];
     let mut at: usize = 16;
     let mut fine = true;
-    let mut check = Check::Passed;
-    let mut i: u8 = 0;
-    while i < n {
+    let mut check = Ok(());
+    for i in 0..n {
         let k = i as usize;
         let a = files::ROW_WORDS * k;
         let e = a + files::ROW_WORDS;
         let u = reading::unit_from(card, at);
         let walk = put_row(&mut rows[a..e], card, u, at);
         let unit = check_unit(most, &used[..k], u, ExpanderNumber(i), walk.ranged);
-        check = first(check, unit);
+        check = check.and(unit);
         used[k] = u.address;
         fine = fine & walk.fine;
         at = walk.next;
-        i += 1;
     }
     CardWalk {
         at: at,

@@ -8,8 +8,8 @@ ghost use Rattle.files.specs.Rows.{domain_in};
 ghost use Rattle.cards.specs.Card.{phy_bits, phys_bits, head_bits, expanders_bits, phys_size, card_size, card_of, most_card_size, most_phys_size};
 ghost use Rattle.cards.specs.Calls.{card_for, MadeDone};
 
-use crate::{Made, bits, refusals, sizes};
-use wiring::{ExpanderNumber, Phy, PhyFields, PhyId};
+use crate::{bits, sizes};
+use wiring::{ExpanderNumber, Phy, PhyFields, PhyId, Refusal};
 
 // A count less 1; 0 where it is 0.
 fn less_one(n: u8) -> u64
@@ -59,12 +59,10 @@ fn put_phys(card: &mut [u8], at: usize, rows: &[u64], i: ExpanderNumber) -> usiz
 {
     let n = wiring::phy_count(rows, i);
     let mut next = at;
-    let mut p: u8 = 0;
-    while p < n {
+    for p in 0..n {
         let f = wiring::phy_at(rows, i, PhyId(p));
         put_phy(card, next, f);
         next += sizes::phy_size(f);
-        p += 1;
     }
     next
 }
@@ -86,12 +84,10 @@ fn put_expanders(card: &mut [u8], rows: &[u64]) -> usize
 {
     let n = wiring::expander_count(rows);
     let mut at: usize = 16;
-    let mut i: u8 = 0;
-    while i < n {
+    for i in 0..n {
         let e = ExpanderNumber(i);
         put_head(card, at, rows, e);
         at = put_phys(card, at + crate::HEAD_SIZE, rows, e);
-        i += 1;
     }
     at
 }
@@ -109,13 +105,13 @@ fn put_card(card: &mut [u8], rows: &[u64])
 }
 
 // The card of the domain in rows, where it fits: 16 otherwise. The bytes after it stay, and all of them where it is refused.
-pub fn card_of_rows(rows: &[u64], card: &mut [u8]) -> Made
+pub fn card_of_rows(rows: &[u64], card: &mut [u8]) -> Result<usize, Refusal>
     ensures { MadeDone (card_for (length card.old) (domain_in rows.now)) result card.old card.new }
 {
     let n = (sizes::card_size(rows) + 7) / 8;
     if card.len() < n {
-        return refusals::made_refused(16);
+        return Err(wiring::refused(16));
     }
     put_card(card, rows);
-    Made::Bytes(n)
+    Ok(n)
 }

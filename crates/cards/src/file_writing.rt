@@ -8,8 +8,8 @@ ghost use Rattle.files.specs.Rows.{domain_in};
 ghost use Rattle.cards.specs.FileOf.{discover_of, phy_frame, phys_frames, unit_head, units_of, file_of, head_bytes};
 ghost use Rattle.cards.specs.Calls.{file_for, MadeDone};
 
-use crate::{Made, refusals, short_frames};
-use wiring::{Discover, ExpanderNumber, General, Phy, PhyFields, PhyId};
+use crate::short_frames;
+use wiring::{Discover, ExpanderNumber, General, Phy, PhyFields, PhyId, Refusal};
 
 // How many bytes stand before the frames of an expander's phys: its address and a short REPORT GENERAL response.
 const UNIT_HEAD: usize = 8 + frames::GENERAL_BYTES;
@@ -67,13 +67,11 @@ fn put_frames(file: &mut [u8], to: usize, rows: &[u64], i: ExpanderNumber)
 {
     let own_address = wiring::expander_address(rows, i);
     let n = wiring::phy_count(rows, i);
-    let mut p: u8 = 0;
-    while p < n {
+    for p in 0..n {
         let f = wiring::phy_at(rows, i, PhyId(p));
         let a = to + frames::DISCOVER_BYTES * (p as usize);
         let e = a + frames::DISCOVER_BYTES;
         put_phy(&mut file[a..e], own_address, PhyId(p), f);
-        p += 1;
     }
 }
 
@@ -84,13 +82,11 @@ fn put_units(file: &mut [u8], rows: &[u64])
 {
     let n = wiring::expander_count(rows);
     let mut to: usize = 2;
-    let mut i: u8 = 0;
-    while i < n {
+    for i in 0..n {
         let x = ExpanderNumber(i);
         put_head(file, to, rows, x);
         put_frames(file, to + UNIT_HEAD, rows, x);
         to += UNIT_HEAD + frames::DISCOVER_BYTES * (wiring::phy_count(rows, x) as usize);
-        i += 1;
     }
 }
 
@@ -100,11 +96,9 @@ fn file_size(rows: &[u64]) -> usize
 {
     let n = wiring::expander_count(rows);
     let mut size: usize = 2;
-    let mut i: u8 = 0;
-    while i < n {
+    for i in 0..n {
         size += UNIT_HEAD
             + frames::DISCOVER_BYTES * (wiring::phy_count(rows, ExpanderNumber(i)) as usize);
-        i += 1;
     }
     size
 }
@@ -120,13 +114,13 @@ fn put_file(file: &mut [u8], rows: &[u64])
 }
 
 // The file of the domain in rows, where it fits: 16 otherwise. The bytes after it stay, and all of them where it is refused.
-pub fn file_of_rows(rows: &[u64], file: &mut [u8]) -> Made
+pub fn file_of_rows(rows: &[u64], file: &mut [u8]) -> Result<usize, Refusal>
     ensures { MadeDone (file_for (length file.old) (domain_in rows.now)) result file.old file.new }
 {
     let size = file_size(rows);
     if file.len() < size {
-        return refusals::made_refused(16);
+        return Err(wiring::refused(16));
     }
     put_file(file, rows);
-    Made::Bytes(size)
+    Ok(size)
 }

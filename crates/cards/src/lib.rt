@@ -8,7 +8,6 @@ mod card_writing;
 mod file_call;
 mod file_writing;
 mod reading;
-mod refusals;
 mod short_frames;
 mod sizes;
 
@@ -16,20 +15,13 @@ pub use card_call::card_of_file;
 pub use card_writing::card_of_rows;
 pub use file_call::file_of_card;
 pub use file_writing::file_of_rows;
-use wiring::{Check, Refusal};
+use wiring::Refusal;
 
 // How many bits an expander takes before its phys: address, R, configurable and phys less 1.
 pub(crate) const HEAD_SIZE: usize = 88;
 
 // How many bits a phy takes at most: one with something attached.
 pub(crate) const MOST_PHY_SIZE: usize = 78;
-
-// What making a card or a file answers: its length in bytes.
-#[derive(Clone, Copy)]
-pub enum Made {
-    Refused(Refusal),
-    Bytes(usize),
-}
 
 // What a walk through an expander's phys on a card finds: the bit after them, whether no vacant one's result is zero, and how
 // many come before the first of which 6 holds.
@@ -45,5 +37,5 @@ pub struct PhysWalk {
 pub struct CardWalk {
     pub at: usize,
     pub fine: bool,
-    pub check: Check,
+    pub check: Result<(), Refusal>,
 }

@@ -1,28 +1,17 @@
 // Writes short REPORT GENERAL and DISCOVER responses: every byte and bit that reading ignores is zero.
-ghost use Rattle.std.specs.Prelude.{◌≡◌, length, replicate};
+ghost use Rattle.std.specs.Prelude.{◌≡◌, length};
 ghost use Rattle.frames.specs.Sizes.{short_size};
 ghost use Rattle.frames.specs.declared.Response.TheVariants.{ReportGeneral, Discover as DiscoverResponse};
 ghost use Rattle.cards.specs.ShortFrames.{short_general, short_vacant, short_discover};
 
 use wiring::{Discover, General};
 
-// Zeros in every byte.
-fn clear(frame: &mut [u8])
-    ensures { frame.new ≡ replicate (length frame.old) 0 }
-{
-    let mut k: usize = 0;
-    while k < frame.len() {
-        frame[k] = 0;
-        k += 1;
-    }
-}
-
 // Writes a REPORT GENERAL response into 28 bytes.
 pub(crate) fn put_general(frame: &mut [u8], g: General)
     requires { length frame.old ≡ short_size ReportGeneral }
     ensures { frame.new ≡ short_general g }
 {
-    clear(frame);
+    frame.fill(0);
     frame[0] = 0x41;
     frame[6] = (g.route_indexes / 256 % 256) as u8;
     frame[7] = (g.route_indexes % 256) as u8;
@@ -35,7 +24,7 @@ pub(crate) fn put_vacant(frame: &mut [u8], res: u8)
     requires { length frame.old ≡ short_size DiscoverResponse }
     ensures { frame.new ≡ short_vacant res }
 {
-    clear(frame);
+    frame.fill(0);
     frame[0] = 0x41;
     frame[1] = 0x10;
     frame[2] = res;
@@ -46,7 +35,7 @@ pub(crate) fn put_discover(frame: &mut [u8], d: Discover)
     requires { length frame.old ≡ short_size DiscoverResponse }
     ensures { frame.new ≡ short_discover d }
 {
-    clear(frame);
+    frame.fill(0);
     frame[0] = 0x41;
     frame[1] = 0x10;
     frame[9] = d.identifier.0;

@@ -27,10 +27,8 @@ fn phys_size(rows: &[u64], i: ExpanderNumber) -> usize
 {
     let n = wiring::phy_count(rows, i);
     let mut sum: usize = 0;
-    let mut p: u8 = 0;
-    while p < n {
+    for p in 0..n {
         sum += phy_size(wiring::phy_at(rows, i, PhyId(p)));
-        p += 1;
     }
     sum
 }
@@ -41,10 +39,8 @@ pub(crate) fn card_size(rows: &[u64]) -> usize
 {
     let n = wiring::expander_count(rows);
     let mut sum: usize = 16;
-    let mut i: u8 = 0;
-    while i < n {
+    for i in 0..n {
         sum += crate::HEAD_SIZE + phys_size(rows, ExpanderNumber(i));
-        i += 1;
     }
     sum
 }

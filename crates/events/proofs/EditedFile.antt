@@ -14,7 +14,9 @@ use Rattle.frames.specs.Bytes.{byte, bits, number_at, bytes_of}
 use Rattle.frames.specs.Refusals.{Result, refused, good, unless, then, refusal}
 use Rattle.frames.specs.Sizes.{short_size, long_size, long_length, size_stated, frame_size}
 use Rattle.frames.specs.ReportGeneral.{general_fixed, general_fields, general_in, general_read}
-use Rattle.frames.specs.Discovery.{Discovered, vacant, fields, discover_fixed, discover_fields, by_result, discover_read}
+use Rattle.frames.specs.Discovery.{discover_fixed, discover_fields, by_result, discover_read}
+use Rattle.frames.specs.declared.Discovered.{Discovered}
+use Rattle.frames.specs.declared.Discovered.TheVariants.{Vacant as vacant, Fields as fields}
 use Rattle.frames.specs.declared.General.{General}
 use Rattle.frames.specs.declared.Discover.{Discover}
 use Rattle.frames.specs.declared.Response.{Response}
@@ -31,7 +33,8 @@ use Rattle.files.specs.Lists.{is_in}
 use Rattle.files.specs.Settings.{within, in_range}
 use Rattle.files.specs.Domain.{Domain, expander_at, phy_at}
 use Rattle.files.specs.PhyReplaced.{with_phy, set_phy}
-use Rattle.files.specs.File.{Parsed, parsed, placed, size_at, fields_of, ranged, phy_of, phy_unit, phy_units, unit_of, unit_tested, expander_unit, expander_of, expanders, header_unit, domain_read}
+use Rattle.files.specs.File.{parsed, placed, size_at, fields_of, ranged, phy_of, phy_unit, phy_units, unit_of, unit_tested, expander_unit, expander_of, expanders, header_unit, domain_read}
+use Rattle.files.specs.declared.Parsed.{Parsed}
 use Rattle.files.specs.UnitAnswers.{ends_at}
 use Rattle.files.proofs.ListMembers.{is_true, and_left, and_right}
 use Rattle.files.proofs.CallResults.{never, good-one, unless-good, good-unless, then-good, good-then}

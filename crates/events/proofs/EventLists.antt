@@ -14,16 +14,15 @@ use Rattle.files.specs.Domain.{Domain}
 use Rattle.files.proofs.CallResults.{good-one, unless-good, then-good}
 use Rattle.tables.specs.filling.Tables.{tables}
 use Rattle.tables.specs.filling.Entries.{Entries, Room, room_of, Enough, put_before}
+use Rattle.tables.specs.declared.Counted.{Counted}
+use Rattle.tables.specs.declared.Moved.{Moved}
 use Rattle.tables.specs.JudgingCall.{judged, tables_for, table_call, tables_after, TablesDone}
 use Rattle.tables.specs.events.TouchedTables.{refilled}
 use Rattle.tables.specs.events.ReplugCall.{pluggable}
-use Rattle.tables.specs.declared.TablesGiven.{TablesGiven}
-use Rattle.tables.specs.declared.TablesGiven.TheVariants.{Counts}
 use Rattle.tables.proofs.AcceptedDomains.{judged-file, judged_wires, table_call_iff}
 use Rattle.tables.proofs.filling.TableLengths.{tables-length}
 use Rattle.tables.proofs.TableRefusals.{counts_iff}
 use Rattle.events.specs.declared.Event.{Event}
-use Rattle.events.specs.declared.EventAnswer.{EventAnswer}
 use Rattle.events.specs.Events.{named, edited}
 use Rattle.events.specs.EventFile.{file_edited}
 use Rattle.events.specs.Calls.{attempted, event_call, file_after, entries_after, EventDone, Lab, Happened, none, next, applied}
@@ -53,10 +52,10 @@ accepted-is setting file v room d d₂ fits j e =
     record { free = f.0; is = s; old = j; new = g.2 ∙ ap good s }
 
 -- where the table call answers counts, its file and what it left are a configured domain
-pub tables_configure : (setting : Setting) (file : List ℕ) (t w : ℕ) (before after : Entries) → TablesDone (table_call setting file (room_of before)) (Counts t w) before after
+pub tables_configure : (setting : Setting) (file : List ℕ) (t w : ℕ) (before after : Entries) → TablesDone (table_call setting file (room_of before)) (good (record { table_count = t; word_count = w })) before after
     → Configured setting before (record { file = file; entries = after })
 tables_configure setting file t w before after o =
-    let c = (counts_iff (table_call setting file (room_of before)) (Counts t w) before after o).0 (t, w, refl) in
+    let c = (counts_iff (table_call setting file (room_of before)) (good (record { table_count = t; word_count = w })) before after o).0 (t, w, refl) in
     let j = (table_call_iff setting file c.0 (room_of before)).0 c.1 in
     record { domain = c.0; accepted = j.0; enough = j.1; given = o.left ∙ ap (λ x. tables_after x before) c.1 }
 
@@ -69,7 +68,7 @@ module _ (setting : Setting) (before : Entries) (b : Bytes before.bits) where
       ap₂ (λ m n. record { words = m; bits = n }) (omega arith) (length_marked l before.bits)
 
   -- one event
-  one : (v : Event) (l m : Lab) (answer : EventAnswer) → v.address < 2 ^ 64 → Configured setting before l
+  one : (v : Event) (l m : Lab) (answer : Result Moved) → v.address < 2 ^ 64 → Configured setting before l
       → EventDone (event_call setting l.file v (room_of l.entries)) v answer l.file m.file l.entries m.entries
       → (m.file ≡ file_after (event_call setting l.file v (room_of before)) v l.file) × Configured setting before m
   one v l m answer fits c o =
@@ -97,7 +96,7 @@ module _ (setting : Setting) (before : Entries) (b : Bytes before.bits) where
           }
 
   -- configuring afresh gives these entries
-  same_tables : (n : Lab) → Configured setting before n → (answer : TablesGiven) (after : Entries) → TablesDone (table_call setting n.file (room_of before)) answer before after → n.entries ≡ after
+  same_tables : (n : Lab) → Configured setting before n → (answer : Result Counted) (after : Entries) → TablesDone (table_call setting n.file (room_of before)) answer before after → n.entries ≡ after
   same_tables n c answer after t =
       c.given ∙ sym (t.left ∙ ap (λ x. tables_after x before) ((table_call_iff setting n.file c.domain (room_of before)).1 (c.accepted, c.enough)))
 

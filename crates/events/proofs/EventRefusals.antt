@@ -17,15 +17,15 @@ use Rattle.files.proofs.Domains.{expander-range, phy-range}
 use Rattle.tables.specs.filling.Tables.{needed}
 use Rattle.tables.specs.filling.Entries.{Entries, Room, room_of, Enough}
 use Rattle.tables.specs.JudgingCall.{judged, tables_for}
-use Rattle.tables.specs.events.TouchedTables.{Moved, moved}
+use Rattle.tables.specs.declared.Moved.{Moved}
+use Rattle.tables.specs.events.TouchedTables.{moved}
 use Rattle.tables.specs.events.ReplugCall.{pluggable}
 use Rattle.tables.proofs.AcceptedDomains.{tables_iff}
 use Rattle.tables.proofs.TableRefusals.{Numbered, numbered-unless, numbered-then, exactly, judged-numbered, judged_causes, causes_judged}
 use Rattle.events.specs.declared.Event.{Event}
-use Rattle.events.specs.declared.EventAnswer.{EventAnswer}
 use Rattle.events.specs.Events.{named}
 use Rattle.events.specs.EventFile.{file_edited}
-use Rattle.events.specs.Calls.{attempted, event_call, event_answer, EventDone}
+use Rattle.events.specs.Calls.{attempted, event_call, EventDone}
 use Rattle.events.specs.EventCauses.{Pluggable, NoEventCause, event_number}
 
 -- 20's test is what the paper says of the named phy
@@ -42,12 +42,12 @@ pluggable_iff d v = (
     present (Present f) t = (f, refl, T_not (leb 2 f.device_type) t)
 
 -- the event call answers exactly when none of its causes holds, and refuses with no other number
-pub event-exactly : (setting : Setting) (file file' : List ℕ) (v : Event) (before after : Entries) (answer : EventAnswer)
+pub event-exactly : (setting : Setting) (file file' : List ℕ) (v : Event) (before after : Entries) (answer : Result Moved)
     → EventDone (event_call setting file v (room_of before)) v answer file file' before after
-    → RefusesExactly (event_answer answer) (NoEventCause setting file v (room_of before)) event_number
+    → RefusesExactly answer (NoEventCause setting file v (room_of before)) event_number
 unfolding event_call
 event-exactly setting file file' v before after answer o =
-    exactly event_number (event_answer answer) (then (event_call setting file v room) told) (NoEventCause setting file v room) o.answers numbered from to
+    exactly event_number answer (then (event_call setting file v room) told) (NoEventCause setting file v room) o.answers numbered from to
   where
     room : Room
     room = room_of before

@@ -25,21 +25,18 @@ use Rattle.tables.specs.filling.Entries.{Entries, Room, room_of}
 use Rattle.tables.specs.lists.OwnLists.{own_words, own_words_of_levels}
 use Rattle.tables.specs.JudgingCall.{judged_domain, judged, tables_for}
 use Rattle.tables.specs.lists.PreparedLists.{own_words_of_order, filled_to, judged_in}
+use Rattle.tables.specs.declared.Moved.{Moved}
 use Rattle.tables.specs.events.TouchedTables.{touched, table_at, refilled_by, refilled, moved_by, moved}
-use Rattle.tables.specs.events.ReplugCall.{pluggable, retested, replug_call, own_touched, own_table_at, own_refilled, refilled_after, replug_answer, ReplugDone}
-use Rattle.tables.specs.declared.Replugged.{Replugged}
-use Rattle.tables.specs.declared.Replugged.TheVariants.{Refused, Counts}
+use Rattle.tables.specs.events.ReplugCall.{pluggable, retested, replug_call, own_touched, own_table_at, own_refilled, refilled_after, ReplugDone}
 use Rattle.tables.proofs.AcceptedDomains.{judged-routable, judged-file, judged_wires}
 use Rattle.tables.proofs.lists.LevelListLaw.{law}
 use Rattle.tables.proofs.levels.LevelOrders.{order-levels}
 use Rattle.tables.proofs.lists.LevelListsByOwn.{judged_own}
 use Rattle.events.specs.declared.Event.{Event}
-use Rattle.events.specs.declared.EventAnswer.{EventAnswer}
-use Rattle.events.specs.declared.EventAnswer.TheVariants.{Refused as EventRefused}
 use Rattle.events.specs.Events.{named, edited}
 use Rattle.events.specs.EventFile.{file_edited}
 use Rattle.offsets.specs.Offsets.{phy_offset}
-use Rattle.events.specs.Calls.{attempted, event_call, file_after, entries_after, event_answer, EventDone}
+use Rattle.events.specs.Calls.{attempted, event_call, file_after, entries_after, EventDone}
 use Rattle.events.proofs.EditedFile.{edited-read}
 use Rattle.events.proofs.EventLists.{accepted-is}
 use Rattle.events.proofs.CausesAfterEvent.{retested-judged}
@@ -123,8 +120,8 @@ refilled_own setting file v room d₂ e fits c =
     }
 
 -- so what the call over rows promises is what the event call promises of entries and answer
-pub event-done : (setting : Setting) (file file' : List ℕ) (v : Event) (outcome : Result Domain) (got : Replugged) (answer : EventAnswer) (before after : Entries) → v.address < 2 ^ 64
-    → event_call setting file v (room_of before) ≡ outcome → ReplugDone outcome v.expander.0 got before after → event_answer answer ≡ replug_answer got
+pub event-done : (setting : Setting) (file file' : List ℕ) (v : Event) (outcome : Result Domain) (got : Result Moved) (answer : Result Moved) (before after : Entries) → v.address < 2 ^ 64
+    → event_call setting file v (room_of before) ≡ outcome → ReplugDone outcome v.expander.0 got before after → answer ≡ got
     → file' ≡ file_after outcome v file → EventDone (event_call setting file v (room_of before)) v answer file file' before after
 event-done setting file file' v outcome got answer before after fits c o same edits =
     subst (λ x. EventDone x v answer file file' before after) (sym c) (record { edits = edits; left = o.left ∙ left outcome c; answers = same ∙ o.answers ∙ counts outcome c })
@@ -141,9 +138,9 @@ event-done setting file file' v outcome got answer before after fits c o same ed
     counts (good d₂) k = ap good ((refilled_own setting file v (room_of before) d₂ e fits k).counts before after)
 
 -- a file that is read, by the call over rows on its domain
-pub rows-done : (setting : Setting) (file file' : List ℕ) (d : Domain) (first low : ℕ) (v : Event) (got : Replugged) (answer : EventAnswer) (before after : Entries)
+pub rows-done : (setting : Setting) (file file' : List ℕ) (d : Domain) (first low : ℕ) (v : Event) (got : Result Moved) (answer : Result Moved) (before after : Entries)
     → domain_read setting file ≡ good d → slots_before (length d) ≤ first → 128 * length d ≤ low → v.address < 2 ^ 64
-    → ReplugDone (replug_call setting.chain first low (room_of before) v.expander.0 v.phy.0 v.address d) v.expander.0 got before after → event_answer answer ≡ replug_answer got
+    → ReplugDone (replug_call setting.chain first low (room_of before) v.expander.0 v.phy.0 v.address d) v.expander.0 got before after → answer ≡ got
     → file' ≡ file_after (replug_call setting.chain first low (room_of before) v.expander.0 v.phy.0 v.address d) v file
     → EventDone (event_call setting file v (room_of before)) v answer file file' before after
 rows-done setting file file' d first low v got answer before after h slots phys fits =
@@ -152,23 +149,23 @@ rows-done setting file file' d first low v got answer before after h slots phys 
 
 -- a file that is refused by reading
 pub refused-done : (setting : Setting) (file : List ℕ) (v : Event) (before : Entries) (r : Refusal) → domain_read setting file ≡ refused r
-    → EventDone (event_call setting file v (room_of before)) v (EventRefused r) file file before before
+    → EventDone (event_call setting file v (room_of before)) v (refused r) file file before before
 refused-done setting file v before r h =
-    subst (λ x. EventDone x v (EventRefused r) file file before before) (sym (call-refused setting file v (room_of before) r h)) (record { edits = refl; left = refl; answers = refl })
+    subst (λ x. EventDone x v (refused r) file file before before) (sym (call-refused setting file v (room_of before) r h)) (record { edits = refl; left = refl; answers = refl })
 
 -- the file is edited exactly where the call over rows answers counts
 module _ (outcome : Result Domain) (e : ℕ) (before after : Entries) (v : Event) (file : List ℕ) where
-  pub file-counted : (t w : ℕ) → ReplugDone outcome e (Counts t w) before after → file_after outcome v file ≡ file_edited file v
-  file-counted t w o = go outcome o.answers
+  pub file-counted : (m : Moved) → ReplugDone outcome e (good m) before after → file_after outcome v file ≡ file_edited file v
+  file-counted m o = go outcome o.answers
     where
-      go : (x : Result Domain) → replug_answer (Counts t w) ≡ then x (λ d. good (moved_by d (own_touched d e) before after)) → file_after x v file ≡ file_edited file v
-      go (refused r) q = never r (record { table_count = t; word_count = w }) (sym q)
+      go : (x : Result Domain) → good m ≡ then x (λ d. good (moved_by d (own_touched d e) before after)) → file_after x v file ≡ file_edited file v
+      go (refused r) q = never r m (sym q)
       go (good d) q = refl
 
-  pub file-refused : (r : Refusal) → ReplugDone outcome e (Refused r) before after → file_after outcome v file ≡ file
+  pub file-refused : (r : Refusal) → ReplugDone outcome e (refused r) before after → file_after outcome v file ≡ file
   file-refused r o = go outcome o.answers
     where
-      go : (x : Result Domain) → replug_answer (Refused r) ≡ then x (λ d. good (moved_by d (own_touched d e) before after)) → file_after x v file ≡ file
+      go : (x : Result Domain) → (refused r) ≡ then x (λ d. good (moved_by d (own_touched d e) before after)) → file_after x v file ≡ file
       go (refused s) q = refl
       go (good d) q = never r (moved_by d (own_touched d e) before after) q
 

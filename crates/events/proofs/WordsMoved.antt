@@ -26,11 +26,11 @@ use Rattle.tables.proofs.lists.LevelListLaw.{levels-empty}
 use Rattle.tables.proofs.filling.TableLengths.{table-length, tables-length as All-words}
 use Rattle.tables.proofs.filling.TableStretches.{stretch-is}
 use Rattle.tables.proofs.AcceptedDomains.{judged_wires}
-use Rattle.tables.specs.events.TouchedTables.{touched, table_at, renewed, refilled, Moved, moved}
+use Rattle.tables.specs.declared.Moved.{Moved}
+use Rattle.tables.specs.events.TouchedTables.{touched, table_at, renewed, refilled, moved}
 use Rattle.tables.specs.filling.WordsChanged.{changed}
 use Rattle.tables.specs.events.ReplugCall.{pluggable, replug}
 use Rattle.events.specs.declared.Event.{Event}
-use Rattle.events.specs.declared.EventAnswer.TheVariants.{Counts}
 use Rattle.events.specs.Events.{named, edited}
 use Rattle.events.specs.EventFile.{file_edited}
 use Rattle.events.specs.Calls.{event_call, file_after, entries_after, EventDone, Lab}
@@ -166,7 +166,7 @@ module _ (setting : Setting) (file : List ℕ) (d : Domain) (j : judged setting 
               ∙ ap (λ m. set m o.0 (word (replug v.address (named d v)))) (sym (ap (λ m. stretch d m x p) words-lent ∙ stretch-is d x p t rest)),
         )
 
-  pub moves_little : (file' : List ℕ) (after : Entries) (t c : ℕ) → EventDone (event_call setting file v (room_of before)) v (Counts t c) file file' before after
+  pub moves_little : (file' : List ℕ) (after : Entries) (t c : ℕ) → EventDone (event_call setting file v (room_of before)) v (good (record { table_count = t; word_count = c })) file file' before after
       → (d₂ : Domain) × (judged setting file' ≡ good d₂) × MovesLittle d d₂ before after c
   moves_little file' after t c o =
       let m : Moved = record { table_count = t; word_count = c } in

@@ -5,11 +5,10 @@ use Rattle.files.specs.declared.Setting.{Setting}
 use Rattle.files.specs.Domain.{Domain}
 use Rattle.tables.specs.filling.Entries.{Entries, Room, room_of}
 use Rattle.tables.specs.JudgingCall.{judged, tables_for}
-use Rattle.tables.specs.events.TouchedTables.{Moved, moved, refilled}
+use Rattle.tables.specs.declared.Moved.{Moved}
+use Rattle.tables.specs.events.TouchedTables.{moved, refilled}
 use Rattle.tables.specs.events.ReplugCall.{pluggable}
 use Rattle.events.specs.declared.Event.{Event}
-use Rattle.events.specs.declared.EventAnswer.{EventAnswer}
-use Rattle.events.specs.declared.EventAnswer.TheVariants.{Refused, Counts}
 use Rattle.events.specs.Events.{named}
 use Rattle.events.specs.EventFile.{file_edited}
 
@@ -34,16 +33,11 @@ abbrev pub entries_after : Result Domain → Event → Entries → Entries
 entries_after (refused r) v before = before
 entries_after (good d) v before = refilled d v.expander.0 before
 
--- what the event call answers in the paper's terms: tables touched, and words changed
-abbrev pub event_answer : EventAnswer → Result Moved
-event_answer (Refused r) = refused r
-event_answer (Counts t w) = good (record { table_count = t; word_count = w })
-
 -- all that an event call with this outcome promises: the file, the entries, and the answer
-pub record EventDone (outcome : Result Domain) (v : Event) (answer : EventAnswer) (file file' : List ℕ) (before after : Entries) : Type 0 where
+pub record EventDone (outcome : Result Domain) (v : Event) (answer : Result Moved) (file file' : List ℕ) (before after : Entries) : Type 0 where
   pub edits : file' ≡ file_after outcome v file
   pub left : after ≡ entries_after outcome v before
-  pub answers : event_answer answer ≡ then outcome (λ d. good (moved d v.expander.0 before after))
+  pub answers : answer ≡ then outcome (λ d. good (moved d v.expander.0 before after))
 
 -- what is lent to an event: a file and entries
 pub record Lab : Type 0 where
@@ -53,7 +47,7 @@ pub record Lab : Type 0 where
 -- events one after the other, each with its answer, by the call's own promise
 pub data Happened (setting : Setting) : List Event → Lab → Lab → Type 0 where
   none : (l : Lab) → Happened setting [] l l
-  next : (v : Event) (vs : List Event) (l m n : Lab) (answer : EventAnswer) → v.address < 2 ^ 64
+  next : (v : Event) (vs : List Event) (l m n : Lab) (answer : Result Moved) → v.address < 2 ^ 64
       → EventDone (event_call setting l.file v (room_of l.entries)) v answer l.file m.file l.entries m.entries
       → Happened setting vs m n → Happened setting (v ∷ vs) l n
 

@@ -1,16 +1,16 @@
 -- Paper 9 of document 02 in one statement each: lists of events from a configured domain, and what one accepted event touches.
 use Rattle.std.specs.Prelude.{ℕ, ◌≡◌, cond, List, drop, T}
 use Rattle.frames.specs.Bits.{bits_of, zero_bits}
-use Rattle.frames.specs.Refusals.{good}
+use Rattle.frames.specs.Refusals.{Result, good}
 use Rattle.files.specs.declared.Setting.{Setting}
 use Rattle.files.specs.Domain.{Domain, phy_at, is_table}
 use Rattle.wiring.specs.phys.PhyCauses.{place}
 use Rattle.tables.specs.levels.Levels.{levels}
 use Rattle.tables.specs.filling.Tables.{table, tables, needed, stretch}
 use Rattle.tables.specs.filling.Entries.{Entries, room_of, Enough, put_before}
+use Rattle.tables.specs.declared.Counted.{Counted}
 use Rattle.tables.specs.JudgingCall.{judged, table_call, TablesDone}
 use Rattle.tables.specs.events.TouchedTables.{touched}
-use Rattle.tables.specs.declared.TablesGiven.{TablesGiven}
 use Rattle.events.specs.declared.Event.{Event}
 use Rattle.events.specs.Calls.{Lab, applied}
 
@@ -26,7 +26,7 @@ pub record Configured (setting : Setting) (before : Entries) (l : Lab) : Type 0 
 pub record Afresh (setting : Setting) (before : Entries) (vs : List Event) (l n : Lab) : Type 0 where
   pub file : n.file ≡ applied setting (room_of before) l.file vs
   pub configured : Configured setting before n
-  pub afresh : (answer : TablesGiven) (after : Entries) → TablesDone (table_call setting n.file (room_of before)) answer before after → n.entries ≡ after
+  pub afresh : (answer : Result Counted) (after : Entries) → TablesDone (table_call setting n.file (room_of before)) answer before after → n.entries ≡ after
 
 -- what an accepted event at expander e does, whatever words and bits were lent
 pub record Touches (d d₂ : Domain) (e : ℕ) (before after : Entries) : Type 0 where

@@ -5,12 +5,12 @@ ghost use Rattle.frames.specs.Refusals.{good};
 ghost use Rattle.files.specs.File.{domain_read};
 ghost use Rattle.files.specs.Rows.{domain_in};
 ghost use Rattle.wiring.specs.index.AddressIndex.{IndexRoom};
-ghost use Rattle.wiring.specs.phys.Checks.{FileRoom};
+ghost use Rattle.wiring.specs.phys.Checks.{FileRoom, RoomFor};
 ghost use Rattle.tables.specs.filling.Entries.{entries, room_of};
 ghost use Rattle.events.specs.Calls.{event_call, EventDone};
 
-use crate::{Event, EventAnswer, writing};
-use tables::{DomainRead, Replugged, Setting};
+use crate::{Event, writing};
+use tables::{Moved, Refusal, Setting};
 
 // The event call on a file whose domain the rows hold, with room for who has which address. The file is edited last, after every
 // test.
@@ -23,12 +23,12 @@ fn apply_rows(
     rows: &mut [u64],
     first: &mut [u16],
     low: &mut [u8],
-) -> EventAnswer
+) -> Result<Moved, Refusal>
     requires { (domain_read setting file.old ≡ good (domain_in rows.old)) × IndexRoom (domain_in rows.old) first.old low.old }
     ensures { EventDone (event_call setting file.old v (room_of (entries words.old bits.old))) v result
         file.old file.new (entries words.old bits.old) (entries words.new bits.new) }
 {
-    let got = tables::replug_rows(
+    let moved = tables::replug_rows(
         rows,
         first,
         low,
@@ -38,15 +38,10 @@ fn apply_rows(
         v.expander,
         v.phy,
         v.address,
-    );
-    match got {
-        Replugged::Refused(r) => EventAnswer::Refused(r),
-        Replugged::Counts(t, w) => {
-            let at = offsets::phy_offset(file, v.expander, v.phy);
-            writing::edit_frame(file, at, v.address);
-            EventAnswer::Counts(t, w)
-        }
-    }
+    )?;
+    let at = offsets::phy_offset(file, v.expander, v.phy);
+    writing::edit_frame(file, at, v.address);
+    Ok(moved)
 }
 
 // The event call, with room for the rows of the file's domain and for who has which address.
@@ -59,77 +54,31 @@ fn apply_in(
     rows: &mut [u64],
     first: &mut [u16],
     low: &mut [u8],
-) -> EventAnswer
+) -> Result<Moved, Refusal>
     requires { FileRoom setting file.old rows.old first.old low.old }
     ensures { EventDone (event_call setting file.old v (room_of (entries words.old bits.old))) v result
         file.old file.new (entries words.old bits.old) (entries words.new bits.new) }
 {
-    let read = wiring::read_domain(setting, file, rows);
-    match read {
-        DomainRead::Refused(r) => EventAnswer::Refused(r),
-        DomainRead::Expanders(n) => {
-            let e = files::ROW_WORDS * (n as usize);
-            apply_rows(setting, file, words, bits, v, &mut rows[..e], first, low)
-        }
-    }
+    let n = wiring::read_domain(setting, file, rows)?;
+    let e = files::ROW_WORDS * (n as usize);
+    apply_rows(setting, file, words, bits, v, &mut rows[..e], first, low)
 }
 
-// The event call on a file that states few expanders: at most 2, or at most 8.
-fn apply_few(
+// The event call, with room of this size: words for rows, and entries for slots and phys.
+fn apply_with<const ROWS: usize, const SLOTS: usize, const PHYS: usize>(
     setting: Setting,
     file: &mut [u8],
     words: &mut [u64],
     bits: &mut [u8],
     v: Event,
-) -> EventAnswer
-    requires { byte file.old 1 ≤ 8 }
+) -> Result<Moved, Refusal>
+    requires { RoomFor (byte file.old 1) ROWS SLOTS PHYS }
     ensures { EventDone (event_call setting file.old v (room_of (entries words.old bits.old))) v result
         file.old file.new (entries words.old bits.old) (entries words.new bits.new) }
 {
-    if wiring::stated_count(file) <= 2 {
-        let mut rows = [0u64; files::ROWS_OF_2];
-        let mut first = [0u16; wiring::SLOTS_OF_2];
-        let mut low = [0u8; wiring::PHYS_OF_2];
-        return apply_in(
-            setting,
-            file,
-            words,
-            bits,
-            v,
-            &mut rows[..],
-            &mut first[..],
-            &mut low[..],
-        );
-    }
-    let mut rows = [0u64; files::ROWS_OF_8];
-    let mut first = [0u16; wiring::SLOTS_OF_8];
-    let mut low = [0u8; wiring::PHYS_OF_8];
-    apply_in(
-        setting,
-        file,
-        words,
-        bits,
-        v,
-        &mut rows[..],
-        &mut first[..],
-        &mut low[..],
-    )
-}
-
-// The event call, with room for the most expanders.
-fn apply_many(
-    setting: Setting,
-    file: &mut [u8],
-    words: &mut [u64],
-    bits: &mut [u8],
-    v: Event,
-) -> EventAnswer
-    ensures { EventDone (event_call setting file.old v (room_of (entries words.old bits.old))) v result
-        file.old file.new (entries words.old bits.old) (entries words.new bits.new) }
-{
-    let mut rows = [0u64; files::ROWS_OF_64];
-    let mut first = [0u16; wiring::SLOTS_OF_64];
-    let mut low = [0u8; wiring::PHYS_OF_64];
+    let mut rows = [0u64; ROWS];
+    let mut first = [0u16; SLOTS];
+    let mut low = [0u8; PHYS];
     apply_in(
         setting,
         file,
@@ -151,18 +100,27 @@ pub fn apply_event(
     words: &mut [u64],
     bits: &mut [u8],
     v: Event,
-) -> EventAnswer
+) -> Result<Moved, Refusal>
     ensures { EventDone (event_call setting file.old v (room_of (entries words.old bits.old))) v result
         file.old file.new (entries words.old bits.old) (entries words.new bits.new) }
 {
     let n = wiring::stated_count(file);
+    if n <= 2 {
+        return apply_with::<{ files::ROWS_OF_2 }, { wiring::SLOTS_OF_2 }, { wiring::PHYS_OF_2 }>(
+            setting, file, words, bits, v,
+        );
+    }
     if n <= 8 {
-        return apply_few(setting, file, words, bits, v);
+        return apply_with::<{ files::ROWS_OF_8 }, { wiring::SLOTS_OF_8 }, { wiring::PHYS_OF_8 }>(
+            setting, file, words, bits, v,
+        );
     }
     if n > 64 {
         if file.len() > 2 {
             return apply_event(setting, &mut file[..2], words, bits, v);
         }
     }
-    apply_many(setting, file, words, bits, v)
+    apply_with::<{ files::ROWS_OF_64 }, { wiring::SLOTS_OF_64 }, { wiring::PHYS_OF_64 }>(
+        setting, file, words, bits, v,
+    )
 }

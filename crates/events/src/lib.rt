@@ -5,7 +5,7 @@ mod calls;
 mod writing;
 
 pub use calls::apply_event;
-use tables::{ExpanderNumber, PhyId, Refusal};
+use tables::{ExpanderNumber, PhyId};
 
 // An event names an expander, a phy and the address of a drive; address zero pulls the drive.
 #[derive(Clone, Copy)]
@@ -13,11 +13,4 @@ pub struct Event {
     pub expander: ExpanderNumber,
     pub phy: PhyId,
     pub address: u64,
-}
-
-// What an event answers: the number of tables touched, and of words changed.
-#[derive(Clone, Copy)]
-pub enum EventAnswer {
-    Refused(Refusal),
-    Counts(u32, u32),
 }

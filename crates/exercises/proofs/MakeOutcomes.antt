@@ -4,23 +4,22 @@ use mathlib.Core.Path.{◌≡◌, refl, ap, subst, ◌∙◌}
 use mathlib.Core.Bool.{true, false}
 use mathlib.Core.List.{List, [], ◌∷◌}
 use lib.ListN.{length}
-use Rattle.wiring.specs.FrameDefinitions.{refused, refusal}
+use Rattle.wiring.specs.FrameDefinitions.{Result, refused, refusal}
 use Rattle.files.specs.Domain.{Domain}
 use Rattle.files.specs.Rows.{rows_of, domain_in}
 use Rattle.files.proofs.ListMembers.{was_false}
-use Rattle.cards.specs.declared.Made.{Made}
-use Rattle.cards.specs.Calls.{file_for, made_answer, MadeDone}
+use Rattle.cards.specs.Calls.{file_for, MadeDone}
 use Rattle.exercises.specs.Rig.{trimmed, first_of, second_of, made, no_rig}
 use Rattle.exercises.specs.Call.{make_call}
 use Rattle.exercises.proofs.Exercise.{WordsFit, makable, rows_back}
 
 -- no rig, or the file of the domain that the rows hold
-pub make-none : (a b : ℕ) (ws before : List ℕ) (answer : Made) → no_rig a b ws ≡ true → made_answer answer ≡ refused (refusal 24 0 0)
+pub make-none : (a b : ℕ) (ws before : List ℕ) (answer : Result ℕ) → no_rig a b ws ≡ true → answer ≡ refused (refusal 24 0 0)
     → MadeDone (make_call a b ws (length before)) answer before before
 unfolding make_call
 make-none a b ws before answer e q = rw e (record { answers = q; bytes = refl })
 
-pub make-some : (a b : ℕ) (ws before after rows : List ℕ) (answer : Made) (i : ℕ) (l : List ℕ) → no_rig a b ws ≡ false → a < 2 ^ 64 → b < 2 ^ 64 → WordsFit ws
+pub make-some : (a b : ℕ) (ws before after rows : List ℕ) (answer : Result ℕ) (i : ℕ) (l : List ℕ) → no_rig a b ws ≡ false → a < 2 ^ 64 → b < 2 ^ 64 → WordsFit ws
     → i ≡ length ws → l ≡ trimmed ws → rows ≡ rows_of (first_of a b i ∷ second_of a b l ∷ []) → MadeDone (file_for (length before) (domain_in rows)) answer before after
     → MadeDone (make_call a b ws (length before)) answer before after
 unfolding make_call made

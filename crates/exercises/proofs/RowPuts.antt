@@ -1,29 +1,16 @@
 -- Storing the rows of an exercise: the words of one phy after the other, then the two rows.
-use Prim.Native.Nat.{ℕ, suc, ◌+◌, ◌-◌, ◌*◌, ◌≤◌, ◌<◌}
-use mathlib.Core.Path.{◌≡◌, sym, ◌∙◌, ap}
+use Prim.Native.Nat.{ℕ, suc, ◌+◌, ◌-◌, ◌*◌, ◌≤◌}
+use mathlib.Core.Path.{◌≡◌, ◌∙◌, ap}
 use mathlib.Core.List.{List, [], ◌∷◌, ◌++◌, map}
 use native.Mathlib.Omega.{arith}
-use lib.ListN.{length, get_or, take, drop, set, replicate, length-map, length-drop, length-append, drop_of_length-le}
-use lib.Seq.{sets, drop-cons, drop_at, take_at}
+use lib.ListN.{length, take, drop, set, replicate, length-map, length-drop, length-append, drop_of_length-le}
+use lib.Seq.{sets, drop_at, take_at}
 use Rattle.files.specs.declared.Phy.{Phy}
 use Rattle.files.specs.declared.ExpanderUnit.{ExpanderUnit}
 use Rattle.files.specs.Domain.{Expander, address_of}
 use Rattle.files.specs.Rows.{phy_word, phy_words, head_word, row_of, rows_of, row_words}
 use Rattle.files.proofs.RowFilling.{length-phy_words, length-row_of, stored_in_zeros}
 use Rattle.exercises.specs.Rig.{drive, toward, first_of, second_of}
-
--- one phy more, and the end
-module _ (ws : List ℕ) (k : ℕ) where
-  pub drive-go : (row v : List ℕ) (at a w : ℕ) (φ : Phy) → sets row (4 + 2 * k) (phy_words (map drive (drop k ws))) ≡ v → φ ≡ drive (get_or ws k 0) → a ≡ address_of φ → w ≡ phy_word φ
-      → at ≡ 4 + 2 * k → k < length ws → sets (set (set row at a) (at + 1) w) (4 + 2 * (k + 1)) (phy_words (map drive (drop (k + 1) ws))) ≡ v
-  drive-go row v at a w φ inv qφ qa qw qt h =
-      let g : at + 1 ≡ suc (4 + 2 * k) = omega arith in
-      let j : 4 + 2 * (k + 1) ≡ suc (suc (4 + 2 * k)) = omega arith in
-      let i : k + 1 ≡ suc k = omega arith in
-      rw (g, j, i, qt, qa, qw, qφ) (sym (ap (λ (l : List ℕ). sets row (4 + 2 * k) (phy_words (map drive l))) (drop-cons ws k 0 h)) ∙ inv)
-
-  pub drive-end : (row v : List ℕ) → sets row (4 + 2 * k) (phy_words (map drive (drop k ws))) ≡ v → length ws ≤ k → row ≡ v
-  drive-end row v inv h = sym (ap (λ (l : List ℕ). sets row (4 + 2 * k) (phy_words (map drive l))) (drop_of_length-le ws h)) ∙ inv
 
 -- an expander's row: its link, and then the words' phys
 pub row_put : (l after : List ℕ) (u : ExpanderUnit) (φ : Phy) (ws : List ℕ) (h a w : ℕ) → l ≡ replicate row_words 0 → h ≡ head_word u.route_indexes u.phys u.configurable

@@ -5,8 +5,9 @@ use mathlib.Core.Logic.{inl, inr, ◌≢◌}
 use mathlib.Core.Bool.{Bool, true, false, cond}
 use mathlib.Core.List.{List, [], ◌∷◌, ◌++◌}
 use native.Mathlib.Omega.{arith}
+use native.Mathlib.Numerals.{add-one}
 use lib.ListN.{length, get_or, take, replicate, length-append}
-use lib.Seq.{take-suc, take_all, length-take-le}
+use lib.Seq.{take-suc, length-take-le}
 use lib.Dec.{eqb, eqb→eq}
 use borrow.Author.Tests.{ne_eqb}
 use Rattle.files.specs.Lists.{In}
@@ -81,12 +82,6 @@ trimmed-last (w ∷ ws) k e = go (trimmed ws) (trimmed-last ws) k e
     go (x ∷ l) r zero e z = omega arith
     go (x ∷ l) r (suc k) e z = r k (omega arith) z
 
--- words cut from the end
-trimmed-zero : (l : List ℕ) → trimmed (l ++ (0 ∷ [])) ≡ trimmed l
-unfolding trimmed
-trimmed-zero [] = refl
-trimmed-zero (x ∷ l) = ap (trim_cons x) (trimmed-zero l)
-
 trim_cons-some : (x : ℕ) (m : List ℕ) → 0 < length m → trim_cons x m ≡ x ∷ m
 trim_cons-some x [] h = absurd (omega arith)
 trim_cons-some x (y ∷ m) h = refl
@@ -97,25 +92,24 @@ trimmed_snoc [] w n = rw (ne_eqb w 0 n) refl
 trimmed_snoc (x ∷ l) w n =
     ap (trim_cons x) (trimmed_snoc l w n) ∙ trim_cons-some x (l ++ (w ∷ [])) (omega (arith, length-append l (w ∷ [])))
 
-take_last : (ws : List ℕ) (n : ℕ) → 0 < n → n ≤ length ws → take n ws ≡ take (n - 1) ws ++ (get_or ws (n - 1) 0 ∷ [])
-take_last ws n h k = let e : n ≡ suc (n - 1) = omega arith in ap (λ (m : ℕ). take m ws) e ∙ take-suc ws (n - 1) 0 (omega arith)
+-- words whose words from n on are zero
+zeros-after : (ws : List ℕ) (n : ℕ) → ((j : ℕ) → n ≤ j → j < length ws → get_or ws j 0 ≡ 0) → trimmed (take n ws) ≡ trimmed ws
+unfolding trimmed
+zeros-after [] zero f = refl
+zeros-after [] (suc n) f = refl
+zeros-after (w ∷ ws) zero f =
+    let z : w ≡ 0 = f 0 (omega arith) (omega arith) in
+    let e : trimmed ws ≡ [] = sym (zeros-after ws zero (λ j h k. f (suc j) (omega arith) (omega arith))) in
+    rw (e, z)
+zeros-after (w ∷ ws) (suc n) f = ap (trim_cons w) (zeros-after ws n (λ j h k. f (suc j) (omega arith) (omega arith)))
 
-module _ (ws : List ℕ) (n : ℕ) (inv : trimmed (take n ws) ≡ trimmed ws) (h : n ≤ length ws) where
-  pub trim_stop : 0 < n → get_or ws (n - 1) 0 ≢ 0 → (n ≡ length (trimmed ws)) × (take n ws ≡ trimmed ws)
-  trim_stop k z =
-      let e : take n ws ≡ trimmed ws = sym (ap trimmed (take_last ws n k h) ∙ trimmed_snoc (take (n - 1) ws) (get_or ws (n - 1) 0) z ∙ sym (take_last ws n k h)) ∙ inv in
-      (sym (length-take-le n ws h) ∙ ap length e, e)
+-- the last word that is not zero is word k, or there is none
+pub last_word : (ws : List ℕ) (k : ℕ) → k < length ws → get_or ws k 0 ≢ 0 → ((j : ℕ) → k < j → j < length ws → get_or ws j 0 ≡ 0) → (k + 1 ≡ length (trimmed ws)) × (take (k + 1) ws ≡ trimmed ws)
+last_word ws k h n f =
+    let t : take (k + 1) ws ≡ take k ws ++ (get_or ws k 0 ∷ []) = rw add-one (take-suc ws k 0 h) in
+    let e : take (k + 1) ws ≡ trimmed ws = t ∙ sym (trimmed_snoc (take k ws) (get_or ws k 0) n) ∙ sym (ap trimmed t) ∙ zeros-after ws (k + 1) (λ j g l. f j (omega arith) l) in
+    (sym (length-take-le (k + 1) ws (omega arith)) ∙ ap length e, e)
 
-  pub trim_go : 0 < n → get_or ws (n - 1) 0 ≡ 0 → trimmed (take (n - 1) ws) ≡ trimmed ws
-  trim_go k z =
-      sym (ap trimmed (take_last ws n k h) ∙ ap (λ (v : ℕ). trimmed (take (n - 1) ws ++ (v ∷ []))) z ∙ trimmed-zero (take (n - 1) ws)) ∙ inv
-
-  pub trim_end : n ≤ 0 → (n ≡ length (trimmed ws)) × (take n ws ≡ trimmed ws)
-  unfolding trimmed
-  trim_end k =
-      let z : n ≡ 0 = omega arith in
-      let e : trimmed ws ≡ [] = sym inv ∙ ap (λ (m : ℕ). trimmed (take m ws)) z in
-      (z ∙ sym (ap length e), ap (λ (m : ℕ). take m ws) z ∙ sym e)
-
-pub trim_start : (ws : List ℕ) → trimmed (take (length ws) ws) ≡ trimmed ws
-trim_start ws = ap trimmed (take_all (length ws) ws (omega arith))
+pub no_word_left : (ws : List ℕ) → ((j : ℕ) → j < length ws → get_or ws j 0 ≡ 0) → (0 ≡ length (trimmed ws)) × ([] ≡ trimmed ws)
+unfolding trimmed
+no_word_left ws f = let e = zeros-after ws 0 (λ j g l. f j l) in (ap length e, e)

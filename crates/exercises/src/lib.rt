@@ -5,5 +5,4 @@ mod making;
 mod rows;
 mod words;
 
-pub use cards::Made;
 pub use making::make;

@@ -43,13 +43,11 @@ fn put_drives(row: &mut [u64], words: &[u64])
     requires { (length row.old ≡ row_words) × (length words.now ≤ 127) }
     ensures { row.new ≡ sets row.old 4 (phy_words (map drive words.now)) }
 {
-    let mut k: usize = 0;
-    while k < words.len() {
+    for k in 0..words.len() {
         let f = drive(words[k]);
         let at = 4 + 2 * k;
         row[at] = wiring::phy_address(f);
         row[at + 1] = wiring::phy_word(f);
-        k += 1;
     }
 }
 

@@ -7,29 +7,17 @@ ghost use Rattle.exercises.specs.Rig.{trimmed, no_rig};
 fn has_word(words: &[u64], a: u64) -> bool
     ensures { result ≡ is_in a words.now }
 {
-    let mut k: usize = 0;
-    while k < words.len() {
-        if a == words[k] {
-            return true;
-        }
-        k += 1;
-    }
-    false
+    words.contains(&a)
 }
 
 // How many words there are up to the last non-zero one.
 pub(crate) fn trimmed_count(words: &[u64]) -> usize
     ensures { (result ≡ length (trimmed words.now)) × (take result words.now ≡ trimmed words.now) }
 {
-    let mut n = words.len();
-    while n > 0 {
-        let k = n - 1;
-        if words[k] != 0 {
-            return n;
-        }
-        n = k;
+    match words.iter().rposition(|word| *word != 0) {
+        Some(k) => k + 1,
+        None => 0,
     }
-    n
 }
 
 // Whether there is no rig with these words as its table.

@@ -12,7 +12,8 @@ use Rattle.frames.specs.declared.General.{General}
 use Rattle.frames.specs.declared.LongGeneral.{LongGeneral}
 use Rattle.frames.specs.declared.Discover.{Discover}
 use Rattle.frames.specs.declared.Route.{Route}
-use Rattle.frames.specs.ReportGeneral.{long, general_fields, general_read, long_fields, by_length, general_read_sas2}
+use Rattle.frames.specs.ReportGeneral.{general_fields, general_read, long_fields, by_length, general_read_sas2}
+use Rattle.frames.specs.declared.GeneralSas2.TheVariants.{Long as long}
 use Rattle.frames.specs.Discovery.{discover_read, discover_fields, by_result}
 use Rattle.frames.specs.ConfigureRoute.{is_length, is_disabled, route_frame, route_written, route_fixed, route_read}
 use Rattle.files.specs.ReadDomain.{Bytes}

@@ -12,7 +12,9 @@ use Rattle.frames.specs.Bytes.{byte, number_at}
 use Rattle.frames.specs.Refusals.{Result, refused, good, refusal}
 use Rattle.frames.specs.Sizes.{short_size, long_size, long_length, frame_size, by_itself}
 use Rattle.frames.specs.ReportGeneral.{general_fixed, general_fields, general_in, general_read}
-use Rattle.frames.specs.Discovery.{Discovered, vacant, fields, discover_fixed, discovered, discover_in, discover_read}
+use Rattle.frames.specs.Discovery.{discover_fixed, discovered, discover_in, discover_read}
+use Rattle.frames.specs.declared.Discovered.{Discovered}
+use Rattle.frames.specs.declared.Discovered.TheVariants.{Vacant as vacant, Fields as fields}
 use Rattle.frames.specs.declared.General.{General}
 use Rattle.frames.specs.declared.Response.{Response}
 use Rattle.frames.specs.declared.Response.TheVariants.{ReportGeneral, Discover}
@@ -22,7 +24,8 @@ use Rattle.files.specs.Lists.{In, numbers, up_to, is_in}
 use Rattle.files.specs.Settings.{within, in_range}
 use Rattle.files.specs.Domain.{Expander, Domain}
 use Rattle.files.specs.ReadDomain.{Read, Bytes, FitsDomain}
-use Rattle.files.specs.File.{Parsed, placed, size_at, frame_at, fields_of, ranged, phy_of, phy_unit, phy_units, unit_of, unit_tested, expander_unit, expanders, header_unit, domain_read}
+use Rattle.files.specs.File.{placed, size_at, frame_at, fields_of, ranged, phy_of, phy_unit, phy_units, unit_of, unit_tested, expander_unit, expanders, header_unit, domain_read}
+use Rattle.files.specs.declared.Parsed.{Parsed}
 use Rattle.files.proofs.ReadDomain.{read-good, read_fits}
 use Rattle.files.proofs.ListMembers.{by-test, was_true}
 use Rattle.files.proofs.SettingRanges.{range_iff}

@@ -1,6 +1,6 @@
 -- Bit 63 of the answers of the two calls on a shelf that refuse.
 use Prim.Native.Nat.{ℕ, ◌≤◌, min}
-use mathlib.Core.Path.{◌≡◌, refl, ◌∙◌}
+use mathlib.Core.Path.{◌≡◌, refl}
 use mathlib.Core.Bool.{Bool, true, false, cond, ◌&&◌}
 use mathlib.Core.List.{List}
 use native.Mathlib.Omega.{arith}
@@ -11,34 +11,27 @@ use Rattle.frames.specs.declared.Route.{Route}
 use Rattle.frames.specs.ConfigureRoute.{route_read}
 use Rattle.files.specs.ReadDomain.{Bytes}
 use Rattle.shelves.specs.PlainTable.{result_of}
-use Rattle.shelves.specs.Shelf.{can_be_told, stepped_to, fresh_shelf, made, kind_in, after_read, stepped, shelf_answer}
+use Rattle.shelves.specs.Shelf.{can_be_told, stepped_to, fresh_shelf, made, kind_in, after_read, stepped}
 use Rattle.shelves.specs.declared.Shelf.{Shelf}
 use Rattle.shelves.specs.declared.Stepped.{Stepped}
-use Rattle.shelves.specs.declared.Answer.{Answer}
-use Rattle.shelves.specs.declared.Answer.TheVariants.{Refused, Result as Answered}
-use Rattle.exports.specs.Packing.{packed, number}
-use Rattle.exports.specs.Shelves.{pack_answer, ShelfDone}
+use Rattle.exports.specs.Packing.{number}
+use Rattle.exports.specs.Shelves.{ShelfDone}
 use Rattle.exports.specs.AnswerParts.{Itself}
 use Rattle.exports.specs.RefusalBit.{ThreeBytes, ToldApart, BitTells}
 use Rattle.exports.proofs.RefusalBit.{Tells, Yields, tells, no_place, answer-tells}
 use Rattle.exports.proofs.FramesApart.{read-route-apart}
 
--- an answer of a shelf is packed as that of any other call
-pub shelf-packed : (a : Answer) → pack_answer a ≡ packed number (shelf_answer a)
-shelf-packed (Refused r) = refl
-shelf-packed (Answered n) = refl
-
 -- so what a shelf answers is told by bit 63, by all that the call promises
-pub shelf-tells : (outcome : Stepped) (answer : ℕ) (after : Shelf) → ToldApart number Itself (shelf_answer outcome.answer) → ShelfDone outcome answer after
-    → BitTells Itself (shelf_answer outcome.answer) answer
-shelf-tells outcome answer after t o = answer-tells number Itself (shelf_answer outcome.answer) answer t (o.answers ∙ shelf-packed outcome.answer)
+pub shelf-tells : (outcome : Stepped) (answer : ℕ) (after : Shelf) → ToldApart number Itself outcome.answer → ShelfDone outcome answer after
+    → BitTells Itself outcome.answer answer
+shelf-tells outcome answer after t o = answer-tells number Itself outcome.answer answer t o.answers
 
 -- a fresh shelf
-pub fresh-apart : (s : Shelf) (phys route_indexes : ℕ) (kinds : List ℕ) → ToldApart number Itself (shelf_answer (made s phys route_indexes kinds).answer)
+pub fresh-apart : (s : Shelf) (phys route_indexes : ℕ) (kinds : List ℕ) → ToldApart number Itself ((made s phys route_indexes kinds).answer)
 unfolding made
 fresh-apart s phys route_indexes kinds = tells number Itself _ (go (can_be_told phys route_indexes kinds))
   where
-    go : (b : Bool) → Tells (Yields number Itself) (shelf_answer (cond b (stepped_to (fresh_shelf phys route_indexes kinds) (Answered 0x00)) (stepped_to s (Refused (refusal 3 0 0)))).answer)
+    go : (b : Bool) → Tells (Yields number Itself) ((cond b (stepped_to (fresh_shelf phys route_indexes kinds) (good 0x00)) (stepped_to s (refused (refusal 3 0 0)))).answer)
     go true = (omega arith, refl)
     go false = no_place 3 (omega arith)
 
@@ -54,10 +47,10 @@ result-few phys route_indexes kind phy index = go (leb phys phy) (eqb (kind phy)
     go false false false = omega arith
 
 -- a frame that a shelf obeys
-pub obey-apart : (s : Shelf) (frame : List ℕ) → Bytes frame → ToldApart number Itself (shelf_answer (stepped s frame).answer)
+pub obey-apart : (s : Shelf) (frame : List ℕ) → Bytes frame → ToldApart number Itself ((stepped s frame).answer)
 unfolding after_read
 obey-apart s frame b = tells number Itself _ (go (route_read frame) (read-route-apart frame b).refusals)
   where
-    go : (x : Result Route) → ((r : Refusal) → x ≡ refused r → ThreeBytes r) → Tells (Yields number Itself) (shelf_answer (after_read s x).answer)
+    go : (x : Result Route) → ((r : Refusal) → x ≡ refused r → ThreeBytes r) → Tells (Yields number Itself) ((after_read s x).answer)
     go (refused r) h = h r refl
     go (good q) h = let m = result-few (min 16 s.phys) (min 64 s.route_indexes) (kind_in s.kinds) q.phy.0 q.index.0 in (omega arith, refl)

@@ -1,13 +1,14 @@
 -- How a caller takes apart, by / and %, an answer that is no refusal.
 use Rattle.std.specs.Prelude.{ℕ, ◌/◌, ◌%◌, ◌^◌, ◌≤◌, ◌<◌, ◌≡◌, cond}
-use Rattle.tracing.specs.TableDefinitions.{GeneralSas2, short, long, Discovered, vacant, fields, General, LongGeneral, Discover, Route, Counted}
+use Rattle.tracing.specs.TableDefinitions.{GeneralSas2, short, long, Discovered, vacant, fields, General, LongGeneral, Discover, Route}
+use Rattle.tables.specs.declared.Counted.{Counted}
 use Rattle.tracing.specs.Trace.{Reported}
 use Rattle.tracing.specs.Packing.{pack_outcome}
 use Rattle.tracing.specs.Steps.{Step, here, end_device, bad, lost, onward}
 use Rattle.tracing.specs.Reasons.{StepTold}
-use Rattle.tables.specs.events.TouchedTables.{Moved}
+use Rattle.tables.specs.declared.Moved.{Moved}
 use Rattle.surveys.specs.declared.Entry.{Entry}
-use Rattle.forms.specs.Calls.{FormCounts}
+use Rattle.forms.specs.declared.FormCounts.{FormCounts}
 use Rattle.exports.specs.Packing.{pack_bad}
 
 -- a number is the answer itself

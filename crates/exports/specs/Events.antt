@@ -3,7 +3,8 @@ use Rattle.std.specs.Prelude.{ℕ, ◌+◌, ◌*◌, ◌^◌, ◌≡◌, List}
 use Rattle.frames.specs.Refusals.{Result, good, then}
 use Rattle.files.specs.Domain.{Domain}
 use Rattle.tables.specs.filling.Entries.{Entries}
-use Rattle.tables.specs.events.TouchedTables.{Moved, moved}
+use Rattle.tables.specs.events.TouchedTables.{moved}
+use Rattle.tables.specs.declared.Moved.{Moved}
 use Rattle.events.specs.declared.Event.{Event}
 use Rattle.events.specs.Calls.{file_after, entries_after}
 use Rattle.exports.specs.Packing.{packed}

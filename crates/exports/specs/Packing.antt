@@ -1,9 +1,10 @@
 -- Settings and answers of the C interface, each packed into one number.
 use Rattle.std.specs.Prelude.{ℕ, ◌+◌, ◌*◌, ◌/◌, ◌%◌, ◌^◌, cond, not, List, eqb, leb}
-use Rattle.tracing.specs.TableDefinitions.{Result, refused, good, GeneralSas2, short, long, Discovered, vacant, fields, General, LongGeneral, Discover, Route, Setting, Counted}
+use Rattle.tracing.specs.TableDefinitions.{Result, refused, good, GeneralSas2, short, long, Discovered, vacant, fields, General, LongGeneral, Discover, Route, Setting}
+use Rattle.tables.specs.declared.Counted.{Counted}
 use Rattle.surveys.specs.declared.Entry.{Entry}
 pub use Rattle.tracing.specs.Packing.{pack_refusal, packed, pack_end, end_packed}
-use Rattle.forms.specs.Calls.{FormCounts}
+use Rattle.forms.specs.declared.FormCounts.{FormCounts}
 use Rattle.tracing.specs.Steps.{Step, here, end_device, bad, lost, onward}
 use Rattle.tracing.specs.Reasons.{StepTold}
 use Rattle.tracing.specs.declared.Reason.{Reason}

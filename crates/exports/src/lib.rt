@@ -24,16 +24,9 @@ ghost use Rattle.exports.specs.Shelves.{ShelfDone};
 ghost use Rattle.exports.specs.Events.{event_told, EventPacked};
 ghost use Rattle.exports.specs.Packing.{version, setting_of, packed, number, counts, form_packed, entry_packed, end_packed, step_packed, forty, general, general_sas2, discovered, own_address, attached_address, route, route_told, route_address};
 
-use benches::Joining;
-use cards::Made;
-use events::{Event, EventAnswer};
-use forms::FormMade;
+use events::Event;
 use shelves::Shelf;
-use surveys::WordPlace;
-use tracing::{
-    DiscoverRead, ExpanderNumber, GeneralRead, GeneralReadSas2, Judgement, ListAnswer, PhyId,
-    Route, RouteIndex, RouteRead, RouteWrite, StepAnswer, TablesGiven, TraceAnswer, Wiring,
-};
+use tracing::{Discovered, ExpanderNumber, PhyId, Route, RouteIndex};
 
 // The version of this interface.
 #[unsafe(no_mangle)]
@@ -50,11 +43,7 @@ pub extern "C" fn metzurgo_wire(setting: u32, file: &[u8], words: &mut [u64]) ->
         × (words.new ≡ new_after (wiring_call (setting_of setting) file.now (length words.old)) words.old) }
 {
     let course = packing::setting(setting);
-    let answer = tracing::wire(course, file, words);
-    match answer {
-        Wiring::Refused(r) => packing::refusal(r),
-        Wiring::Bits(n) => n,
-    }
+    packing::answer(tracing::wire(course, file, words))
 }
 
 // The judging call: the number of expanders.
@@ -63,11 +52,7 @@ pub extern "C" fn metzurgo_judge(setting: u32, file: &[u8]) -> u64
     ensures { result ≡ packed number (then (judged (setting_of setting) file.now) expanders_in) }
 {
     let course = packing::setting(setting);
-    let answer = tracing::judge(course, file);
-    match answer {
-        Judgement::Refused(r) => packing::refusal(r),
-        Judgement::Expanders(n) => n as u64,
-    }
+    packing::answer(tracing::judge(course, file))
 }
 
 // The table call: the number of tables, times 2 to the power 32, and the number of words.
@@ -82,11 +67,7 @@ pub extern "C" fn metzurgo_tables(
         × (entries words.new bits.new ≡ tables_after (table_call (setting_of setting) file.now (room_of (entries words.old bits.old))) (entries words.old bits.old)) }
 {
     let course = packing::setting(setting);
-    let answer = tracing::give_tables(course, file, words, bits);
-    match answer {
-        TablesGiven::Refused(r) => packing::refusal(r),
-        TablesGiven::Counts(t, w) => packing::table_counts(t, w),
-    }
+    packing::answer(tracing::give_tables(course, file, words, bits))
 }
 
 // How many tables and words a file needs: the number of tables, times 2 to the power 32, and the number of words.
@@ -95,11 +76,7 @@ pub extern "C" fn metzurgo_needed(setting: u32, file: &[u8]) -> u64
     ensures { result ≡ packed counts (then (judged (setting_of setting) file.now) counts_in) }
 {
     let course = packing::setting(setting);
-    let answer = surveys::needed(course, file);
-    match answer {
-        TablesGiven::Refused(r) => packing::refusal(r),
-        TablesGiven::Counts(t, w) => packing::table_counts(t, w),
-    }
+    packing::answer(surveys::needed(course, file))
 }
 
 // The entry that table word k is: expander, phy and route index; 15 where there is no word k.
@@ -108,11 +85,7 @@ pub extern "C" fn metzurgo_word_place(setting: u32, file: &[u8], k: u64) -> u64
     ensures { result ≡ packed entry_packed (then (judged (setting_of setting) file.now) (word_place k)) }
 {
     let course = packing::setting(setting);
-    let answer = surveys::word_place(course, file, k);
-    match answer {
-        WordPlace::Refused(r) => packing::refusal(r),
-        WordPlace::At(e) => packing::entry(e),
-    }
+    packing::answer(surveys::word_place(course, file, k))
 }
 
 // The trace call: outcome, last expander, phy and count.
@@ -131,7 +104,7 @@ pub extern "C" fn metzurgo_trace(
         × (passed.new ≡ bytes_after (trace_call (setting_of setting) file.now (entries words.now bits.now) (length passed.old) (request start arrival address)) passed.old) }
 {
     let course = packing::setting(setting);
-    let answer = tracing::trace(
+    packing::answer(tracing::trace(
         course,
         file,
         words,
@@ -140,11 +113,7 @@ pub extern "C" fn metzurgo_trace(
         PhyId(arrival),
         address,
         passed,
-    );
-    match answer {
-        TraceAnswer::Refused(r) => packing::refusal(r),
-        TraceAnswer::Ended(e) => packing::end(e),
-    }
+    ))
 }
 
 // The form of a file's domain: the number of expanders, times 2 to the power 32, and the number of words.
@@ -154,11 +123,7 @@ pub extern "C" fn metzurgo_compact(setting: u32, file: &[u8], form: &mut [u64]) 
         × (form.new ≡ form_after (form_call (setting_of setting) file.now (length form.old)) form.old) }
 {
     let course = packing::setting(setting);
-    let answer = forms::make_form(course, file, form);
-    match answer {
-        FormMade::Refused(r) => packing::refusal(r),
-        FormMade::Counts(n, w) => packing::form_counts(n, w),
-    }
+    packing::answer(forms::make_form(course, file, form))
 }
 
 // The tables of a form: the number of tables, times 2 to the power 32, and the number of words.
@@ -173,11 +138,7 @@ pub extern "C" fn metzurgo_compact_tables(
         × (entries words.new bits.new ≡ tables_after (form_tables (setting_of setting) form.now (room_of (entries words.old bits.old))) (entries words.old bits.old)) }
 {
     let course = packing::setting(setting);
-    let answer = forms::form_tables(course, form, words, bits);
-    match answer {
-        TablesGiven::Refused(r) => packing::refusal(r),
-        TablesGiven::Counts(t, w) => packing::table_counts(t, w),
-    }
+    packing::answer(forms::form_tables(course, form, words, bits))
 }
 
 // A trace over a form: outcome, last expander, phy and count.
@@ -196,7 +157,7 @@ pub extern "C" fn metzurgo_compact_trace(
         × (passed.new ≡ bytes_after (form_trace (setting_of setting) form.now (entries words.now bits.now) (length passed.old) (request start arrival address)) passed.old) }
 {
     let course = packing::setting(setting);
-    let answer = forms::form_trace(
+    packing::answer(forms::form_trace(
         course,
         form,
         words,
@@ -205,11 +166,7 @@ pub extern "C" fn metzurgo_compact_trace(
         PhyId(arrival),
         address,
         passed,
-    );
-    match answer {
-        TraceAnswer::Refused(r) => packing::refusal(r),
-        TraceAnswer::Ended(e) => packing::end(e),
-    }
+    ))
 }
 
 // A list of requests over a form: the number of requests. Each answer is that of the trace over the form by itself.
@@ -226,11 +183,7 @@ pub extern "C" fn metzurgo_compact_trace_many(
         × (answers.new ≡ list_after (form_list (setting_of setting) form.now (room_of (entries words.now bits.now)) (length answers.old) (request_count requests.now)) (entries words.now bits.now) requests.now answers.old) }
 {
     let course = packing::setting(setting);
-    let answer = forms::form_list(course, form, words, bits, requests, answers);
-    match answer {
-        ListAnswer::Refused(r) => packing::refusal(r),
-        ListAnswer::Requests(n) => n as u64,
-    }
+    packing::answer(forms::form_list(course, form, words, bits, requests, answers))
 }
 
 // The step of one expander and its reason: BAD DESTINATION, rule, phy picked, route index that matched, next expander and
@@ -248,7 +201,7 @@ pub extern "C" fn metzurgo_step(
     ensures { result ≡ packed step_packed (step_call (setting_of setting) file.now (entries words.now bits.now) (request expander arrival address)) }
 {
     let course = packing::setting(setting);
-    let answer = tracing::explain_step(
+    packing::answer(tracing::explain_step(
         course,
         file,
         words,
@@ -256,11 +209,7 @@ pub extern "C" fn metzurgo_step(
         ExpanderNumber(expander),
         PhyId(arrival),
         address,
-    );
-    match answer {
-        StepAnswer::Refused(r) => packing::refusal(r),
-        StepAnswer::Told(r, s) => packing::step(r, s),
-    }
+    ))
 }
 
 // Writes one CONFIGURE ROUTE INFORMATION request that states this REQUEST LENGTH, and answers how many
@@ -284,11 +233,7 @@ pub extern "C" fn metzurgo_write_route(
         address: address,
         disabled: disabled != 0,
     };
-    let answer = tracing::put_route(buf, request);
-    match answer {
-        RouteWrite::Refused(r) => packing::refusal(r),
-        RouteWrite::Written => 40,
-    }
+    packing::answer(tracing::put_route(buf, request))
 }
 
 // Reads one CONFIGURE ROUTE INFORMATION request: whether its entry is disabled, REQUEST LENGTH, phy and route index.
@@ -296,11 +241,7 @@ pub extern "C" fn metzurgo_write_route(
 pub extern "C" fn metzurgo_read_route(frame: &[u8]) -> u64
     ensures { result ≡ packed route (route_read frame.now) }
 {
-    let answer = tracing::read_route(frame);
-    match answer {
-        RouteRead::Refused(r) => packing::refusal(r),
-        RouteRead::Read(q) => packing::request(q),
-    }
+    packing::answer(tracing::read_route(frame))
 }
 
 // The address of one CONFIGURE ROUTE INFORMATION request, disabled or not, and 0 where it is refused.
@@ -310,8 +251,8 @@ pub extern "C" fn metzurgo_read_route_address(frame: &[u8]) -> u64
 {
     let answer = tracing::read_route(frame);
     match answer {
-        RouteRead::Refused(_) => 0,
-        RouteRead::Read(q) => q.address,
+        Err(_) => 0,
+        Ok(q) => q.address,
     }
 }
 
@@ -320,11 +261,7 @@ pub extern "C" fn metzurgo_read_route_address(frame: &[u8]) -> u64
 pub extern "C" fn metzurgo_read_general(frame: &[u8]) -> u64
     ensures { result ≡ packed general (general_read frame.now) }
 {
-    let answer = tracing::read_general(frame);
-    match answer {
-        GeneralRead::Refused(r) => packing::refusal(r),
-        GeneralRead::Read(g) => packing::report(g),
-    }
+    packing::answer(tracing::read_general(frame))
 }
 
 // Reads one REPORT GENERAL response as SAS-2 has it: the same, and of a long frame TABLE TO TABLE
@@ -333,12 +270,7 @@ pub extern "C" fn metzurgo_read_general(frame: &[u8]) -> u64
 pub extern "C" fn metzurgo_read_general_sas2(frame: &[u8]) -> u64
     ensures { result ≡ packed general_sas2 (general_read_sas2 frame.now) }
 {
-    let answer = tracing::read_general_sas2(frame);
-    match answer {
-        GeneralReadSas2::Refused(r) => packing::refusal(r),
-        GeneralReadSas2::Short(g) => packing::report(g),
-        GeneralReadSas2::Long(g, l) => packing::long_report(l) + packing::report(g),
-    }
+    packing::answer(tracing::read_general_sas2(frame))
 }
 
 // Reads one DISCOVER response: identifier, type, attribute and attached phy, or the result of a
@@ -347,12 +279,7 @@ pub extern "C" fn metzurgo_read_general_sas2(frame: &[u8]) -> u64
 pub extern "C" fn metzurgo_read_discover(frame: &[u8]) -> u64
     ensures { result ≡ packed discovered (discover_read frame.now) }
 {
-    let answer = tracing::read_discover(frame);
-    match answer {
-        DiscoverRead::Refused(r) => packing::refusal(r),
-        DiscoverRead::Vacant(result) => 4611686018427387904 + (result as u64),
-        DiscoverRead::Read(d) => packing::discover(d),
-    }
+    packing::answer(tracing::read_discover(frame))
 }
 
 // The own address of one DISCOVER response, and 0 where it is refused or vacant.
@@ -362,9 +289,9 @@ pub extern "C" fn metzurgo_discover_own(frame: &[u8]) -> u64
 {
     let answer = tracing::read_discover(frame);
     match answer {
-        DiscoverRead::Refused(_) => 0,
-        DiscoverRead::Vacant(_) => 0,
-        DiscoverRead::Read(d) => d.own_address,
+        Err(_) => 0,
+        Ok(Discovered::Vacant(_)) => 0,
+        Ok(Discovered::Fields(d)) => d.own_address,
     }
 }
 
@@ -375,9 +302,9 @@ pub extern "C" fn metzurgo_discover_attached(frame: &[u8]) -> u64
 {
     let answer = tracing::read_discover(frame);
     match answer {
-        DiscoverRead::Refused(_) => 0,
-        DiscoverRead::Vacant(_) => 0,
-        DiscoverRead::Read(d) => d.attached_address,
+        Err(_) => 0,
+        Ok(Discovered::Vacant(_)) => 0,
+        Ok(Discovered::Fields(d)) => d.attached_address,
     }
 }
 
@@ -388,11 +315,7 @@ pub extern "C" fn metzurgo_card_of_file(setting: u32, file: &[u8], card: &mut [u
         × (card.new ≡ new_after (card_call (setting_of setting) file.now (length card.old)) card.old) }
 {
     let course = packing::setting(setting);
-    let answer = cards::card_of_file(course, file, card);
-    match answer {
-        Made::Refused(r) => packing::refusal(r),
-        Made::Bytes(n) => n as u64,
-    }
+    packing::answer(cards::card_of_file(course, file, card))
 }
 
 // Makes a file of short frames of a card, and answers how many bytes it has: 22, 19, then 3, 4 and 6 unit by unit, 16.
@@ -402,11 +325,7 @@ pub extern "C" fn metzurgo_file_of_card(setting: u32, card: &[u8], file: &mut [u
         × (file.new ≡ new_after (file_call (setting_of setting) card.now (length file.old)) file.old) }
 {
     let course = packing::setting(setting);
-    let answer = cards::file_of_card(course, card, file);
-    match answer {
-        Made::Refused(r) => packing::refusal(r),
-        Made::Bytes(n) => n as u64,
-    }
+    packing::answer(cards::file_of_card(course, card, file))
 }
 
 // The event call: a drive with the address plugged into the phy, or its drive pulled where the address is 0. The number of tables touched,
@@ -430,11 +349,7 @@ pub extern "C" fn metzurgo_event(
         phy: PhyId(phy),
         address: address,
     };
-    let answer = events::apply_event(course, file, words, bits, v);
-    match answer {
-        EventAnswer::Refused(r) => packing::refusal(r),
-        EventAnswer::Counts(t, w) => packing::table_counts(t, w),
-    }
+    packing::answer(events::apply_event(course, file, words, bits, v))
 }
 
 // Joins two files by one cable between two subtractive phys, each named by its own file's numbers, and answers how many bytes the
@@ -454,7 +369,7 @@ pub extern "C" fn metzurgo_join(
         × (out.new ≡ new_after (join_call (setting_of setting) first.now expander phy second.now other far (length out.old)) out.old) }
 {
     let course = packing::setting(setting);
-    let answer = benches::join(
+    packing::answer(benches::join(
         course,
         first,
         ExpanderNumber(expander),
@@ -463,11 +378,7 @@ pub extern "C" fn metzurgo_join(
         ExpanderNumber(other),
         PhyId(far),
         out,
-    );
-    match answer {
-        Joining::Refused(r) => packing::refusal(r),
-        Joining::Bytes(n) => n as u64,
-    }
+    ))
 }
 
 // Makes a file of two expanders whose one table is the words, and answers how many bytes it has: 24, 16.
@@ -476,11 +387,7 @@ pub extern "C" fn metzurgo_make(first: u64, second: u64, words: &[u64], out: &mu
     ensures { (result ≡ packed number (then (make_call first second words.now (length out.old)) length_of))
         × (out.new ≡ new_after (make_call first second words.now (length out.old)) out.old) }
 {
-    let answer = exercises::make(first, second, words, out);
-    match answer {
-        Made::Refused(r) => packing::refusal(r),
-        Made::Bytes(n) => n as u64,
-    }
+    packing::answer(exercises::make(first, second, words, out))
 }
 
 // How many bytes a shelf takes.
@@ -501,8 +408,7 @@ pub extern "C" fn metzurgo_shelf_fresh(
 ) -> u64
     ensures { ShelfDone (made shelf.old phys route_indexes kinds.now) result shelf.new }
 {
-    let answer = shelves::fresh(shelf, phys, route_indexes, kinds);
-    packing::shelf_answer(answer)
+    packing::answer(shelves::fresh(shelf, phys, route_indexes, kinds))
 }
 
 // Obeys one frame: the function result, or the reader's refusal.
@@ -510,8 +416,7 @@ pub extern "C" fn metzurgo_shelf_fresh(
 pub extern "C" fn metzurgo_shelf_obey(shelf: &mut Shelf, frame: &[u8]) -> u64
     ensures { ShelfDone (stepped shelf.old frame.now) result shelf.new }
 {
-    let answer = shelves::obey(shelf, frame);
-    packing::shelf_answer(answer)
+    packing::answer(shelves::obey(shelf, frame))
 }
 
 // The address of an entry, 0 where there is none.

@@ -1,14 +1,16 @@
 // Settings and answers packed into one number.
-ghost use Rattle.std.specs.Prelude.{◌≡◌, ◌≤◌, ◌<◌, ◌^◌};
+ghost use Rattle.std.specs.Prelude.{ℕ, ◌+◌, ◌*◌, ◌≡◌, ◌≤◌, ◌<◌, ◌^◌};
 ghost use Rattle.shelves.specs.Shelf.{entry_at, disabled_at};
-ghost use Rattle.exports.specs.Shelves.{pack_answer};
-ghost use Rattle.exports.specs.Packing.{setting_of, pack_refusal, pack_end, pack_bad, pack_next, pack_reason, step_to_pack, step_packed, counts, form_packed, entry_packed, pack_fields, pack_long, general, route};
+ghost use Rattle.exports.specs.Events.{moved_packed};
+ghost use Rattle.exports.specs.Packing.{setting_of, packed, number, pack_end, pack_bad, pack_next, pack_reason, step_to_pack, step_packed, counts, form_packed, entry_packed, pack_fields, pack_long, general, general_sas2, discovered, route};
 
-use shelves::{Answer, Shelf};
+use forms::FormCounts;
+use shelves::Shelf;
 use surveys::Entry;
+use tables::Moved;
 use tracing::{
-    Discover, End, General, LongGeneral, Outcome, PhyId, Reason, Refusal, Route, RouteIndex,
-    Setting, Step,
+    Counted, Discover, Discovered, End, General, GeneralSas2, LongGeneral, Outcome, PhyId, Reason,
+    Refusal, Route, RouteIndex, Setting, Step, Told,
 };
 
 // A setting: most expanders, most phys and longest chain, a byte each. A bit above these 24 makes one
@@ -30,39 +32,108 @@ pub(crate) fn setting(n: u32) -> Setting
     }
 }
 
-// A refusal: 2 to the power 63, and below it number, expander and phy, a byte each.
-pub(crate) fn refusal(r: Refusal) -> u64
-    ensures { result ≡ pack_refusal r }
+// What a call yields, as a number below 2 to the power 63.
+pub(crate) trait Packed {
+    ghost as_number: { Self → ℕ };
+
+    fn pack(self) -> u64
+        ensures { result ≡ as_number self };
+}
+
+// What a call answers: a refusal, or what it yields.
+pub(crate) fn answer<T: Packed>(outcome: Result<T, Refusal>) -> u64
+    ensures { result ≡ packed T.as_number outcome }
 {
-    tracing::pack_refusal(r)
+    match outcome {
+        Err(r) => tracing::pack_refusal(r),
+        Ok(yielded) => yielded.pack(),
+    }
+}
+
+// A number as it is.
+impl Packed for u8 {
+    ghost as_number = { number };
+
+    fn pack(self) -> u64 {
+        self as u64
+    }
+}
+
+impl Packed for u64 {
+    ghost as_number = { number };
+
+    fn pack(self) -> u64 {
+        self
+    }
+}
+
+impl Packed for usize {
+    ghost as_number = { number };
+
+    fn pack(self) -> u64 {
+        self as u64
+    }
+}
+
+// Of a request that was written, its bytes.
+impl Packed for () {
+    ghost as_number = { λ _. 40 };
+
+    fn pack(self) -> u64 {
+        40
+    }
 }
 
 // How a request ends: outcome, last expander, phy and count, a byte each.
-pub(crate) fn end(e: End) -> u64
-    ensures { result ≡ pack_end e.outcome e.last.0 e.phy.0 e.count }
+impl Packed for End {
+    ghost as_number = { λ e. pack_end e.outcome e.last.0 e.phy.0 e.count };
+
+    fn pack(self) -> u64 {
+        tracing::pack_end(self)
+    }
+}
+
+// Two counts in one number: the first, times 2 to the power 32, and the second.
+fn two_counts(high: u32, low: u32) -> u64
+    ensures { result ≡ high * 2 ^ 32 + low }
 {
-    tracing::pack_end(e)
+    (high as u64) * 4294967296 + (low as u64)
 }
 
 // How many expanders and words a form has: the number of expanders, times 2 to the power 32, and the number of words.
-pub(crate) fn form_counts(expanders: u8, words: u32) -> u64
-    ensures { result ≡ form_packed (record { expander_count = expanders; word_count = words }) }
-{
-    (expanders as u64) * 4294967296 + (words as u64)
+impl Packed for FormCounts {
+    ghost as_number = { form_packed };
+
+    fn pack(self) -> u64 {
+        two_counts(self.expander_count as u32, self.word_count)
+    }
 }
 
 // How many tables and words there are: the number of tables, times 2 to the power 32, and the number of words.
-pub(crate) fn table_counts(tables: u32, words: u32) -> u64
-    ensures { result ≡ counts (record { table_count = tables; word_count = words }) }
-{
-    (tables as u64) * 4294967296 + (words as u64)
+impl Packed for Counted {
+    ghost as_number = { counts };
+
+    fn pack(self) -> u64 {
+        two_counts(self.table_count, self.word_count)
+    }
+}
+
+// How many tables an event touches, times 2 to the power 32, and how many words it changes.
+impl Packed for Moved {
+    ghost as_number = { moved_packed };
+
+    fn pack(self) -> u64 {
+        two_counts(self.table_count, self.word_count)
+    }
 }
 
 // An entry of a table: expander, phy and route index.
-pub(crate) fn entry(e: Entry) -> u64
-    ensures { result ≡ entry_packed e }
-{
-    (e.expander.0 as u64) * 16777216 + (e.phy.0 as u64) * 65536 + (e.index.0 as u64)
+impl Packed for Entry {
+    ghost as_number = { entry_packed };
+
+    fn pack(self) -> u64 {
+        (self.expander.0 as u64) * 16777216 + (self.phy.0 as u64) * 65536 + (self.index.0 as u64)
+    }
 }
 
 // 1 for BAD DESTINATION.
@@ -97,28 +168,49 @@ fn reason(r: Reason) -> u64
 }
 
 // A step and its reason.
-pub(crate) fn step(r: Reason, s: Step) -> u64
-    ensures { result ≡ step_packed (record { reason = r; step = step_to_pack s }) }
-{
-    is_bad(s) * 281474976710656 + reason(r) + next(s)
+impl Packed for Told {
+    ghost as_number = { λ t. step_packed (record { reason = t.reason; step = step_to_pack t.step }) };
+
+    fn pack(self) -> u64 {
+        is_bad(self.step) * 281474976710656 + reason(self.reason) + next(self.step)
+    }
 }
 
 // The fields of a REPORT GENERAL response.
-pub(crate) fn report(g: General) -> u64
+fn report(g: General) -> u64
     ensures { (result ≡ general g) × (result < 2 ^ 32) }
 {
     (g.route_indexes as u64) * 65536 + (g.phys as u64) * 256 + (g.configurable as u64)
 }
 
+impl Packed for General {
+    ghost as_number = { general };
+
+    fn pack(self) -> u64 {
+        report(self)
+    }
+}
+
 // The fields of a long REPORT GENERAL response, above those.
-pub(crate) fn long_report(l: LongGeneral) -> u64
+fn long_report(l: LongGeneral) -> u64
     ensures { (result ≡ pack_long l) × (result < 2 ^ 63) }
 {
     17179869184 + (l.table_to_table as u64) * 8589934592 + (l.configures_others as u64) * 4294967296
 }
 
+impl Packed for GeneralSas2 {
+    ghost as_number = { general_sas2 };
+
+    fn pack(self) -> u64 {
+        match self {
+            GeneralSas2::Short(g) => report(g),
+            GeneralSas2::Long(g, l) => long_report(l) + report(g),
+        }
+    }
+}
+
 // The fields of a DISCOVER response, without its addresses.
-pub(crate) fn discover(d: Discover) -> u64
+fn discover(d: Discover) -> u64
     ensures { result ≡ pack_fields d }
 {
     (d.identifier.0 as u64) * 4294967296
@@ -127,24 +219,30 @@ pub(crate) fn discover(d: Discover) -> u64
         + (d.attached_phy.0 as u64)
 }
 
-// A CONFIGURE ROUTE INFORMATION request, without its address.
-pub(crate) fn request(q: Route) -> u64
-    ensures { result ≡ route q }
-{
-    let fields = (q.length as u64) * 16777216 + (q.phy.0 as u64) * 65536 + (q.index.0 as u64);
-    if q.disabled {
-        return 4294967296 + fields;
+// The same, or bit 62 and the result of a vacant phy.
+impl Packed for Discovered {
+    ghost as_number = { discovered };
+
+    fn pack(self) -> u64 {
+        match self {
+            Discovered::Vacant(result) => 4611686018427387904 + (result as u64),
+            Discovered::Fields(d) => discover(d),
+        }
     }
-    fields
 }
 
-// What a shelf answers: a refusal, or the function result.
-pub(crate) fn shelf_answer(answer: Answer) -> u64
-    ensures { result ≡ pack_answer answer }
-{
-    match answer {
-        Answer::Refused(r) => refusal(r),
-        Answer::Result(n) => n as u64,
+// A CONFIGURE ROUTE INFORMATION request, without its address.
+impl Packed for Route {
+    ghost as_number = { route };
+
+    fn pack(self) -> u64 {
+        let fields = (self.length as u64) * 16777216
+            + (self.phy.0 as u64) * 65536
+            + (self.index.0 as u64);
+        if self.disabled {
+            return 4294967296 + fields;
+        }
+        fields
     }
 }
 

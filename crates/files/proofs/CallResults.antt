@@ -5,10 +5,12 @@ use mathlib.Core.Logic.{◌↔◌}
 use mathlib.Core.Bool.{Bool, true, false, ◌&&◌}
 use native.Mathlib.Omega.{arith}
 use lib.Dec.{T}
-use Rattle.frames.specs.Refusals.{Result, refused, good, unless, then}
+use Rattle.std.specs.Result.{MatchResult, IsErrAnd}
+use Rattle.frames.specs.Refusals.{Result, refused, good, unless, then, refusal}
 use Rattle.frames.specs.declared.Refusal.{Refusal}
 pub use Rattle.frames.proofs.FrameRefusals.{never}
 use Rattle.frames.proofs.FrameRefusals.{ResultHolds}
+use Rattle.files.specs.File.{placed}
 
 module _ {A : Type 0} (N : ℕ → Type 0) where
   pub held : (P : A → Type 0) (x : Result A) (a : A) → ResultHolds N P x → x ≡ good a → P a
@@ -52,3 +54,11 @@ then_same x k b same = (
 pub both : (a b : Bool) → (a && b) ≡ true → (a ≡ true) × (b ≡ true)
 both true b q = (refl, q)
 both false b q = let z : ◌≡◌ {A = ℕ} 0 1 = cc in absurd (omega arith)
+
+-- what `map_err` gives, where the closure places the refusal at phy p of expander i: `post` is what the closure ensures
+module _ {A : Type 0} (i p : ℕ) where
+  pub placed_by : (x y : Result A) (post : Refusal → Refusal → Type 0) → MatchResult x (λ a. y ≡ good a) (λ r. IsErrAnd y (post r))
+      → ((r s : Refusal) → post r s → s ≡ refusal r.number i p) → (z : Result A) → x ≡ z → placed i p z ≡ y
+  placed_by (good a) y post h f z e = rw (← e) (sym h)
+  placed_by (refused r) (refused s) post h f z e = rw (← e) (ap refused (sym (f r s h)))
+  placed_by (refused r) (good a) post h f z e = absurd h

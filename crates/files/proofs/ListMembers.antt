@@ -11,6 +11,7 @@ use lib.Seq.{get_or-take}
 use lib.Dec.{T, eqb, eqb→eq, eqb_refl}
 pub use mir.Facts.{yes_and as and_both, or_yes as or_cases}
 pub use borrow.Author.Tests.{ne_eqb as neqb}
+use Rattle.std.specs.List.{list_any}
 use Rattle.files.specs.Lists.{numbers, any, keep, In, is_in, Distinct, Below, last}
 
 -- tests
@@ -61,6 +62,17 @@ not_not false f = f tt
 
 pub eq→eqb : (m n : ℕ) → m ≡ n → T (eqb m n)
 eq→eqb m n e = subst (λ v. T (eqb m v)) e (eqb_refl m)
+
+eqb_swap : (m n : ℕ) → eqb m n ≡ eqb n m
+eqb_swap m n = by-test (eqb m n)
+    (λ q. q ∙ sym (is_true (eqb n m) (eq→eqb n m (sym (eqb→eq m n (was_true _ q))))))
+    (λ q. q ∙ sym (is_false (eqb n m) (λ t. was_false (eqb m n) q (eq→eqb m n (sym (eqb→eq n m t))))))
+
+-- what `contains` answers
+pub contained : (a : ℕ) (l : List ℕ) → list_any (λ y. eqb y a) l ≡ is_in a l
+unfolding is_in any
+contained a [] = refl
+contained a (x ∷ l) = ap₂ ◌||◌ (eqb_swap x a) (contained a l)
 
 -- members of a list
 module _ {A : Type 0} where

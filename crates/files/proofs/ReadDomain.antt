@@ -16,7 +16,9 @@ use Rattle.frames.specs.Bytes.{byte, number_at}
 use Rattle.frames.specs.Refusals.{Result, refused, good, unless, then, refusal}
 use Rattle.frames.specs.Sizes.{long_length, frame_size, by_itself}
 use Rattle.frames.specs.ReportGeneral.{general_fixed, general_in, general_read}
-use Rattle.frames.specs.Discovery.{Discovered, vacant, fields, discover_fixed, discover_in, discover_read}
+use Rattle.frames.specs.Discovery.{discover_fixed, discover_in, discover_read}
+use Rattle.frames.specs.declared.Discovered.{Discovered}
+use Rattle.frames.specs.declared.Discovered.TheVariants.{Vacant as vacant, Fields as fields}
 use Rattle.frames.specs.declared.Refusal.{Refusal}
 use Rattle.frames.specs.declared.General.{General}
 use Rattle.frames.specs.declared.Discover.{Discover}
@@ -32,7 +34,8 @@ use Rattle.files.specs.Lists.{any, In, is_in, Distinct}
 use Rattle.files.specs.Settings.{within, in_range}
 use Rattle.files.specs.Domain.{Expander, Domain}
 use Rattle.files.specs.ReadDomain.{ReadPhy, ReadExpander, addresses, Read, Bytes, FitsPhy, FitsExpander, FitsDomain, read_number}
-use Rattle.files.specs.File.{Parsed, parsed, placed, size_at, frame_at, fields_of, ranged, phy_of, phy_unit, phy_units, unit_of, unit_tested, expander_unit, expander_of, expanders, header_unit, domain_read}
+use Rattle.files.specs.File.{parsed, placed, size_at, frame_at, fields_of, ranged, phy_of, phy_unit, phy_units, unit_of, unit_tested, expander_unit, expander_of, expanders, header_unit, domain_read}
+use Rattle.files.specs.declared.Parsed.{Parsed}
 use Rattle.files.specs.SecondReading.{phys_got, domain_got}
 use Rattle.files.proofs.SettingRanges.{range_iff}
 use Rattle.files.proofs.CallResults.{held, weaker, both}

@@ -12,7 +12,8 @@ use Rattle.files.specs.declared.Setting.{Setting}
 use Rattle.files.specs.declared.ExpanderUnit.{ExpanderUnit}
 use Rattle.files.specs.declared.Phy.{Phy}
 use Rattle.files.specs.Domain.{Expander, Domain, address_of}
-use Rattle.files.specs.File.{Parsed, parsed, phy_unit, expander_unit, expander_of}
+use Rattle.files.specs.File.{parsed, phy_unit, expander_unit, expander_of}
+use Rattle.files.specs.declared.Parsed.{Parsed}
 use Rattle.files.specs.Rows.{phy_word, phy_words, head_word, row_of, rows_of, row_words}
 use Rattle.files.specs.SecondReading.{phy_got, next_got, and_phys, phys_got, phys_after, then_got, domain_got}
 

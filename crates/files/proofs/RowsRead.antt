@@ -10,19 +10,17 @@ use Rattle.frames.specs.Refusals.{Result, refused, good, then, refusal}
 use Rattle.frames.specs.declared.Refusal.{Refusal}
 use Rattle.frames.proofs.ValuesPut.{sets-front}
 use Rattle.files.specs.declared.Setting.{Setting}
-use Rattle.files.specs.declared.DomainRead.{DomainRead}
-use Rattle.files.specs.declared.DomainRead.TheVariants.{Refused, Expanders}
 use Rattle.files.specs.Domain.{Domain}
 use Rattle.files.specs.ReadDomain.{Bytes}
 use Rattle.files.specs.File.{domain_read}
-use Rattle.files.specs.Rows.{rows_of, read_answer, rows_for, rows_read, count_of, rows_after, rows_hold, RowsRead, row_words}
+use Rattle.files.specs.Rows.{rows_of, rows_for, rows_read, count_of, rows_after, rows_hold, RowsRead, row_words}
 use Rattle.files.specs.SecondReading.{domain_got}
 use Rattle.files.proofs.CallResults.{never}
 use Rattle.files.proofs.ReadDomain.{read-good, read_fits, read_again}
 use Rattle.files.proofs.RowsRoundTrip.{length-rows_of, domain-back}
 
-promise : (setting : Setting) (file : List ℕ) (answer : DomainRead) (ws ws' : List ℕ) (y : Result Domain) → rows_read setting file (length ws) ≡ y
-    → read_answer answer ≡ then y count_of → ws' ≡ rows_after y ws → rows_hold y ws' → RowsRead setting file answer ws ws'
+promise : (setting : Setting) (file : List ℕ) (answer : Result ℕ) (ws ws' : List ℕ) (y : Result Domain) → rows_read setting file (length ws) ≡ y
+    → answer ≡ then y count_of → ws' ≡ rows_after y ws → rows_hold y ws' → RowsRead setting file answer ws ws'
 promise setting file answer ws ws' y e a w h = record { answers = rw e a; words = rw e w; holds = rw e h }
 
 rows-by : (setting : Setting) (file : List ℕ) (room : ℕ) (x : Result Domain) → domain_read setting file ≡ x → rows_read setting file room ≡ then x (rows_for room)
@@ -44,10 +42,10 @@ not_counted (refused q) r e = cc
 not_counted (good d) r e = never r (length d) (sym e)
 
 module _ (setting : Setting) (file ws : List ℕ) where
-  pub rows-refused : (r : Refusal) → then (domain_read setting file) count_of ≡ refused r → RowsRead setting file (Refused r) ws ws
-  rows-refused r q = promise setting file (Refused r) ws ws (refused r) (rows-by setting file (length ws) _ (not_counted (domain_read setting file) r q)) refl refl tt
+  pub rows-refused : (r : Refusal) → then (domain_read setting file) count_of ≡ refused r → RowsRead setting file (refused r) ws ws
+  rows-refused r q = promise setting file (refused r) ws ws (refused r) (rows-by setting file (length ws) _ (not_counted (domain_read setting file) r q)) refl refl tt
 
-  pub rows_short : (answer : DomainRead) (n : ℕ) → read_answer answer ≡ refused (refusal 16 0 0) → then (domain_read setting file) count_of ≡ good n
+  pub rows_short : (answer : Result ℕ) (n : ℕ) → answer ≡ refused (refusal 16 0 0) → then (domain_read setting file) count_of ≡ good n
       → length ws < row_words * n → RowsRead setting file answer ws ws
   rows_short answer n a q h =
       let c = counted (domain_read setting file) n q in
@@ -56,7 +54,7 @@ module _ (setting : Setting) (file ws : List ℕ) where
       promise setting file answer ws ws (refused (refusal 16 0 0)) (rows-by setting file (length ws) _ c.is ∙ e) a refl tt
 
   pub rows_full : (ws' : List ℕ) (n : ℕ) → Bytes file → then (domain_read setting file) count_of ≡ good n → row_words * n ≤ length ws
-      → ws' ≡ sets ws 0 (rows_of (domain_got setting file n 0 2)) → RowsRead setting file (Expanders n) ws ws'
+      → ws' ≡ sets ws 0 (rows_of (domain_got setting file n 0 2)) → RowsRead setting file (good n) ws ws'
   rows_full ws' n b q h w =
       let c = counted (domain_read setting file) n q in
       let d = c.domain in
@@ -67,7 +65,7 @@ module _ (setting : Setting) (file ws : List ℕ) where
       let v : ws' ≡ rows_of d ++ drop (row_words * length d) ws =
       w ∙ ap (λ (x : Domain). sets ws 0 (rows_of x)) r ∙ sets-front (rows_of d) ws (omega (arith, c.count)) ∙ ap (λ (k : ℕ). rows_of d ++ drop k ws) l in
       let t : take (row_words * length d) ws' ≡ rows_of d = ap (take (row_words * length d)) v ∙ take_at (rows_of d) _ (row_words * length d) l in
-      promise setting file (Expanders n) ws ws' (good d) (rows-by setting file (length ws) _ c.is ∙ e) (ap good c.count) v (rw t (domain-back setting d g (read_fits setting file d b c.is)))
+      promise setting file (good n) ws ws' (good d) (rows-by setting file (length ws) _ c.is ∙ e) (ap good c.count) v (rw t (domain-back setting d g (read_fits setting file d b c.is)))
 
   -- rows have place for all phys that the setting allows
   pub place_for : (n : ℕ) → then (domain_read setting file) count_of ≡ good n → setting.phys ≤ 128

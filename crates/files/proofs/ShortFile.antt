@@ -23,7 +23,8 @@ use Rattle.files.specs.declared.ExpanderUnit.{ExpanderUnit}
 use Rattle.files.specs.declared.Phy.{Phy}
 use Rattle.files.specs.Domain.{Domain}
 use Rattle.files.specs.Settings.{in_range}
-use Rattle.files.specs.File.{Parsed, parsed, placed, size_at, phy_of, phy_unit, phy_units, unit_of, unit_tested, expander_unit, expander_of, expanders, header_unit, domain_read}
+use Rattle.files.specs.File.{parsed, placed, size_at, phy_of, phy_unit, phy_units, unit_of, unit_tested, expander_unit, expander_of, expanders, header_unit, domain_read}
+use Rattle.files.specs.declared.Parsed.{Parsed}
 use Rattle.files.specs.UnitAnswers.{ends_at}
 use Rattle.files.specs.ShortFile.{or_stay, short_phys, short_expanders, short_file}
 use Rattle.files.proofs.ListMembers.{by-test}

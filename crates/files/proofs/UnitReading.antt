@@ -13,7 +13,8 @@ use borrow.Author.Tests.{eq-eqb, ne_eqb, le-leb, lt-leb, leb-true, leb-false}
 use Rattle.frames.specs.Refusals.{Result, refused, good, unless, then, refusal}
 use Rattle.frames.specs.Bytes.{byte, number_at}
 use Rattle.frames.specs.Sizes.{short_size, frame_size}
-use Rattle.frames.specs.Discovery.{Discovered, discover_read}
+use Rattle.frames.specs.Discovery.{discover_read}
+use Rattle.frames.specs.declared.Discovered.{Discovered}
 use Rattle.frames.specs.ReportGeneral.{general_read, general_fields, general_fixed}
 use Rattle.frames.specs.declared.General.{General}
 use Rattle.frames.specs.declared.Refusal.{Refusal}
@@ -26,7 +27,8 @@ use Rattle.files.specs.declared.ExpanderUnit.{ExpanderUnit}
 use Rattle.files.specs.declared.Phy.{Phy}
 use Rattle.files.specs.Lists.{any, is_in}
 use Rattle.files.specs.Domain.{Expander, Domain}
-use Rattle.files.specs.File.{Parsed, parsed, placed, size_at, frame_at, phy_of, phy_unit, phy_units, unit_of, unit_tested, expander_unit, expander_of, expanders, header_unit, domain_read}
+use Rattle.files.specs.File.{parsed, placed, size_at, frame_at, phy_of, phy_unit, phy_units, unit_of, unit_tested, expander_unit, expander_of, expanders, header_unit, domain_read}
+use Rattle.files.specs.declared.Parsed.{Parsed}
 use Rattle.files.specs.Rows.{count_of}
 use Rattle.files.specs.UnitAnswers.{phys_next, ends_at, expander_checked}
 use Rattle.files.proofs.ListMembers.{by-test}
@@ -232,10 +234,6 @@ module _ {A B : Type 0} (kind : Response) (read : List ℕ → Result A) (test :
   unit-by n (good v) e q = rw (e, q)
 
 module _ (file : List ℕ) (own_address i p at : ℕ) where
-  pub phy-unit-cut : (r : Refusal) → size_at DiscoverResponse file at ≡ refused r → phy_unit file own_address i p at ≡ refused (refusal r.number i p)
-  unfolding phy_unit
-  phy-unit-cut = unit-cut DiscoverResponse discover_read (phy_of own_address i p) i p file at
-
   pub phy-unit-by : (n : ℕ) (x : Result Discovered) → size_at DiscoverResponse file at ≡ good n → discover_read (take n (drop at file)) ≡ x
       → phy_unit file own_address i p at ≡ then (placed i p x) (λ f. then (phy_of own_address i p f) (ends_at (at + n)))
   unfolding phy_unit

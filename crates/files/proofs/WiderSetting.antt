@@ -15,7 +15,8 @@ use Rattle.files.specs.declared.Setting.{Setting}
 use Rattle.files.specs.declared.ExpanderUnit.{ExpanderUnit}
 use Rattle.files.specs.Domain.{Domain}
 use Rattle.files.specs.Settings.{within, in_range, InRange, NoSmaller}
-use Rattle.files.specs.File.{Parsed, placed, frame_at, phy_units, unit_of, unit_tested, expander_unit, expanders, header_unit, domain_read}
+use Rattle.files.specs.File.{placed, frame_at, phy_units, unit_of, unit_tested, expander_unit, expanders, header_unit, domain_read}
+use Rattle.files.specs.declared.Parsed.{Parsed}
 use Rattle.files.proofs.CallResults.{unless-good, good-unless, then-good, good-then}
 use Rattle.files.proofs.SettingRanges.{range_iff}
 use Rattle.files.proofs.ListMembers.{and_left, and_right, and_both}

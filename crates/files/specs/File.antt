@@ -4,12 +4,15 @@ use Rattle.frames.specs.Bytes.{byte, number_at}
 use Rattle.frames.specs.Refusals.{Result, refused, good, unless, then, refusal}
 use Rattle.frames.specs.Sizes.{frame_size}
 use Rattle.frames.specs.ReportGeneral.{general_read}
-use Rattle.frames.specs.Discovery.{Discovered, vacant, fields, discover_read}
+use Rattle.frames.specs.Discovery.{discover_read}
+use Rattle.frames.specs.declared.Discovered.{Discovered}
+use Rattle.frames.specs.declared.Discovered.TheVariants.{Vacant as vacant, Fields as fields}
 use Rattle.frames.specs.declared.General.{General}
 use Rattle.frames.specs.declared.Discover.{Discover}
 use Rattle.frames.specs.declared.Response.{Response}
 use Rattle.frames.specs.declared.Response.TheVariants.{ReportGeneral, Discover as DiscoverResponse}
 use Rattle.files.specs.declared.Setting.{Setting}
+use Rattle.files.specs.declared.Parsed.{Parsed}
 use Rattle.files.specs.declared.ExpanderUnit.{ExpanderUnit}
 use Rattle.files.specs.declared.PhyFields.{PhyFields}
 use Rattle.files.specs.declared.Phy.{Phy}
@@ -17,11 +20,6 @@ use Rattle.files.specs.declared.Phy.TheVariants.{Vacant, Present}
 use Rattle.files.specs.Lists.{is_in}
 use Rattle.files.specs.Settings.{within, in_range}
 use Rattle.files.specs.Domain.{Expander, Domain}
-
--- what was read, and the place after it
-pub record Parsed (A : Type 0) : Type 0 where
-  pub value : A
-  pub next : ℕ
 
 module _ {A : Type 0} where
   abbrev pub parsed : A → ℕ → Parsed A

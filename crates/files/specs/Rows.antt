@@ -5,8 +5,6 @@ use Rattle.frames.specs.Refusals.{Result, refused, good, unless, then, refusal}
 use Rattle.files.specs.declared.Setting.{Setting}
 use Rattle.files.specs.declared.Phy.{Phy}
 use Rattle.files.specs.declared.Phy.TheVariants.{Vacant, Present}
-use Rattle.files.specs.declared.DomainRead.{DomainRead}
-use Rattle.files.specs.declared.DomainRead.TheVariants.{Refused, Expanders}
 use Rattle.files.specs.Domain.{Expander, Domain, address_of, expander_at}
 use Rattle.files.specs.File.{domain_read}
 use Rattle.files.specs.Settings.{most_phys, most_expanders}
@@ -77,11 +75,6 @@ pub record HeadIn (d : Domain) (i w : ℕ) : Type 0 where
   pub phys : min most_phys (w / 65536 % 256) ≡ length (expander_at d i).phys
   pub configurable : w / 16777216 % 2 ≡ (expander_at d i).configurable
 
--- what the answer of the reader says in document 01's terms: the number of expanders
-abbrev pub read_answer : DomainRead → Result ℕ
-read_answer (Refused r) = refused r
-read_answer (Expanders n) = good n
-
 -- 16 where the words are too few for the rows
 abbrev pub rows_for : ℕ → Domain → Result Domain
 rows_for room d = unless (leb (row_words * length d) room) (refusal 16 0 0) (good d)
@@ -104,7 +97,7 @@ rows_hold (refused r) after = Unit {0}
 rows_hold (good d) after = domain_in (take (row_words * length d) after) ≡ d
 
 -- all that reading a file into words promises: the answer, the words after, and that they give the domain back
-pub record RowsRead (setting : Setting) (file : List ℕ) (answer : DomainRead) (before after : List ℕ) : Type 0 where
-  pub answers : read_answer answer ≡ then (rows_read setting file (length before)) count_of
+pub record RowsRead (setting : Setting) (file : List ℕ) (answer : Result ℕ) (before after : List ℕ) : Type 0 where
+  pub answers : answer ≡ then (rows_read setting file (length before)) count_of
   pub words : after ≡ rows_after (rows_read setting file (length before)) before
   pub holds : rows_hold (rows_read setting file (length before)) after

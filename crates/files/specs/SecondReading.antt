@@ -7,7 +7,8 @@ use Rattle.files.specs.declared.ExpanderUnit.{ExpanderUnit}
 use Rattle.files.specs.declared.Phy.{Phy}
 use Rattle.files.specs.declared.Phy.TheVariants.{Vacant}
 use Rattle.files.specs.Domain.{Domain}
-use Rattle.files.specs.File.{Parsed, parsed, phy_unit, expander_unit, expander_of}
+use Rattle.files.specs.File.{parsed, phy_unit, expander_unit, expander_of}
+use Rattle.files.specs.declared.Parsed.{Parsed}
 use Rattle.files.specs.Rows.{phy_words, row_of}
 
 -- where a phy's unit is refused: a vacant phy, and the place stays

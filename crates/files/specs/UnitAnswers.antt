@@ -4,25 +4,8 @@ use Rattle.frames.specs.Refusals.{Result, refused, good, then}
 use Rattle.files.specs.declared.Setting.{Setting}
 use Rattle.files.specs.declared.ExpanderUnit.{ExpanderUnit}
 use Rattle.files.specs.declared.Phy.{Phy}
-use Rattle.files.specs.declared.PhyRead.{PhyRead}
-use Rattle.files.specs.declared.PhyRead.TheVariants.{Refused as NoPhy, Read as PhyIs}
-use Rattle.files.specs.declared.ExpanderRead.{ExpanderRead}
-use Rattle.files.specs.declared.ExpanderRead.TheVariants.{Refused as NoExpander, Read as ExpanderIs}
-use Rattle.files.specs.declared.PhysCheck.{PhysCheck}
-use Rattle.files.specs.declared.PhysCheck.TheVariants.{Refused as NoPhys, Passed}
-use Rattle.files.specs.File.{Parsed, parsed, phy_units, expander_unit}
-
-abbrev pub phy_answer : PhyRead → Result (Parsed Phy)
-phy_answer (NoPhy r) = refused r
-phy_answer (PhyIs φ next) = good (parsed φ next)
-
-abbrev pub expander_answer : ExpanderRead → Result (Parsed ExpanderUnit)
-expander_answer (NoExpander r) = refused r
-expander_answer (ExpanderIs u next) = good (parsed u next)
-
-abbrev pub phys_answer : PhysCheck → Result ℕ
-phys_answer (NoPhys r) = refused r
-phys_answer (Passed next) = good next
+use Rattle.files.specs.File.{parsed, phy_units, expander_unit}
+use Rattle.files.specs.declared.Parsed.{Parsed}
 
 -- the place after the phys
 abbrev pub phys_next : Result (Parsed (List Phy)) → Result ℕ

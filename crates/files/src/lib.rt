@@ -2,13 +2,12 @@
 #![tactic(auto)]
 
 mod file;
-mod refusals;
 mod rows;
 mod settings;
 mod units;
 mod view;
 
-use frames::{PhyId, Refusal};
+use frames::PhyId;
 pub use rows::{clear, head_word, phy_word, read_domain, set_phy, stated_count};
 pub use settings::{is_in_range, widest};
 pub use units::{is_ranged, is_within, test_unit};
@@ -74,30 +73,9 @@ pub struct ExpanderUnit {
     pub configurable: u8,
 }
 
-// What reading a domain file answers: the number of expanders.
+// What was read of a file, and the place after it.
 #[derive(Clone, Copy)]
-pub enum DomainRead {
-    Refused(Refusal),
-    Expanders(u8),
-}
-
-// What reading a phy's unit answers: the phy, and the place after the unit.
-#[derive(Clone, Copy)]
-pub enum PhyRead {
-    Refused(Refusal),
-    Read(Phy, usize),
-}
-
-// What reading an expander's unit answers: the unit, and the place after it.
-#[derive(Clone, Copy)]
-pub enum ExpanderRead {
-    Refused(Refusal),
-    Read(ExpanderUnit, usize),
-}
-
-// What testing the phys of an expander answers: the place after them.
-#[derive(Clone, Copy)]
-pub enum PhysCheck {
-    Refused(Refusal),
-    Passed(usize),
+pub struct Parsed<T> {
+    pub value: T,
+    pub next: usize,
 }

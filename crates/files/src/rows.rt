@@ -2,33 +2,30 @@
 ghost use Rattle.std.specs.Prelude.{◌≡◌, ◌*◌, ◌≤◌, length, replicate};
 ghost use Rattle.frames.specs.Bytes.{byte};
 ghost use Rattle.std.proofs.lemmas.List.Edits.{sets};
-ghost use Rattle.files.specs.UnitAnswers.{phy_answer};
 ghost use Rattle.files.specs.Rows.{phy_word, head_word, rows_of, RowsRead, row_words};
 ghost use Rattle.files.specs.PhyReplaced.{PhySet};
 ghost use Rattle.files.specs.SecondReading.{phy_got, next_got, phys_got, domain_got, PhysPut, RowPut};
 
-use crate::{
-    DomainRead, ExpanderRead, ExpanderUnit, Phy, PhyRead, Setting, file, refusals, units, view,
-};
-use frames::{ExpanderNumber, PhyId};
+use crate::{ExpanderUnit, Parsed, Phy, Setting, file, units, view};
+use frames::{ExpanderNumber, PhyId, Refusal};
 
 // The phy of a unit: vacant where the unit is refused.
-fn phy_got(unit: PhyRead) -> Phy
-    ensures { result ≡ phy_got (phy_answer unit) }
+fn phy_got(unit: Result<Parsed<Phy>, Refusal>) -> Phy
+    ensures { result ≡ phy_got unit }
 {
     match unit {
-        PhyRead::Refused(_) => Phy::Vacant(0),
-        PhyRead::Read(phy, _) => phy,
+        Err(_) => Phy::Vacant(0),
+        Ok(read) => read.value,
     }
 }
 
 // The place after a unit that starts at `at`: the same where the unit is refused.
-fn next_got(unit: PhyRead, at: usize) -> usize
-    ensures { result ≡ next_got at (phy_answer unit) }
+fn next_got(unit: Result<Parsed<Phy>, Refusal>, at: usize) -> usize
+    ensures { result ≡ next_got at unit }
 {
     match unit {
-        PhyRead::Refused(_) => at,
-        PhyRead::Read(_, next) => next,
+        Err(_) => at,
+        Ok(read) => read.next,
     }
 }
 
@@ -56,11 +53,7 @@ pub fn head_word(u: ExpanderUnit) -> u64
 pub fn clear(row: &mut [u64])
     ensures { row.new ≡ replicate (length row.old) 0 }
 {
-    let mut k: usize = 0;
-    while k < row.len() {
-        row[k] = 0;
-        k += 1;
-    }
+    row.fill(0);
 }
 
 // Writes the words of expander i's n phys, and yields the place after them.
@@ -75,16 +68,14 @@ fn put_phys(
     requires { (n ≤ 128) × (length row.old ≡ row_words) }
     ensures { PhysPut (phys_got file.now own_address i.0 n 0 at) result row.old row.new }
 {
-    let mut p: u8 = 0;
     let mut next = at;
-    while p < n {
+    for p in 0..n {
         let unit = units::phy_unit(file, own_address, i, PhyId(p), next);
         let phy = phy_got(unit);
         let k = 2 + 2 * (p as usize);
         row[k] = view::phy_address(phy);
         row[k + 1] = phy_word(phy);
         next = next_got(unit, next);
-        p += 1;
     }
     next
 }
@@ -109,40 +100,35 @@ fn fill_rows(rows: &mut [u64], most: Setting, file: &[u8], n: u8)
 {
     // no addresses, so that none was used
     let none = [0u64; 1];
-    let mut i: u8 = 0;
     let mut at: usize = 2;
-    while i < n {
+    for i in 0..n {
         let unit = units::expander_unit(most, file, &none[..0], ExpanderNumber(i), at);
-        match unit {
-            ExpanderRead::Refused(_) => {
-                return;
-            }
-            ExpanderRead::Read(u, next) => {
-                let a = crate::ROW_WORDS * (i as usize);
-                let e = a + crate::ROW_WORDS;
-                at = put_row(&mut rows[a..e], file, u, ExpanderNumber(i), next);
-                i += 1;
-            }
-        }
+        let Ok(read) = unit else {
+            return;
+        };
+        let a = crate::ROW_WORDS * (i as usize);
+        let e = a + crate::ROW_WORDS;
+        at = put_row(
+            &mut rows[a..e],
+            file,
+            read.value,
+            ExpanderNumber(i),
+            read.next,
+        );
     }
 }
 
 // Reads a domain file into rows: causes 22 and 1 to 6, then 16. The words after the rows stay, and all of them
 // where it is refused.
-pub fn read_domain(setting: Setting, file: &[u8], rows: &mut [u64]) -> DomainRead
+pub fn read_domain(setting: Setting, file: &[u8], rows: &mut [u64]) -> Result<u8, Refusal>
     ensures { RowsRead setting file.now result rows.old rows.new }
 {
-    let answer = file::check_file(setting, file);
-    match answer {
-        DomainRead::Refused(r) => DomainRead::Refused(r),
-        DomainRead::Expanders(n) => {
-            if rows.len() < crate::ROW_WORDS * (n as usize) {
-                return refusals::domain_refused(16, ExpanderNumber(0));
-            }
-            fill_rows(rows, setting, file, n);
-            DomainRead::Expanders(n)
-        }
+    let count = file::check_file(setting, file)?;
+    if rows.len() < crate::ROW_WORDS * (count as usize) {
+        return Err(frames::refused(16));
     }
+    fill_rows(rows, setting, file, count);
+    Ok(count)
 }
 
 // Replaces phy p of expander i; where there is no such phy, nothing changes.

@@ -2,15 +2,17 @@
 // response, each frame short or long.
 ghost use Rattle.std.specs.Prelude.{◌≡◌, not, ◌&&◌, ◌+◌, length, eqb, leb};
 ghost use Rattle.frames.specs.Refusals.{then};
-ghost use Rattle.frames.specs.Sizes.{size_answer};
-ghost use Rattle.frames.specs.Discovery.{fields};
+ghost use Rattle.frames.specs.ReportGeneral.{general_read};
+ghost use Rattle.frames.specs.declared.Response.TheVariants.{ReportGeneral, Discover as DiscoverResponse};
+ghost use Rattle.frames.specs.Discovery.{discover_read};
+ghost use Rattle.frames.specs.declared.Discovered.TheVariants.{Fields as fields};
 ghost use Rattle.files.specs.Lists.{is_in};
 ghost use Rattle.files.specs.Settings.{within};
-ghost use Rattle.files.specs.File.{size_at, fields_of, ranged, phy_of, phy_unit, unit_tested, expander_unit};
-ghost use Rattle.files.specs.UnitAnswers.{phy_answer, expander_answer, ends_at};
+ghost use Rattle.files.specs.File.{size_at, frame_at, fields_of, ranged, phy_of, phy_unit, unit_tested, expander_unit};
+ghost use Rattle.files.specs.UnitAnswers.{ends_at};
 
-use crate::{ExpanderRead, ExpanderUnit, Phy, PhyFields, PhyRead, Setting, refusals};
-use frames::{Discover, DiscoverRead, ExpanderNumber, GeneralRead, PhyId, Response, SizeRead};
+use crate::{ExpanderUnit, Parsed, Phy, PhyFields, Setting};
+use frames::{Discover, Discovered, ExpanderNumber, General, PhyId, Refusal, Response};
 
 // Whether a file has n bytes from offset `at` on.
 fn has_bytes(file: &[u8], at: usize, n: usize) -> bool
@@ -23,29 +25,24 @@ fn has_bytes(file: &[u8], at: usize, n: usize) -> bool
 }
 
 // The size of the frame at offset `from`, all of whose bytes are there: causes 1 and 2.
-fn size_at(kind: Response, file: &[u8], from: usize) -> SizeRead
-    ensures { size_answer result ≡ size_at kind file.now from }
+fn size_at(kind: Response, file: &[u8], from: usize) -> Result<usize, Refusal>
+    ensures { result ≡ size_at kind file.now from }
 {
     if file.len() < from {
-        return refusals::size_refused(1);
+        return Err(frames::refused(1));
     }
-    let size = frames::frame_size(kind, &file[from..]);
-    match size {
-        SizeRead::Refused(r) => SizeRead::Refused(r),
-        SizeRead::Size(n) => {
-            if !has_bytes(file, from, n) {
-                return refusals::size_refused(1);
-            }
-            SizeRead::Size(n)
-        }
+    let size = frames::frame_size(kind, &file[from..])?;
+    if !has_bytes(file, from, size) {
+        return Err(frames::refused(1));
     }
+    Ok(size)
 }
 
 // Whether cause 5 does not hold: the phy identifier is p, and the own address is this expander's.
 fn is_placed(f: Discover, own_address: u64, p: PhyId) -> bool
     ensures { result ≡ (eqb f.identifier.0 p.0 && eqb f.own_address own_address) }
 {
-    (f.identifier.0 == p.0) & (f.own_address == own_address)
+    (f.identifier == p) & (f.own_address == own_address)
 }
 
 // Whether cause 6 does not hold of a phy's fields: type up to 3, attribute up to 2, and not attached with
@@ -78,17 +75,50 @@ fn fields_of(f: Discover) -> PhyFields
 }
 
 // Causes 5 and 6 of a phy that is not vacant; `next` is the place after its unit.
-fn phy_of(f: Discover, own_address: u64, i: ExpanderNumber, p: PhyId, next: usize) -> PhyRead
-    ensures { phy_answer result ≡ then (phy_of own_address i.0 p.0 (fields f)) (ends_at next) }
+fn phy_of(
+    f: Discover,
+    own_address: u64,
+    i: ExpanderNumber,
+    p: PhyId,
+    next: usize,
+) -> Result<Parsed<Phy>, Refusal>
+    ensures { result ≡ then (phy_of own_address i.0 p.0 (fields f)) (ends_at next) }
 {
     if !is_placed(f, own_address, p) {
-        return refusals::phy_refused(5, i, p);
+        return Err(frames::refusal_at(5, i, p));
     }
     let phy = fields_of(f);
     if !is_ranged(phy) {
-        return refusals::phy_refused(6, i, p);
+        return Err(frames::refusal_at(6, i, p));
     }
-    PhyRead::Read(Phy::Present(phy), next)
+    Ok(Parsed {
+        value: Phy::Present(phy),
+        next: next,
+    })
+}
+
+// The DISCOVER response at offset `at`, and the place after it: causes 1 and 2.
+fn discover_at(file: &[u8], at: usize) -> Result<Parsed<Discovered>, Refusal>
+    ensures { result ≡ frame_at DiscoverResponse discover_read file.now at }
+{
+    let next = at + size_at(Response::Discover, file, at)?;
+    let found = frames::read_discover(&file[at..next])?;
+    Ok(Parsed {
+        value: found,
+        next: next,
+    })
+}
+
+// The REPORT GENERAL response at offset `at`, and the place after it: causes 1 and 2.
+fn general_at(file: &[u8], at: usize) -> Result<Parsed<General>, Refusal>
+    ensures { result ≡ frame_at ReportGeneral general_read file.now at }
+{
+    let next = at + size_at(Response::ReportGeneral, file, at)?;
+    let fields = frames::read_general(&file[at..next])?;
+    Ok(Parsed {
+        value: fields,
+        next: next,
+    })
 }
 
 // The unit of phy p of expander i, whose address is `own_address`, at offset `at`: causes 1, 2, 5 and 6.
@@ -98,21 +128,16 @@ pub(crate) fn phy_unit(
     i: ExpanderNumber,
     p: PhyId,
     at: usize,
-) -> PhyRead
-    ensures { phy_answer result ≡ phy_unit file.now own_address i.0 p.0 at }
+) -> Result<Parsed<Phy>, Refusal>
+    ensures { result ≡ phy_unit file.now own_address i.0 p.0 at }
 {
-    let size = size_at(Response::Discover, file, at);
-    match size {
-        SizeRead::Refused(r) => refusals::phy_refused(r.number, i, p),
-        SizeRead::Size(n) => {
-            let next = at + n;
-            let frame = frames::read_discover(&file[at..next]);
-            match frame {
-                DiscoverRead::Refused(r) => refusals::phy_refused(r.number, i, p),
-                DiscoverRead::Vacant(result) => PhyRead::Read(Phy::Vacant(result), next),
-                DiscoverRead::Read(f) => phy_of(f, own_address, i, p, next),
-            }
-        }
+    let frame = discover_at(file, at).map_err(|r| frames::refusal_at(r.number, i, p))?;
+    match frame.value {
+        Discovered::Vacant(result) => Ok(Parsed {
+            value: Phy::Vacant(result),
+            next: frame.next,
+        }),
+        Discovered::Fields(f) => phy_of(f, own_address, i, p, frame.next),
     }
 }
 
@@ -120,14 +145,7 @@ pub(crate) fn phy_unit(
 pub(crate) fn is_in(used: &[u64], a: u64) -> bool
     ensures { result ≡ is_in a used.now }
 {
-    let mut i: usize = 0;
-    while i < used.len() {
-        if a == used[i] {
-            return true;
-        }
-        i += 1;
-    }
-    false
+    used.contains(&a)
 }
 
 // Whether the address is not zero and not among those used.
@@ -151,16 +169,19 @@ pub fn test_unit(
     u: ExpanderUnit,
     i: ExpanderNumber,
     next: usize,
-) -> ExpanderRead
-    ensures { expander_answer result ≡ then (unit_tested most used.now i.0 u) (ends_at next) }
+) -> Result<Parsed<ExpanderUnit>, Refusal>
+    ensures { result ≡ then (unit_tested most used.now i.0 u) (ends_at next) }
 {
     if !is_within(u.phys, most.phys) {
-        return refusals::expander_refused(3, i);
+        return Err(frames::refusal_at(3, i, PhyId(0)));
     }
     if !is_free(used, u.address) {
-        return refusals::expander_refused(4, i);
+        return Err(frames::refusal_at(4, i, PhyId(0)));
     }
-    ExpanderRead::Read(u, next)
+    Ok(Parsed {
+        value: u,
+        next: next,
+    })
 }
 
 // The unit of expander i at offset `at`, where `used` are the addresses of the expanders before it:
@@ -171,32 +192,19 @@ pub(crate) fn expander_unit(
     used: &[u64],
     i: ExpanderNumber,
     at: usize,
-) -> ExpanderRead
-    ensures { expander_answer result ≡ expander_unit most file.now used.now i.0 at }
+) -> Result<Parsed<ExpanderUnit>, Refusal>
+    ensures { result ≡ expander_unit most file.now used.now i.0 at }
 {
     if !has_bytes(file, at, 8) {
-        return refusals::expander_refused(1, i);
+        return Err(frames::refusal_at(1, i, PhyId(0)));
     }
-    let own_address = frames::address_at(file, at);
-    let from = at + 8;
-    let size = size_at(Response::ReportGeneral, file, from);
-    match size {
-        SizeRead::Refused(r) => refusals::expander_refused(r.number, i),
-        SizeRead::Size(n) => {
-            let next = from + n;
-            let frame = frames::read_general(&file[from..next]);
-            match frame {
-                GeneralRead::Refused(r) => refusals::expander_refused(r.number, i),
-                GeneralRead::Read(g) => {
-                    let u = ExpanderUnit {
-                        address: own_address,
-                        route_indexes: g.route_indexes,
-                        phys: g.phys,
-                        configurable: g.configurable,
-                    };
-                    test_unit(most, used, u, i, next)
-                }
-            }
-        }
-    }
+    let frame = general_at(file, at + 8).map_err(|r| frames::refusal_at(r.number, i, PhyId(0)))?;
+    let g = frame.value;
+    let u = ExpanderUnit {
+        address: frames::address_at(file, at),
+        route_indexes: g.route_indexes,
+        phys: g.phys,
+        configurable: g.configurable,
+    };
+    test_unit(most, used, u, i, frame.next)
 }

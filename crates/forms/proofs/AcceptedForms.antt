@@ -24,26 +24,24 @@ use Rattle.files.proofs.ReadDomain.{read-good, read_fits}
 use Rattle.files.proofs.CallResults.{never, good-one, both, unless-good, then-good}
 use Rattle.files.proofs.ListMembers.{by-test, is_true, in_map}
 use Rattle.wiring.proofs.phys.WiredPhys.{Wired}
-use Rattle.tables.specs.declared.TablesGiven.{TablesGiven}
 use Rattle.tables.specs.filling.Tables.{table_places, needed}
 use Rattle.tables.specs.filling.Entries.{Entries, room_of, put_before}
-use Rattle.tables.specs.JudgingCall.{judged_domain, judged, tables_for, table_call, counts_in, tables_answer, tables_after, TablesDone}
+use Rattle.tables.specs.JudgingCall.{judged_domain, judged, tables_for, table_call, counts_in, tables_after, TablesDone}
 use Rattle.tables.proofs.AcceptedDomains.{judged-routable, accepted_iff, judged-file}
 use Rattle.tables.proofs.TableRefusals.{Numbered}
-use Rattle.tracing.specs.declared.TraceAnswer.{TraceAnswer}
-use Rattle.tracing.specs.declared.ListAnswer.{ListAnswer}
-use Rattle.tracing.specs.declared.ListAnswer.TheVariants.{Requests}
 use Rattle.tracing.specs.Trace.{Request, request, Traced, traced_request, judged_request, trace_call, report, trace_answer, TraceDone}
 use Rattle.tracing.specs.Packing.{packed, end_packed}
-use Rattle.tracing.specs.RequestLists.{one_answer, answers_of, request_count, list_for, list_answer, list_after, ListTraced}
+use Rattle.tracing.specs.RequestLists.{one_answer, answers_of, request_count, list_for, list_after, ListTraced}
 use Rattle.tracing.specs.Demand3.{Demand3}
 use Rattle.tracing.proofs.RequestLists.{length-answers, each-answer}
 use Rattle.tracing.proofs.Demand3.{demand3}
-use Rattle.forms.specs.declared.FormMade.TheVariants.{Counts}
+use Rattle.tables.specs.declared.Counted.{Counted}
+use Rattle.tracing.specs.declared.End.{End}
+use Rattle.forms.specs.declared.FormCounts.{FormCounts}
 use Rattle.forms.specs.Form.{form_of, form_in}
 use Rattle.forms.specs.NormalDomain.{normal_phy, normal_expander, normal}
 use Rattle.forms.specs.FormCalls.{unread, is_good, same_words, formed, form_read, FormOf, Words, form_for, form_call, form_tables, form_trace, form_list}
-use Rattle.forms.specs.Calls.{FormCounts, form_counts, form_after, FormDone}
+use Rattle.forms.specs.Calls.{form_counts, form_after, FormDone}
 use Rattle.forms.proofs.BadPlaces.{Late}
 use Rattle.forms.proofs.FormDomains.{Numbers, form-back, form-fits, unread-read, read-unread}
 use Rattle.forms.proofs.RightWords.{same-words, words_same}
@@ -177,21 +175,21 @@ module _ (most : Setting) (ws : List ℕ) (range : InRange most) (h : Words ws) 
 
 -- when each call, by its promise, is not refused 1
 module _ (most : Setting) (ws : List ℕ) (range : InRange most) (h : Words ws) where
-  pub tables_not_one : (before after : Entries) (answer : TablesGiven) → TablesDone (form_tables most ws (room_of before)) answer before after → (tables_answer answer ≢ refused (refusal 1 0 0)) ↔ FormOf most ws
+  pub tables_not_one : (before after : Entries) (answer : Result Counted) → TablesDone (form_tables most ws (room_of before)) answer before after → (answer ≢ refused (refusal 1 0 0)) ↔ FormOf most ws
   unfolding form_tables
-  tables_not_one before after answer o = answer-one most ws range h (tables_for (room_of before)) (tables-late (room_of before)) (λ d. record { table_count = length (table_places d); word_count = needed d }) (tables_answer answer) o.answers
+  tables_not_one before after answer o = answer-one most ws range h (tables_for (room_of before)) (tables-late (room_of before)) (λ d. record { table_count = length (table_places d); word_count = needed d }) answer o.answers
 
-  pub trace_not_one : (t : Entries) (q : Request) (before after : List ℕ) (answer : TraceAnswer) → TraceDone (form_trace most ws t (length before) q) answer before after
+  pub trace_not_one : (t : Entries) (q : Request) (before after : List ℕ) (answer : Result End) → TraceDone (form_trace most ws t (length before) q) answer before after
       → (trace_answer answer ≢ refused (refusal 1 0 0)) ↔ FormOf most ws
   unfolding form_trace
   trace_not_one t q before after answer o =
       answer-one most ws range h (λ d. traced_request d t (length before) q) (request-late t (length before) q) (λ x. record { outcome = x.outcome; last = x.last; phy = x.phy; count = length x.passed }) (trace_answer answer) o.answers
 
-  pub list_not_one : (t : Entries) (requests before after : List ℕ) (answer : ListAnswer) → ListTraced (form_list most ws (room_of t) (length before) (request_count requests)) t requests answer before after
-      → (list_answer answer ≢ refused (refusal 1 0 0)) ↔ FormOf most ws
+  pub list_not_one : (t : Entries) (requests before after : List ℕ) (answer : Result ℕ) → ListTraced (form_list most ws (room_of t) (length before) (request_count requests)) t requests answer before after
+      → (answer ≢ refused (refusal 1 0 0)) ↔ FormOf most ws
   unfolding form_list
   list_not_one t requests before after answer o =
-      answer-one most ws range h (list_for (room_of t) (length before) (request_count requests)) (list-late (room_of t) (length before) (request_count requests)) (λ d. request_count requests) (list_answer answer) o.answers
+      answer-one most ws range h (list_for (room_of t) (length before) (request_count requests)) (list-late (room_of t) (length before) (request_count requests)) (λ d. request_count requests) answer o.answers
 
 -- the form of an accepted file
 module _ (setting : Setting) (file : List ℕ) (d : Domain) (b : Bytes file) (j : judged setting file ≡ good d) where
@@ -208,8 +206,8 @@ module _ (setting : Setting) (file : List ℕ) (d : Domain) (b : Bytes file) (j 
   read = form-read setting d file-accepted
 
   -- tables, their bits and the answer are those over the file
-  pub formed-tables : (before after after' : Entries) (answer answer' : TablesGiven) → TablesDone (form_tables setting (form_of d) (room_of before)) answer before after
-      → TablesDone (table_call setting file (room_of before)) answer' before after' → (tables_answer answer ≡ tables_answer answer') × (after ≡ after')
+  pub formed-tables : (before after after' : Entries) (answer answer' : Result Counted) → TablesDone (form_tables setting (form_of d) (room_of before)) answer before after
+      → TablesDone (table_call setting file (room_of before)) answer' before after' → (answer ≡ answer') × (after ≡ after')
   unfolding form_tables table_call
   formed-tables before after after' answer answer' o p =
       let room = room_of before in
@@ -240,7 +238,7 @@ module _ (setting : Setting) (file : List ℕ) (d : Domain) (b : Bytes file) (j 
       let k : Domain → Result Traced = λ x. traced_request x t bytes q in
       ap (λ (z : Result Domain). then z k) read ∙ request-alike n d same t bytes q ∙ sym (ap (λ (z : Result Domain). then z k) j)
 
-  pub formed-trace : (t : Entries) (q : Request) (before after after' : List ℕ) (answer answer' : TraceAnswer) → TraceDone (form_trace setting (form_of d) t (length before) q) answer before after
+  pub formed-trace : (t : Entries) (q : Request) (before after after' : List ℕ) (answer answer' : Result End) → TraceDone (form_trace setting (form_of d) t (length before) q) answer before after
       → TraceDone (trace_call setting file t (length before) q) answer' before after' → (trace_answer answer ≡ trace_answer answer') × (after ≡ after')
   formed-trace t q before after after' answer answer' o p =
       let e = traces-same t (length before) q in
@@ -248,7 +246,7 @@ module _ (setting : Setting) (file : List ℕ) (d : Domain) (b : Bytes file) (j 
       (w.answers ∙ sym p.answers, w.bytes ∙ sym p.bytes)
 
   -- and lists of requests are those on the file's domain
-  pub formed-list : (t : Entries) (requests before after : List ℕ) (answer : ListAnswer) → ListTraced (form_list setting (form_of d) (room_of t) (length before) (request_count requests)) t requests answer before after
+  pub formed-list : (t : Entries) (requests before after : List ℕ) (answer : Result ℕ) → ListTraced (form_list setting (form_of d) (room_of t) (length before) (request_count requests)) t requests answer before after
       → ListTraced (then (judged setting file) (list_for (room_of t) (length before) (request_count requests))) t requests answer before after
   unfolding form_list
   formed-list t requests before after answer o =
@@ -289,7 +287,7 @@ demand3-form setting ws d e =
 
 -- each answer of a list over a form is that of the trace over the form by itself, with 64 bytes
 pub each-answer-form : (setting : Setting) (ws : List ℕ) (t : Entries) (requests before after : List ℕ) (n : ℕ)
-    → ListTraced (form_list setting ws (room_of t) (length before) (request_count requests)) t requests (Requests n) before after
+    → ListTraced (form_list setting ws (room_of t) (length before) (request_count requests)) t requests (good n) before after
     → (k : ℕ) → k < n → get_or requests (2 * k) 0 < 65536
     → get_or after k 0 ≡ packed end_packed (then (form_trace setting ws t 64 (request (get_or requests (2 * k) 0 / 256) (get_or requests (2 * k) 0 % 256) (get_or requests (2 * k + 1) 0))) report)
 unfolding form_list form_trace
@@ -315,7 +313,7 @@ pub record Decoded (setting : Setting) (file after : List ℕ) (n w : ℕ) : Typ
   pub expanders : n ≡ length domain
   pub form : take w after ≡ form_of domain
 
-pub decoded : (setting : Setting) (file before after : List ℕ) (n w : ℕ) → FormDone (form_call setting file (length before)) (Counts n w) before after → Decoded setting file after n w
+pub decoded : (setting : Setting) (file before after : List ℕ) (n w : ℕ) → FormDone (form_call setting file (length before)) (good (record { expander_count = n; word_count = w })) before after → Decoded setting file after n w
 unfolding form_call
 decoded setting file before after n w done =
     let told : FormCounts = record { expander_count = n; word_count = w } in

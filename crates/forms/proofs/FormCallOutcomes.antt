@@ -5,7 +5,7 @@ use mathlib.Core.Logic.{◌≢◌, inl, inr}
 use mathlib.Core.Bool.{Bool, true, false, not, ◌&&◌}
 use mathlib.Core.List.{List, ◌++◌}
 use native.Mathlib.Omega.{arith}
-use lib.ListN.{length, get_or, drop}
+use lib.ListN.{length, get_or, drop, replicate, length-replicate}
 use lib.Dec.{T, eqb, leb, le→leb}
 use borrow.Author.Tests.{le-leb, lt-leb, eq-eqb, ne_eqb, not-false, not-true}
 use Rattle.frames.specs.Refusals.{Result, refused, good, unless, then, refusal}
@@ -21,34 +21,30 @@ use Rattle.files.specs.Settings.{in_range}
 use Rattle.files.specs.Domain.{Expander, Domain, no_expander, expander_at, phy_at, address_of, to_expander, number_of}
 use Rattle.files.specs.File.{ranged, domain_read}
 use Rattle.files.specs.ReadDomain.{Read}
+use Rattle.wiring.specs.phys.Checks.{RoomFor}
 use Rattle.wiring.specs.index.AddressIndex.{IndexRoom}
 use Rattle.files.proofs.SettingRanges.{range_iff}
 use Rattle.files.proofs.CallResults.{never, both}
 use Rattle.files.proofs.ListMembers.{was_true, get_d_in}
 use Rattle.files.specs.Rows.{row_words}
 use Rattle.wiring.proofs.phys.WiredPhys.{Wired, far-below}
-use Rattle.tables.specs.declared.TablesGiven.{TablesGiven}
-use Rattle.tables.specs.declared.TablesGiven.TheVariants.{Refused as NotGiven, Counts}
 use Rattle.tables.specs.filling.Tables.{needed}
 use Rattle.tables.specs.filling.Entries.{Entries, Room, room_of}
+use Rattle.tables.specs.declared.Counted.{Counted}
 use Rattle.tables.specs.JudgingCall.{judged_domain, tables_for, TablesDone}
 use Rattle.tables.specs.lists.PreparedLists.{judged_in, OwnDone}
 use Rattle.tables.proofs.AcceptedDomains.{judged-routable, accepted_iff}
 use Rattle.tables.proofs.lists.LevelListsByOwn.{judged-read, read_done}
 use Rattle.tables.proofs.TableRefusals.{Numbered, numbered-unless, numbered-then, domain-numbered}
-use Rattle.tracing.specs.declared.TraceAnswer.{TraceAnswer}
-use Rattle.tracing.specs.declared.TraceAnswer.TheVariants.{Refused, Ended}
-use Rattle.tracing.specs.declared.ListAnswer.{ListAnswer}
-use Rattle.tracing.specs.declared.ListAnswer.TheVariants.{Refused as ListRefused, Requests}
+use Rattle.tracing.specs.declared.End.{End}
 use Rattle.tracing.specs.Trace.{Request, Traced, allowed, requested, traced_request, TraceDone}
 use Rattle.tracing.specs.Answers.{request_in}
 use Rattle.tracing.specs.RequestLists.{request_count, list_for, list_in, ListTraced}
-use Rattle.forms.specs.declared.FormMade.{FormMade}
-use Rattle.forms.specs.declared.FormMade.TheVariants.{Refused as NotMade, Counts as Made}
 use Rattle.forms.specs.Form.{form_of, form_in}
 use Rattle.forms.specs.FormCalls.{bad_phy, unread, is_good, same_words, formed, form_read, form_for, form_call, form_tables, form_trace, form_list}
+use Rattle.forms.specs.declared.FormCounts.{FormCounts}
 use Rattle.forms.specs.Calls.{FormDone}
-use Rattle.forms.specs.FormRows.{right_expanders, opens, as_form, as_trace, as_tables, as_list, SmallPhy, FormRoom}
+use Rattle.forms.specs.FormRows.{right_expanders, opens, as_form, over_form, SmallPhy, FormRoom}
 use Rattle.wiring.specs.index.AddressIndex.{slots_before}
 use Rattle.forms.proofs.FormRows.{form-few}
 use Rattle.forms.proofs.BadPlaces.{Late, Early, late-stays, early_one}
@@ -156,12 +152,7 @@ pub read_outside : (most : Setting) (ws : List ℕ) → in_range most ≡ false 
 unfolding form_read
 read_outside most ws e = rw e refl
 
--- the outcome of a call over rows, as that of one over a form
-abbrev pub as_formed : {A : Type 0} → Result A → Result A
-as_formed (refused r) = refused (as_form r)
-as_formed (good a) = good a
-
-late-same : {A : Type 0} (x : Result A) → Numbered Late x → as_formed x ≡ x
+late-same : {A : Type 0} (x : Result A) → Numbered Late x → over_form x ≡ x
 late-same (refused r) h = ap refused (late-stays r h)
 late-same (good a) h = refl
 
@@ -170,10 +161,10 @@ judged_early chain d = domain-numbered Early (λ n a b. inl (omega arith)) (inl 
 
 -- a call past judging, over rows and over the form
 module _ (most : Setting) (ws : List ℕ) (range : in_range most ≡ true) (o : opens most ws ≡ true) {A : Type 0} (k : Domain → Result A) (late : (e : Domain) → Numbered Late (k e)) where
-  pub outcome-formed : as_formed (then (judged_domain most.chain (form_in ws)) k) ≡ then (form_read most ws) k
+  pub outcome-formed : over_form (then (judged_domain most.chain (form_in ws)) k) ≡ then (form_read most ws) k
   outcome-formed = go (judged_domain most.chain (form_in ws)) refl (judged_early most.chain (form_in ws))
     where
-      go : (x : Result Domain) → judged_domain most.chain (form_in ws) ≡ x → Numbered Early x → as_formed (then x k) ≡ then (form_read most ws) k
+      go : (x : Result Domain) → judged_domain most.chain (form_in ws) ≡ x → Numbered Early x → over_form (then x k) ≡ then (form_read most ws) k
       go (refused r) q n = ap refused (early_one r n) ∙ sym (ap (λ (y : Result Domain). then y k) (read_opened most ws range o ∙ ap as_read q))
       go (good e) q n = late-same (k e) (late e) ∙ sym (ap (λ (y : Result Domain). then y k) (read_opened most ws range o ∙ ap as_read q))
 
@@ -205,94 +196,100 @@ request-late t bytes q e =
     (numbered-unless Late (not (eqb q.address 0)) (refusal 17 0 0) (good e) (omega arith, omega arith) tt))))
     (λ _. tt)
 
-trace_mapped : (x : Result Traced) (answer : TraceAnswer) (before after : List ℕ) → TraceDone x answer before after → TraceDone (as_formed x) (as_trace answer) before after
-trace_mapped (refused r) (Refused s) before after o = record { answers = ap (λ (y : Refusal). refused (as_form y)) (refused-one s r o.answers); bytes = o.bytes }
-trace_mapped (refused r) (Ended e) before after o = never r _ (sym o.answers)
-trace_mapped (good t) (Refused s) before after o = never s _ o.answers
-trace_mapped (good t) (Ended e) before after o = record { answers = o.answers; bytes = o.bytes }
+trace_mapped : (x : Result Traced) (answer : Result End) (before after : List ℕ) → TraceDone x answer before after → TraceDone (over_form x) (over_form answer) before after
+trace_mapped (refused r) (refused s) before after o = record { answers = ap (λ (y : Refusal). refused (as_form y)) (refused-one s r o.answers); bytes = o.bytes }
+trace_mapped (refused r) (good e) before after o = never r _ (sym o.answers)
+trace_mapped (good t) (refused s) before after o = never s _ o.answers
+trace_mapped (good t) (good e) before after o = record { answers = o.answers; bytes = o.bytes }
 
-tables_mapped : (x : Result Domain) (answer : TablesGiven) (before after : Entries) → TablesDone x answer before after → TablesDone (as_formed x) (as_tables answer) before after
-tables_mapped (refused r) (NotGiven s) before after o = record { answers = ap (λ (y : Refusal). refused (as_form y)) (refused-one s r o.answers); left = o.left }
-tables_mapped (refused r) (Counts t w) before after o = never r _ (sym o.answers)
-tables_mapped (good d) (NotGiven s) before after o = never s _ o.answers
-tables_mapped (good d) (Counts t w) before after o = record { answers = o.answers; left = o.left }
+tables_mapped : (x : Result Domain) (answer : Result Counted) (before after : Entries) → TablesDone x answer before after → TablesDone (over_form x) (over_form answer) before after
+tables_mapped (refused r) (refused s) before after o = record { answers = ap (λ (y : Refusal). refused (as_form y)) (refused-one s r o.answers); left = o.left }
+tables_mapped (refused r) (good n) before after o = never r _ (sym o.answers)
+tables_mapped (good d) (refused s) before after o = never s _ o.answers
+tables_mapped (good d) (good n) before after o = record { answers = o.answers; left = o.left }
 
-list_mapped : (x : Result Domain) (t : Entries) (requests : List ℕ) (answer : ListAnswer) (before after : List ℕ) → ListTraced x t requests answer before after
-    → ListTraced (as_formed x) t requests (as_list answer) before after
-list_mapped (refused r) t requests (ListRefused s) before after o = record { answers = ap (λ (y : Refusal). refused (as_form y)) (refused-one s r o.answers); words = o.words }
-list_mapped (refused r) t requests (Requests n) before after o = never r _ (sym o.answers)
-list_mapped (good d) t requests (ListRefused s) before after o = never s _ o.answers
-list_mapped (good d) t requests (Requests n) before after o = record { answers = o.answers; words = o.words }
+list_mapped : (x : Result Domain) (t : Entries) (requests : List ℕ) (answer : Result ℕ) (before after : List ℕ) → ListTraced x t requests answer before after
+    → ListTraced (over_form x) t requests (over_form answer) before after
+list_mapped (refused r) t requests (refused s) before after o = record { answers = ap (λ (y : Refusal). refused (as_form y)) (refused-one s r o.answers); words = o.words }
+list_mapped (refused r) t requests (good n) before after o = never r _ (sym o.answers)
+list_mapped (good d) t requests (refused s) before after o = never s _ o.answers
+list_mapped (good d) t requests (good n) before after o = record { answers = o.answers; words = o.words }
 
 -- the calls, opened: what rows that hold the form's domain promise
 module _ (most : Setting) (ws : List ℕ) (e : Domain) (same : e ≡ form_in ws) (first low : List ℕ) (room : IndexRoom (form_in ws) first low) (range : in_range most ≡ true) (o : opens most ws ≡ true) where
   judged_as : judged_in most.chain (length first) (length low) e ≡ judged_domain most.chain (form_in ws)
   judged_as = ap (judged_in most.chain (length first) (length low)) same ∙ judged-read most (form_in ws) (opened-read most ws range o) most.chain first low room
 
-  pub trace-formed : (t : Entries) (before after : List ℕ) (q : Request) (answer out : TraceAnswer)
-      → TraceDone (request_in most.chain (length first) (length low) e t (length before) q) answer before after → out ≡ as_trace answer → TraceDone (form_trace most ws t (length before) q) out before after
+  pub trace-formed : (t : Entries) (before after : List ℕ) (q : Request) (answer out : Result End)
+      → TraceDone (request_in most.chain (length first) (length low) e t (length before) q) answer before after → out ≡ over_form answer → TraceDone (form_trace most ws t (length before) q) out before after
   unfolding request_in form_trace
   trace-formed t before after q answer out done z =
       let k : Domain → Result Traced = λ x. traced_request x t (length before) q in
       let w = subst (λ (x : Result Domain). TraceDone (then x k) answer before after) judged_as done in
-      subst (λ (x : TraceAnswer). TraceDone (then (form_read most ws) k) x before after) (sym z)
-      (subst (λ (x : Result Traced). TraceDone x (as_trace answer) before after) (outcome-formed most ws range o k (request-late t (length before) q)) (trace_mapped _ answer before after w))
+      subst (λ (x : Result End). TraceDone (then (form_read most ws) k) x before after) (sym z)
+      (subst (λ (x : Result Traced). TraceDone x (over_form answer) before after) (outcome-formed most ws range o k (request-late t (length before) q)) (trace_mapped _ answer before after w))
 
-  pub tables-formed : (before after : Entries) (answer out : TablesGiven)
-      → OwnDone (then (judged_in most.chain (length first) (length low) e) (tables_for (room_of before))) answer before after → out ≡ as_tables answer
+  pub tables-formed : (before after : Entries) (answer out : Result Counted)
+      → OwnDone (then (judged_in most.chain (length first) (length low) e) (tables_for (room_of before))) answer before after → out ≡ over_form answer
       → TablesDone (form_tables most ws (room_of before)) out before after
   unfolding form_tables
   tables-formed before after answer out done z =
       let w = read_done most (form_in ws) (opened-read most ws range o) most.chain before after _ answer judged_as done in
-      subst (λ (x : TablesGiven). TablesDone (then (form_read most ws) (tables_for (room_of before))) x before after) (sym z)
-      (subst (λ (x : Result Domain). TablesDone x (as_tables answer) before after) (outcome-formed most ws range o (tables_for (room_of before)) (tables-late (room_of before))) (tables_mapped _ answer before after w))
+      subst (λ (x : Result Counted). TablesDone (then (form_read most ws) (tables_for (room_of before))) x before after) (sym z)
+      (subst (λ (x : Result Domain). TablesDone x (over_form answer) before after) (outcome-formed most ws range o (tables_for (room_of before)) (tables-late (room_of before))) (tables_mapped _ answer before after w))
 
-  pub list-formed : (t : Entries) (requests before after : List ℕ) (answer out : ListAnswer)
-      → ListTraced (list_in most.chain (length first) (length low) e (room_of t) (length before) (request_count requests)) t requests answer before after → out ≡ as_list answer
+  pub list-formed : (t : Entries) (requests before after : List ℕ) (answer out : Result ℕ)
+      → ListTraced (list_in most.chain (length first) (length low) e (room_of t) (length before) (request_count requests)) t requests answer before after → out ≡ over_form answer
       → ListTraced (form_list most ws (room_of t) (length before) (request_count requests)) t requests out before after
   unfolding form_list list_in
   list-formed t requests before after answer out done z =
       let k : Domain → Result Domain = list_for (room_of t) (length before) (request_count requests) in
       let w = subst (λ (x : Result Domain). ListTraced (then x k) t requests answer before after) judged_as done in
-      subst (λ (x : ListAnswer). ListTraced (then (form_read most ws) k) t requests x before after) (sym z)
-      (subst (λ (x : Result Domain). ListTraced x t requests (as_list answer) before after) (outcome-formed most ws range o k (list-late (room_of t) (length before) (request_count requests))) (list_mapped _ t requests answer before after w))
+      subst (λ (x : Result ℕ). ListTraced (then (form_read most ws) k) t requests x before after) (sym z)
+      (subst (λ (x : Result Domain). ListTraced x t requests (over_form answer) before after) (outcome-formed most ws range o k (list-late (room_of t) (length before) (request_count requests))) (list_mapped _ t requests answer before after w))
 
 -- the calls, refused: 22 or 1
 module _ (most : Setting) (ws : List ℕ) (r s : Refusal) (no : form_read most ws ≡ refused r) (z : s ≡ r) where
-  pub trace-refused : (t : Entries) (bytes : ℕ) (q : Request) (before : List ℕ) → TraceDone (form_trace most ws t bytes q) (Refused s) before before
+  pub trace-refused : (t : Entries) (bytes : ℕ) (q : Request) (before : List ℕ) → TraceDone (form_trace most ws t bytes q) (refused s) before before
   unfolding form_trace
   trace-refused t bytes q before = rw (no, z) (record { answers = refl; bytes = refl })
 
-  pub tables-refused : (room : Room) (before : Entries) → TablesDone (form_tables most ws room) (NotGiven s) before before
+  pub tables-refused : (room : Room) (before : Entries) → TablesDone (form_tables most ws room) (refused s) before before
   unfolding form_tables
   tables-refused room before = rw (no, z) (record { answers = refl; left = refl })
 
-  pub list-refused : (t : Entries) (room : Room) (answers count : ℕ) (requests before : List ℕ) → ListTraced (form_list most ws room answers count) t requests (ListRefused s) before before
+  pub list-refused : (t : Entries) (room : Room) (answers count : ℕ) (requests before : List ℕ) → ListTraced (form_list most ws room answers count) t requests (refused s) before before
   unfolding form_list
   list-refused t room answers count requests before = rw (no, z) (record { answers = refl; words = refl })
 
 -- making a form
 module _ (setting : Setting) (file before after : List ℕ) where
-  pub made-refused : (r : Refusal) → domain_read setting file ≡ refused r → FormDone (form_call setting file (length before)) (NotMade r) before before
+  pub made-refused : (r : Refusal) → domain_read setting file ≡ refused r → FormDone (form_call setting file (length before)) (refused r) before before
   unfolding form_call
   made-refused r e = rw e (record { answers = refl; words = refl })
 
-  pub made-read : (x : Result Domain) (d : Domain) (answer : FormMade) → domain_read setting file ≡ good d → x ≡ judged_domain setting.chain d → FormDone (then x (form_for (length before))) answer before after
+  pub made-read : (x : Result Domain) (d : Domain) (answer : Result FormCounts) → domain_read setting file ≡ good d → x ≡ judged_domain setting.chain d → FormDone (then x (form_for (length before))) answer before after
       → FormDone (form_call setting file (length before)) answer before after
   unfolding form_call
   made-read x d answer e j o = rw e (rw j at o)
 
 module _ (x : Result Domain) (d : Domain) (before after : List ℕ) where
-  pub rows-refused : (r : Refusal) → x ≡ refused r → FormDone (then x (form_for (length before))) (NotMade r) before before
+  pub rows-refused : (r : Refusal) → x ≡ refused r → FormDone (then x (form_for (length before))) (refused r) before before
   rows-refused r e = rw e (record { answers = refl; words = refl })
 
-  pub rows_short : (s : Refusal) → x ≡ good d → length before < length (form_of d) → s ≡ refusal 16 0 0 → FormDone (then x (form_for (length before))) (NotMade s) before before
+  pub rows_short : (s : Refusal) → x ≡ good d → length before < length (form_of d) → s ≡ refusal 16 0 0 → FormDone (then x (form_for (length before))) (refused s) before before
   rows_short s e h z = rw (e, lt-leb (length (form_of d)) (length before) h, z) (record { answers = refl; words = refl })
 
   pub rows_made : (n w : ℕ) → x ≡ good d → length (form_of d) ≤ length before → n ≡ length d → w ≡ length (form_of d) → after ≡ form_of d ++ drop (length (form_of d)) before
-      → FormDone (then x (form_for (length before))) (Made n w) before after
+      → FormDone (then x (form_for (length before))) (good (record { expander_count = n; word_count = w })) before after
   rows_made n w e h qn qw a = rw (e, le-leb (length (form_of d)) (length before) h, qn, qw) (record { answers = refl; words = a })
 
 -- room for at most so many expanders
 pub form-room : (ws rows first low : List ℕ) (n m : ℕ) → n ≡ length (form_in ws) → n ≤ m → row_words * m ≤ length rows → slots_before m ≤ length first → 128 * m ≤ length low → FormRoom ws n rows first low
 form-room ws rows first low n m e h a b c = record { count = e; space = omega arith; index = record { slots = omega arith; phys = omega arith } }
+
+-- room of a size that is enough for n expanders, as it is taken: filled with zeros
+pub room-for : (ws : List ℕ) (n words slots phys : ℕ) → n ≡ length (form_in ws) → n ≤ 64 → RoomFor n words slots phys
+    → FormRoom ws n (replicate words 0) (replicate slots 0) (replicate phys 0)
+room-for ws n words slots phys e few room =
+    form-room ws _ _ _ n n e (omega arith) (omega (arith, length-replicate {A = ℕ} words 0, room.rows)) (omega (arith, length-replicate {A = ℕ} slots 0, room.slots)) (omega (arith, length-replicate {A = ℕ} phys 0, room.phys))

@@ -15,22 +15,21 @@ use Rattle.files.specs.Domain.{Domain}
 use Rattle.files.proofs.ListMembers.{and_left, and_right, and_both, is_true}
 use Rattle.files.proofs.SettingRanges.{range_iff}
 use Rattle.files.proofs.CallResults.{weaker, good-one, unless-good, good-unless, then-good, good-then}
-use Rattle.tables.specs.declared.TablesGiven.{TablesGiven}
 use Rattle.tables.specs.filling.Tables.{table_places, needed}
 use Rattle.tables.specs.filling.Entries.{Entries, Room, room_of, Enough, counted}
-use Rattle.tables.specs.JudgingCall.{judged, tables_for, Counted, counts_in, tables_answer, TablesDone}
+use Rattle.tables.specs.JudgingCall.{judged, tables_for, counts_in, TablesDone}
 use Rattle.tables.proofs.AcceptedDomains.{tables_iff}
 use Rattle.tables.proofs.TableRefusals.{Numbered, numbered-unless, numbered-then, exactly, judged-numbered, judged_causes, causes_judged}
-use Rattle.tracing.specs.declared.TraceAnswer.{TraceAnswer}
-use Rattle.tracing.specs.declared.ListAnswer.{ListAnswer}
 use Rattle.tracing.specs.Trace.{Request, Traced, traced, requested, traced_request, Reported, report, trace_answer, TraceDone}
-use Rattle.tracing.specs.RequestLists.{request_count, list_for, list_answer, ListTraced}
+use Rattle.tracing.specs.RequestLists.{request_count, list_for, ListTraced}
 use Rattle.tracing.proofs.RequestCauses.{requested_iff}
-use Rattle.forms.specs.declared.FormMade.{FormMade}
+use Rattle.tables.specs.declared.Counted.{Counted}
+use Rattle.tracing.specs.declared.End.{End}
+use Rattle.forms.specs.declared.FormCounts.{FormCounts}
 use Rattle.forms.specs.Form.{form_of, form_in}
 use Rattle.forms.specs.NormalDomain.{normal}
 use Rattle.forms.specs.FormCalls.{formed, form_read, Words, form_for, form_call, form_tables, form_trace, form_list}
-use Rattle.forms.specs.Calls.{FormCounts, form_counts, form_answer, FormDone}
+use Rattle.forms.specs.Calls.{form_counts, FormDone}
 use Rattle.forms.specs.FormCauses.{NoMakingCause, making_number, NoOpeningCause, opening_number, NoFormTableCause, form_table_number, NoFormTraceCause, form_trace_number, NoFormListCause}
 use Rattle.forms.proofs.BadPlaces.{Late}
 use Rattle.forms.proofs.FormCallOutcomes.{tables-numbered, list-numbered, request-late}
@@ -39,11 +38,11 @@ use Rattle.forms.proofs.NormalTraces.{request-alike}
 use Rattle.forms.proofs.AcceptedForms.{form-read, formed_iff}
 
 -- making a form answers exactly when none of its causes holds, and refuses with no other number
-pub making-exactly : (setting : Setting) (file before after : List ℕ) (answer : FormMade) → FormDone (form_call setting file (length before)) answer before after
-    → RefusesExactly (form_answer answer) (NoMakingCause setting file (length before)) making_number
+pub making-exactly : (setting : Setting) (file before after : List ℕ) (answer : Result FormCounts) → FormDone (form_call setting file (length before)) answer before after
+    → RefusesExactly answer (NoMakingCause setting file (length before)) making_number
 unfolding form_call
 making-exactly setting file before after answer o =
-    exactly making_number (form_answer answer) (then (form_call setting file room) form_counts) (NoMakingCause setting file room) o.answers numbered from to
+    exactly making_number answer (then (form_call setting file room) form_counts) (NoMakingCause setting file room) o.answers numbered from to
   where
     room : ℕ
     room = length before
@@ -95,11 +94,11 @@ module _ (setting : Setting) (ws : List ℕ) where
         (c, good-one x (normal c.form.domain) (sym e ∙ opened c))
 
     -- the table call over a form answers exactly when none of its causes holds, and refuses with no other number
-    pub form-tables-exactly : (before after : Entries) (answer : TablesGiven) → TablesDone (form_tables setting ws (room_of before)) answer before after
-        → RefusesExactly (tables_answer answer) (NoFormTableCause setting ws (room_of before)) form_table_number
+    pub form-tables-exactly : (before after : Entries) (answer : Result Counted) → TablesDone (form_tables setting ws (room_of before)) answer before after
+        → RefusesExactly answer (NoFormTableCause setting ws (room_of before)) form_table_number
     unfolding form_tables
     form-tables-exactly before after answer o =
-        exactly form_table_number (tables_answer answer) (then (form_tables setting ws room) counts_in) (NoFormTableCause setting ws room) o.answers
+        exactly form_table_number answer (then (form_tables setting ws room) counts_in) (NoFormTableCause setting ws room) o.answers
         (numbered-then form_table_number (form_tables setting ws room) counts_in
         (numbered-then form_table_number (form_read setting ws) (tables_for room) (opening-numbered form_table_number (λ n k. inl k)) (tables-numbered form_table_number (inr (inl refl)) (inr (inr refl)) room)) (λ d. tt)) from to
       where
@@ -125,7 +124,7 @@ module _ (setting : Setting) (ws : List ℕ) where
             (n, good-then (form_tables setting ws room) counts_in x n (good-then (form_read setting ws) (tables_for room) x x (opened c.opening) r) refl)
 
     -- and so does a trace over a form
-    pub form-trace-exactly : (t : Entries) (q : Request) (before after : List ℕ) (answer : TraceAnswer) → TraceDone (form_trace setting ws t (length before) q) answer before after
+    pub form-trace-exactly : (t : Entries) (q : Request) (before after : List ℕ) (answer : Result End) → TraceDone (form_trace setting ws t (length before) q) answer before after
         → RefusesExactly (trace_answer answer) (NoFormTraceCause setting ws q (room_of t) (length before)) form_trace_number
     unfolding form_trace traced_request
     form-trace-exactly t q before after answer o =
@@ -160,12 +159,12 @@ module _ (setting : Setting) (ws : List ℕ) where
             (n, good-then (form_trace setting ws t bytes q) report x n (good-then (form_read setting ws) one (normal d) x (opened c.opening) r) refl)
 
     -- and so does a list of requests over a form
-    pub form-list-exactly : (t : Entries) (requests before after : List ℕ) (answer : ListAnswer)
+    pub form-list-exactly : (t : Entries) (requests before after : List ℕ) (answer : Result ℕ)
         → ListTraced (form_list setting ws (room_of t) (length before) (request_count requests)) t requests answer before after
-        → RefusesExactly (list_answer answer) (NoFormListCause setting ws (room_of t) (length before) (request_count requests)) form_table_number
+        → RefusesExactly answer (NoFormListCause setting ws (room_of t) (length before) (request_count requests)) form_table_number
     unfolding form_list
     form-list-exactly t requests before after answer o =
-        exactly form_table_number (list_answer answer) (then (form_list setting ws room answers count) told) (NoFormListCause setting ws room answers count) o.answers
+        exactly form_table_number answer (then (form_list setting ws room answers count) told) (NoFormListCause setting ws room answers count) o.answers
         (numbered-then form_table_number (form_list setting ws room answers count) told
         (numbered-then form_table_number (form_read setting ws) (list_for room answers count) (opening-numbered form_table_number (λ n k. inl k)) (list-numbered form_table_number (inr (inl refl)) (inr (inr refl)) room answers count)) (λ d. tt)) from to
       where

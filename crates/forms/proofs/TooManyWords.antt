@@ -11,13 +11,12 @@ use Rattle.files.specs.Settings.{in_range}
 use Rattle.files.specs.Domain.{Domain}
 use Rattle.files.proofs.ListMembers.{by-test}
 use Rattle.files.specs.Rows.{row_words, most_row_words}
-use Rattle.tables.specs.declared.TablesGiven.{TablesGiven}
 use Rattle.tables.specs.filling.Entries.{Entries, Room}
 use Rattle.tables.specs.JudgingCall.{judged_domain, tables_for, TablesDone}
-use Rattle.tracing.specs.declared.TraceAnswer.{TraceAnswer}
-use Rattle.tracing.specs.declared.ListAnswer.{ListAnswer}
 use Rattle.tracing.specs.Trace.{Request, traced_request, TraceDone}
 use Rattle.tracing.specs.RequestLists.{list_for, ListTraced}
+use Rattle.tables.specs.declared.Counted.{Counted}
+use Rattle.tracing.specs.declared.End.{End}
 use Rattle.forms.specs.Form.{form_phys, form_expanders, form_of, count_in, expander_back, expanders_back, form_in}
 use Rattle.forms.specs.FormCalls.{unread, is_good, same_words, formed, form_read, form_tables, form_trace, form_list}
 use Rattle.forms.proofs.FormRows.{length-phys_back}
@@ -62,15 +61,15 @@ module _ (most : Setting) (ws : List ℕ) (h : most_row_words < length ws) where
       ap (unless (in_range most) (refusal 22 0 0))
       (ap (λ (b : Bool). unless b (refusal 1 0 0) (good (form_in ws))) (long-formed most ws h) ∙ sym (ap (λ (b : Bool). unless b (refusal 1 0 0) (good (form_in []))) (none-formed most)))
 
-  pub trace-cut : (t : Entries) (bytes : ℕ) (q : Request) (answer : TraceAnswer) (before after : List ℕ) → TraceDone (form_trace most [] t bytes q) answer before after → TraceDone (form_trace most ws t bytes q) answer before after
+  pub trace-cut : (t : Entries) (bytes : ℕ) (q : Request) (answer : Result End) (before after : List ℕ) → TraceDone (form_trace most [] t bytes q) answer before after → TraceDone (form_trace most ws t bytes q) answer before after
   unfolding form_trace
   trace-cut t bytes q answer before after o = subst (λ (x : Result Domain). TraceDone (then x (λ d. traced_request d t bytes q)) answer before after) (sym long-read) o
 
-  pub tables-cut : (room : Room) (answer : TablesGiven) (before after : Entries) → TablesDone (form_tables most [] room) answer before after → TablesDone (form_tables most ws room) answer before after
+  pub tables-cut : (room : Room) (answer : Result Counted) (before after : Entries) → TablesDone (form_tables most [] room) answer before after → TablesDone (form_tables most ws room) answer before after
   unfolding form_tables
   tables-cut room answer before after o = subst (λ (x : Result Domain). TablesDone (then x (tables_for room)) answer before after) (sym long-read) o
 
-  pub list-cut : (room : Room) (answers count : ℕ) (t : Entries) (requests : List ℕ) (answer : ListAnswer) (before after : List ℕ) → ListTraced (form_list most [] room answers count) t requests answer before after
+  pub list-cut : (room : Room) (answers count : ℕ) (t : Entries) (requests : List ℕ) (answer : Result ℕ) (before after : List ℕ) → ListTraced (form_list most [] room answers count) t requests answer before after
       → ListTraced (form_list most ws room answers count) t requests answer before after
   unfolding form_list
   list-cut room answers count t requests answer before after o = subst (λ (x : Result Domain). ListTraced (then x (list_for room answers count)) t requests answer before after) (sym long-read) o

@@ -3,22 +3,12 @@ use Rattle.std.specs.Prelude.{ℕ, ◌≡◌, List, ◌++◌, length, drop}
 use Rattle.frames.specs.Refusals.{Result, refused, good, then}
 use Rattle.files.specs.Domain.{Domain}
 use Rattle.tracing.specs.RequestLists.{request_count}
-use Rattle.forms.specs.declared.FormMade.{FormMade}
-use Rattle.forms.specs.declared.FormMade.TheVariants.{Refused, Counts}
+use Rattle.forms.specs.declared.FormCounts.{FormCounts}
 use Rattle.forms.specs.Form.{form_of}
 
--- the number of expanders and of words
-pub record FormCounts : Type 0 where
-  pub expander_count : ℕ
-  pub word_count : ℕ
-
+-- what making a form answers: the number of expanders and of words
 abbrev pub form_counts : Domain → Result FormCounts
 form_counts d = good (record { expander_count = length d; word_count = length (form_of d) })
-
--- what the answer says
-abbrev pub form_answer : FormMade → Result FormCounts
-form_answer (Refused r) = refused r
-form_answer (Counts n w) = good (record { expander_count = n; word_count = w })
 
 -- what a list of requests answers: how many there are
 abbrev pub requests_in : List ℕ → Domain → Result ℕ
@@ -30,6 +20,6 @@ form_after (refused r) before = before
 form_after (good d) before = form_of d ++ drop (length (form_of d)) before
 
 -- all that making a form with this outcome promises: the answer, and the words after
-pub record FormDone (outcome : Result Domain) (answer : FormMade) (before after : List ℕ) : Type 0 where
-  pub answers : form_answer answer ≡ then outcome form_counts
+pub record FormDone (outcome : Result Domain) (answer : Result FormCounts) (before after : List ℕ) : Type 0 where
+  pub answers : answer ≡ then outcome form_counts
   pub words : after ≡ form_after outcome before

@@ -1,6 +1,6 @@
 -- What the inner functions over a form promise: its rows, the comparison by the attached expanders that the words name, and which refusals stay.
 use Rattle.std.specs.Prelude.{ℕ, ◌+◌, ◌*◌, ◌/◌, ◌%◌, ◌≤◌, ◌<◌, ◌≡◌, Bool, true, false, cond, not, ◌&&◌, List, [], ◌∷◌, ◌++◌, length, get_or, take, eqb, leb}
-use Rattle.frames.specs.Refusals.{refusal}
+use Rattle.frames.specs.Refusals.{Result, refused, good, refusal}
 use Rattle.frames.specs.declared.Refusal.{Refusal}
 use Rattle.files.specs.declared.Setting.{Setting}
 use Rattle.files.specs.declared.Phy.{Phy}
@@ -9,12 +9,6 @@ use Rattle.files.specs.declared.PhyFields.{PhyFields}
 use Rattle.files.specs.Domain.{Expander, Domain, address_of, expander_at}
 use Rattle.files.specs.Rows.{row_in, domain_in, row_words}
 use Rattle.wiring.specs.index.AddressIndex.{IndexRoom}
-use Rattle.tables.specs.declared.TablesGiven.{TablesGiven}
-use Rattle.tables.specs.declared.TablesGiven.TheVariants.{Refused as NotGiven, Counts}
-use Rattle.tracing.specs.declared.TraceAnswer.{TraceAnswer}
-use Rattle.tracing.specs.declared.TraceAnswer.TheVariants.{Refused, Ended}
-use Rattle.tracing.specs.declared.ListAnswer.{ListAnswer}
-use Rattle.tracing.specs.declared.ListAnswer.TheVariants.{Refused as ListRefused, Requests}
 use Rattle.forms.specs.Form.{head_field, phy_field, form_in}
 use Rattle.forms.specs.FormCalls.{unread}
 
@@ -71,15 +65,8 @@ pub record FormOpened (most : Setting) (ws : List ℕ) (n : ℕ) (answer : Bool)
 abbrev pub as_form : Refusal → Refusal
 as_form r = cond (leb 15 r.number && leb r.number 18) r (refusal 1 0 0)
 
--- the answers of the calls over rows, as those over a form
-abbrev pub as_trace : TraceAnswer → TraceAnswer
-as_trace (Refused r) = Refused (as_form r)
-as_trace (Ended e) = Ended e
-
-abbrev pub as_tables : TablesGiven → TablesGiven
-as_tables (NotGiven r) = NotGiven (as_form r)
-as_tables (Counts t w) = Counts t w
-
-abbrev pub as_list : ListAnswer → ListAnswer
-as_list (ListRefused r) = ListRefused (as_form r)
-as_list (Requests n) = Requests n
+module _ {A : Type 0} where
+  -- the answer of a call over rows, as one over a form
+  abbrev pub over_form : Result A → Result A
+  over_form (refused r) = refused (as_form r)
+  over_form (good a) = good a

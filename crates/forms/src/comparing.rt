@@ -42,8 +42,7 @@ fn are_right_phys(rows: &[u64], i: ExpanderNumber, ws: &[u64], at: usize) -> boo
 {
     let n = wiring::phy_count(rows, i);
     let mut to = at;
-    let mut p: u8 = 0;
-    while p < n {
+    for p in 0..n {
         let f = wiring::phy_at(rows, i, PhyId(p));
         if reading::word_at(ws, to) != wiring::phy_address(f) {
             return false;
@@ -52,7 +51,6 @@ fn are_right_phys(rows: &[u64], i: ExpanderNumber, ws: &[u64], at: usize) -> boo
             return false;
         }
         to += 2;
-        p += 1;
     }
     true
 }
@@ -63,8 +61,7 @@ pub(crate) fn are_right(rows: &[u64], ws: &[u64]) -> bool
 {
     let n = wiring::expander_count(rows);
     let mut at: usize = 0;
-    let mut i: u8 = 0;
-    while i < n {
+    for i in 0..n {
         let x = ExpanderNumber(i);
         let m = wiring::phy_count(rows, x);
         if reading::word_at(ws, at) != wiring::expander_address(rows, x) {
@@ -77,7 +74,6 @@ pub(crate) fn are_right(rows: &[u64], ws: &[u64]) -> bool
             return false;
         }
         at += 2 + 2 * (m as usize);
-        i += 1;
     }
     at == ws.len()
 }

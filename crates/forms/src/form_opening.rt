@@ -1,12 +1,10 @@
 // Reads a form into rows, and tests it.
 ghost use Rattle.std.specs.Prelude.{◌≡◌, ◌*◌, ◌≤◌, length};
 ghost use Rattle.forms.specs.Form.{form_in};
-ghost use Rattle.forms.specs.FormRows.{FormOpened, as_form, as_trace, as_tables, as_list};
+ghost use Rattle.forms.specs.FormRows.{FormOpened, as_form, over_form};
 ghost use Rattle.files.specs.Rows.{row_words};
 
 use crate::{comparing, reading, testing};
-use tables::TablesGiven;
-use tracing::{ListAnswer, TraceAnswer};
 use wiring::{Refusal, Setting, refused};
 
 // A refusal of a call over rows, as one over a form: 15 to 18 stay, and those of judging are 1 at place 0, 0.
@@ -22,33 +20,13 @@ pub(crate) fn of_form(r: Refusal) -> Refusal
     r
 }
 
-// What a trace over rows answers, as one over a form.
-pub(crate) fn as_trace(answer: TraceAnswer) -> TraceAnswer
-    ensures { result ≡ as_trace answer }
+// What a call over rows answers, as one over a form.
+pub(crate) fn over_form<T>(answer: Result<T, Refusal>) -> Result<T, Refusal>
+    ensures { result ≡ over_form answer }
 {
     match answer {
-        TraceAnswer::Refused(r) => TraceAnswer::Refused(of_form(r)),
-        TraceAnswer::Ended(e) => TraceAnswer::Ended(e),
-    }
-}
-
-// What giving tables over rows answers, as over a form.
-pub(crate) fn as_tables(answer: TablesGiven) -> TablesGiven
-    ensures { result ≡ as_tables answer }
-{
-    match answer {
-        TablesGiven::Refused(r) => TablesGiven::Refused(of_form(r)),
-        TablesGiven::Counts(t, w) => TablesGiven::Counts(t, w),
-    }
-}
-
-// What a list of requests over rows answers, as one over a form.
-pub(crate) fn as_list(answer: ListAnswer) -> ListAnswer
-    ensures { result ≡ as_list answer }
-{
-    match answer {
-        ListAnswer::Refused(r) => ListAnswer::Refused(of_form(r)),
-        ListAnswer::Requests(n) => ListAnswer::Requests(n),
+        Err(r) => Err(of_form(r)),
+        Ok(x) => Ok(x),
     }
 }
 

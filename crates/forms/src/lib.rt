@@ -15,11 +15,10 @@ pub use list_calls::form_list;
 pub use making::make_form;
 pub use table_calls::form_tables;
 pub use trace_calls::form_trace;
-use wiring::Refusal;
 
-// What making a form answers: the number of expanders, and of words.
+// How many expanders the domain of a form has, and how many words the form.
 #[derive(Clone, Copy)]
-pub enum FormMade {
-    Refused(Refusal),
-    Counts(u8, u32),
+pub struct FormCounts {
+    pub expander_count: u8,
+    pub word_count: u32,
 }

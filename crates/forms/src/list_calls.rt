@@ -1,4 +1,5 @@
 // Many requests over a form.
+ghost use Rattle.wiring.specs.phys.Checks.{RoomFor};
 ghost use Rattle.std.specs.Prelude.{◌≤◌, ◌≡◌, length};
 ghost use Rattle.tables.specs.filling.Entries.{entries, room_of};
 ghost use Rattle.tracing.specs.RequestLists.{request_count, ListTraced};
@@ -7,8 +8,7 @@ ghost use Rattle.forms.specs.FormCalls.{form_list};
 ghost use Rattle.forms.specs.FormRows.{FormRoom};
 
 use crate::{form_opening, reading};
-use tracing::ListAnswer;
-use wiring::Setting;
+use wiring::{Refusal, Setting};
 
 // A list of requests over a form, with room for the rows of its n expanders and for who has which address.
 fn list_in(
@@ -22,17 +22,17 @@ fn list_in(
     bits: &[u8],
     requests: &[u64],
     answers: &mut [u64],
-) -> ListAnswer
+) -> Result<usize, Refusal>
     requires { FormRoom form.now n rows.old first.old low.old }
     ensures { ListTraced
         (form_list setting form.now (room_of (entries words.now bits.now)) (length answers.old) (request_count requests.now))
         (entries words.now bits.now) requests.now result answers.old answers.new }
 {
     if !wiring::is_in_range(setting) {
-        return ListAnswer::Refused(wiring::refused(22));
+        return Err(wiring::refused(22));
     }
     if !form_opening::open_form(setting, form, rows, n) {
-        return ListAnswer::Refused(wiring::refused(1));
+        return Err(wiring::refused(1));
     }
     let e = files::ROW_WORDS * (n as usize);
     let chain = setting.chain;
@@ -46,11 +46,11 @@ fn list_in(
         answers,
         chain,
     );
-    form_opening::as_list(answer)
+    form_opening::over_form(answer)
 }
 
-// A list of requests over a form of few expanders: at most 2, or at most 8.
-fn list_few(
+// A list of requests over a form, with room of this size: words for rows, and entries for slots and phys.
+fn list_with<const ROWS: usize, const SLOTS: usize, const PHYS: usize>(
     setting: Setting,
     form: &[u64],
     n: u8,
@@ -58,64 +58,15 @@ fn list_few(
     bits: &[u8],
     requests: &[u64],
     answers: &mut [u64],
-) -> ListAnswer
-    requires { (n ≡ length (form_in form.now)) × (n ≤ 8) }
+) -> Result<usize, Refusal>
+    requires { ((n ≡ length (form_in form.now)) × (n ≤ 64)) × RoomFor n ROWS SLOTS PHYS }
     ensures { ListTraced
         (form_list setting form.now (room_of (entries words.now bits.now)) (length answers.old) (request_count requests.now))
         (entries words.now bits.now) requests.now result answers.old answers.new }
 {
-    if n <= 2 {
-        let mut rows = [0u64; files::ROWS_OF_2];
-        let mut first = [0u16; wiring::SLOTS_OF_2];
-        let mut low = [0u8; wiring::PHYS_OF_2];
-        return list_in(
-            setting,
-            form,
-            n,
-            &mut rows[..],
-            &mut first[..],
-            &mut low[..],
-            words,
-            bits,
-            requests,
-            answers,
-        );
-    }
-    let mut rows = [0u64; files::ROWS_OF_8];
-    let mut first = [0u16; wiring::SLOTS_OF_8];
-    let mut low = [0u8; wiring::PHYS_OF_8];
-    list_in(
-        setting,
-        form,
-        n,
-        &mut rows[..],
-        &mut first[..],
-        &mut low[..],
-        words,
-        bits,
-        requests,
-        answers,
-    )
-}
-
-// A list of requests over a form, with room for the most expanders.
-fn list_many(
-    setting: Setting,
-    form: &[u64],
-    n: u8,
-    words: &[u64],
-    bits: &[u8],
-    requests: &[u64],
-    answers: &mut [u64],
-) -> ListAnswer
-    requires { (n ≡ length (form_in form.now)) × (n ≤ 64) }
-    ensures { ListTraced
-        (form_list setting form.now (room_of (entries words.now bits.now)) (length answers.old) (request_count requests.now))
-        (entries words.now bits.now) requests.now result answers.old answers.new }
-{
-    let mut rows = [0u64; files::ROWS_OF_64];
-    let mut first = [0u16; wiring::SLOTS_OF_64];
-    let mut low = [0u8; wiring::PHYS_OF_64];
+    let mut rows = [0u64; ROWS];
+    let mut first = [0u16; SLOTS];
+    let mut low = [0u8; PHYS];
     list_in(
         setting,
         form,
@@ -141,17 +92,26 @@ pub fn form_list(
     bits: &[u8],
     requests: &[u64],
     answers: &mut [u64],
-) -> ListAnswer
+) -> Result<usize, Refusal>
     ensures { ListTraced
         (form_list setting form.now (room_of (entries words.now bits.now)) (length answers.old) (request_count requests.now))
         (entries words.now bits.now) requests.now result answers.old answers.new }
 {
     let n = reading::count_expanders(form);
+    if n <= 2 {
+        return list_with::<{ files::ROWS_OF_2 }, { wiring::SLOTS_OF_2 }, { wiring::PHYS_OF_2 }>(
+            setting, form, n, words, bits, requests, answers,
+        );
+    }
     if n <= 8 {
-        return list_few(setting, form, n, words, bits, requests, answers);
+        return list_with::<{ files::ROWS_OF_8 }, { wiring::SLOTS_OF_8 }, { wiring::PHYS_OF_8 }>(
+            setting, form, n, words, bits, requests, answers,
+        );
     }
     if form.len() > files::ROWS_OF_64 {
         return form_list(setting, &form[..0], words, bits, requests, answers);
     }
-    list_many(setting, form, n, words, bits, requests, answers)
+    list_with::<{ files::ROWS_OF_64 }, { wiring::SLOTS_OF_64 }, { wiring::PHYS_OF_64 }>(
+        setting, form, n, words, bits, requests, answers,
+    )
 }

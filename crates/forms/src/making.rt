@@ -3,13 +3,13 @@ ghost use Rattle.std.specs.Prelude.{◌≤◌, length};
 ghost use Rattle.frames.specs.Bytes.{byte};
 ghost use Rattle.frames.specs.Refusals.{then};
 ghost use Rattle.files.specs.Rows.{domain_in};
-ghost use Rattle.wiring.specs.phys.Checks.{FileRoom};
+ghost use Rattle.wiring.specs.phys.Checks.{FileRoom, RoomFor};
 ghost use Rattle.tables.specs.lists.PreparedLists.{judged_in};
 ghost use Rattle.forms.specs.FormCalls.{form_for, form_call};
 ghost use Rattle.forms.specs.Calls.{FormDone};
 
-use crate::{FormMade, writing};
-use wiring::{Check, DomainRead, Setting};
+use crate::{FormCounts, writing};
+use wiring::{Refusal, Setting};
 
 // Causes 7 to 12, 23 and 14 of the domain in rows, then 16, then its form.
 fn make_rows(
@@ -18,24 +18,20 @@ fn make_rows(
     low: &mut [u8],
     words: &mut [u64],
     chain: u8,
-) -> FormMade
+) -> Result<FormCounts, Refusal>
     ensures { FormDone (then (judged_in chain (length first.old) (length low.old) (domain_in rows.now)) (form_for (length words.old)))
         result words.old words.new }
 {
-    let verdict = tables::judge_rows(rows, first, low, chain);
-    match verdict {
-        Check::Refused(r) => FormMade::Refused(r),
-        Check::Passed => {
-            let size = writing::form_size(rows);
-            if words.len() < size {
-                return FormMade::Refused(wiring::refused(16));
-            }
-            writing::put_form(rows, first, words);
-            let n = wiring::expander_count(rows);
-            let w = size as u32;
-            FormMade::Counts(n, w)
-        }
+    tables::judge_rows(rows, first, low, chain)?;
+    let size = writing::form_size(rows);
+    if words.len() < size {
+        return Err(wiring::refused(16));
     }
+    writing::put_form(rows, first, words);
+    Ok(FormCounts {
+        expander_count: wiring::expander_count(rows),
+        word_count: size as u32,
+    })
 }
 
 // Makes a form, with room for the rows of the file's domain and for who has which address.
@@ -46,58 +42,27 @@ fn make_in(
     first: &mut [u16],
     low: &mut [u8],
     words: &mut [u64],
-) -> FormMade
+) -> Result<FormCounts, Refusal>
     requires { FileRoom setting file.now rows.old first.old low.old }
     ensures { FormDone (form_call setting file.now (length words.old)) result words.old words.new }
 {
-    let read = wiring::read_domain(setting, file, rows);
-    match read {
-        DomainRead::Refused(r) => FormMade::Refused(r),
-        DomainRead::Expanders(n) => {
-            let e = files::ROW_WORDS * (n as usize);
-            make_rows(&rows[..e], first, low, words, setting.chain)
-        }
-    }
+    let n = wiring::read_domain(setting, file, rows)?;
+    let e = files::ROW_WORDS * (n as usize);
+    make_rows(&rows[..e], first, low, words, setting.chain)
 }
 
-// Makes a form of a file that states few expanders: at most 2, or at most 8.
-fn make_few(setting: Setting, file: &[u8], words: &mut [u64]) -> FormMade
-    requires { byte file.now 1 ≤ 8 }
+// Makes a form, with room of this size: words for rows, and entries for slots and phys.
+fn make_with<const ROWS: usize, const SLOTS: usize, const PHYS: usize>(
+    setting: Setting,
+    file: &[u8],
+    words: &mut [u64],
+) -> Result<FormCounts, Refusal>
+    requires { RoomFor (byte file.now 1) ROWS SLOTS PHYS }
     ensures { FormDone (form_call setting file.now (length words.old)) result words.old words.new }
 {
-    if wiring::stated_count(file) <= 2 {
-        let mut rows = [0u64; files::ROWS_OF_2];
-        let mut first = [0u16; wiring::SLOTS_OF_2];
-        let mut low = [0u8; wiring::PHYS_OF_2];
-        return make_in(
-            setting,
-            file,
-            &mut rows[..],
-            &mut first[..],
-            &mut low[..],
-            words,
-        );
-    }
-    let mut rows = [0u64; files::ROWS_OF_8];
-    let mut first = [0u16; wiring::SLOTS_OF_8];
-    let mut low = [0u8; wiring::PHYS_OF_8];
-    make_in(
-        setting,
-        file,
-        &mut rows[..],
-        &mut first[..],
-        &mut low[..],
-        words,
-    )
-}
-
-// Makes a form, with room for the most expanders.
-fn make_many(setting: Setting, file: &[u8], words: &mut [u64]) -> FormMade
-    ensures { FormDone (form_call setting file.now (length words.old)) result words.old words.new }
-{
-    let mut rows = [0u64; files::ROWS_OF_64];
-    let mut first = [0u16; wiring::SLOTS_OF_64];
-    let mut low = [0u8; wiring::PHYS_OF_64];
+    let mut rows = [0u64; ROWS];
+    let mut first = [0u16; SLOTS];
+    let mut low = [0u8; PHYS];
     make_in(
         setting,
         file,
@@ -110,17 +75,26 @@ fn make_many(setting: Setting, file: &[u8], words: &mut [u64]) -> FormMade
 
 // Makes the form of a file's domain: causes 22, 1 to 12, 23 and 14, then 16. It answers how many expanders and words there are. The words
 // after stay, and all of them where it is refused. It takes room as `judge` does.
-pub fn make_form(setting: Setting, file: &[u8], words: &mut [u64]) -> FormMade
+pub fn make_form(setting: Setting, file: &[u8], words: &mut [u64]) -> Result<FormCounts, Refusal>
     ensures { FormDone (form_call setting file.now (length words.old)) result words.old words.new }
 {
     let n = wiring::stated_count(file);
+    if n <= 2 {
+        return make_with::<{ files::ROWS_OF_2 }, { wiring::SLOTS_OF_2 }, { wiring::PHYS_OF_2 }>(
+            setting, file, words,
+        );
+    }
     if n <= 8 {
-        return make_few(setting, file, words);
+        return make_with::<{ files::ROWS_OF_8 }, { wiring::SLOTS_OF_8 }, { wiring::PHYS_OF_8 }>(
+            setting, file, words,
+        );
     }
     if n > 64 {
         if file.len() > 2 {
             return make_form(setting, &file[..2], words);
         }
     }
-    make_many(setting, file, words)
+    make_with::<{ files::ROWS_OF_64 }, { wiring::SLOTS_OF_64 }, { wiring::PHYS_OF_64 }>(
+        setting, file, words,
+    )
 }

@@ -60,15 +60,13 @@ pub(crate) fn count_expanders(ws: &[u64]) -> u8
     ensures { (result ≡ length (form_in ws.now)) × (result ≤ 64) }
 {
     let mut at: usize = 0;
-    let mut i: u8 = 0;
-    while i < 64 {
+    for i in 0..64 {
         if ws.len() <= at {
             return i;
         }
         at += 2 + 2 * (count_in(ws, at) as usize);
-        i += 1;
     }
-    i
+    64
 }
 
 // Stores the words of the n phys whose words start at `from` in a row.
@@ -76,15 +74,13 @@ fn put_phys(row: &mut [u64], ws: &[u64], n: u8, from: usize)
     requires { (n ≤ 128) × ((length row.old ≡ row_words) × (from ≤ 100000)) }
     ensures { row.new ≡ sets row.old 2 (phy_words (phys_back n (drop from ws.now))) }
 {
-    let mut p: u8 = 0;
-    while p < n {
+    for p in 0..n {
         let k = 2 * (p as usize);
         let a = word_at(ws, from + k);
         let v = word_at(ws, from + k + 1) / 35184372088832;
         let f = phy_back(a, v);
         row[2 + k] = wiring::phy_address(f);
         row[2 + k + 1] = wiring::phy_word(f);
-        p += 1;
     }
 }
 
@@ -113,11 +109,9 @@ pub(crate) fn read_rows(ws: &[u64], rows: &mut [u64], n: u8)
     ensures { domain_in (take (row_words * n) rows.new) ≡ form_in ws.now }
 {
     let mut at: usize = 0;
-    let mut i: u8 = 0;
-    while i < n {
+    for i in 0..n {
         let a = files::ROW_WORDS * (i as usize);
         let e = a + files::ROW_WORDS;
         at = put_row(&mut rows[a..e], ws, at);
-        i += 1;
     }
 }

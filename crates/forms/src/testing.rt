@@ -22,12 +22,10 @@ fn has_bad_phy(rows: &[u64], i: ExpanderNumber) -> bool
     ensures { result ≡ any bad_phy (expander_at (domain_in rows.now) i.0).phys }
 {
     let n = wiring::phy_count(rows, i);
-    let mut p: u8 = 0;
-    while p < n {
+    for p in 0..n {
         if is_bad_phy(wiring::phy_at(rows, i, PhyId(p))) {
             return true;
         }
-        p += 1;
     }
     false
 }
@@ -57,12 +55,10 @@ pub(crate) fn is_unread(most: Setting, rows: &[u64]) -> bool
     if !wiring::is_within(n, most.expanders) {
         return true;
     }
-    let mut i: u8 = 0;
-    while i < n {
+    for i in 0..n {
         if is_bad_unit(most, rows, ExpanderNumber(i)) {
             return true;
         }
-        i += 1;
     }
     false
 }

@@ -1,4 +1,5 @@
 // Traces over a form.
+ghost use Rattle.wiring.specs.phys.Checks.{RoomFor};
 ghost use Rattle.std.specs.Prelude.{◌≤◌, ◌≡◌, length};
 ghost use Rattle.tables.specs.filling.Entries.{entries};
 ghost use Rattle.tracing.specs.Trace.{request, TraceDone};
@@ -7,8 +8,8 @@ ghost use Rattle.forms.specs.FormCalls.{form_trace};
 ghost use Rattle.forms.specs.FormRows.{FormRoom};
 
 use crate::{form_opening, reading};
-use tracing::TraceAnswer;
-use wiring::{ExpanderNumber, PhyId, Setting};
+use tracing::End;
+use wiring::{ExpanderNumber, PhyId, Refusal, Setting};
 
 // A trace over a form, with room for the rows of its n expanders and for who has which address.
 fn trace_in(
@@ -24,17 +25,17 @@ fn trace_in(
     arrival: PhyId,
     s: u64,
     passed: &mut [u8],
-) -> TraceAnswer
+) -> Result<End, Refusal>
     requires { FormRoom form.now n rows.old first.old low.old }
     ensures { TraceDone
         (form_trace setting form.now (entries words.now bits.now) (length passed.old) (request start.0 arrival.0 s))
         result passed.old passed.new }
 {
     if !wiring::is_in_range(setting) {
-        return TraceAnswer::Refused(wiring::refused(22));
+        return Err(wiring::refused(22));
     }
     if !form_opening::open_form(setting, form, rows, n) {
-        return TraceAnswer::Refused(wiring::refused(1));
+        return Err(wiring::refused(1));
     }
     let e = files::ROW_WORDS * (n as usize);
     let chain = setting.chain;
@@ -50,11 +51,11 @@ fn trace_in(
         passed,
         chain,
     );
-    form_opening::as_trace(answer)
+    form_opening::over_form(answer)
 }
 
-// A trace over a form of few expanders: at most 2, or at most 8.
-fn trace_few(
+// A trace over a form, with room of this size: words for rows, and entries for slots and phys.
+fn trace_with<const ROWS: usize, const SLOTS: usize, const PHYS: usize>(
     setting: Setting,
     form: &[u64],
     n: u8,
@@ -64,70 +65,15 @@ fn trace_few(
     arrival: PhyId,
     s: u64,
     passed: &mut [u8],
-) -> TraceAnswer
-    requires { (n ≡ length (form_in form.now)) × (n ≤ 8) }
+) -> Result<End, Refusal>
+    requires { ((n ≡ length (form_in form.now)) × (n ≤ 64)) × RoomFor n ROWS SLOTS PHYS }
     ensures { TraceDone
         (form_trace setting form.now (entries words.now bits.now) (length passed.old) (request start.0 arrival.0 s))
         result passed.old passed.new }
 {
-    if n <= 2 {
-        let mut rows = [0u64; files::ROWS_OF_2];
-        let mut first = [0u16; wiring::SLOTS_OF_2];
-        let mut low = [0u8; wiring::PHYS_OF_2];
-        return trace_in(
-            setting,
-            form,
-            n,
-            &mut rows[..],
-            &mut first[..],
-            &mut low[..],
-            words,
-            bits,
-            start,
-            arrival,
-            s,
-            passed,
-        );
-    }
-    let mut rows = [0u64; files::ROWS_OF_8];
-    let mut first = [0u16; wiring::SLOTS_OF_8];
-    let mut low = [0u8; wiring::PHYS_OF_8];
-    trace_in(
-        setting,
-        form,
-        n,
-        &mut rows[..],
-        &mut first[..],
-        &mut low[..],
-        words,
-        bits,
-        start,
-        arrival,
-        s,
-        passed,
-    )
-}
-
-// A trace over a form, with room for the most expanders.
-fn trace_many(
-    setting: Setting,
-    form: &[u64],
-    n: u8,
-    words: &[u64],
-    bits: &[u8],
-    start: ExpanderNumber,
-    arrival: PhyId,
-    s: u64,
-    passed: &mut [u8],
-) -> TraceAnswer
-    requires { (n ≡ length (form_in form.now)) × (n ≤ 64) }
-    ensures { TraceDone
-        (form_trace setting form.now (entries words.now bits.now) (length passed.old) (request start.0 arrival.0 s))
-        result passed.old passed.new }
-{
-    let mut rows = [0u64; files::ROWS_OF_64];
-    let mut first = [0u16; wiring::SLOTS_OF_64];
-    let mut low = [0u8; wiring::PHYS_OF_64];
+    let mut rows = [0u64; ROWS];
+    let mut first = [0u16; SLOTS];
+    let mut low = [0u8; PHYS];
     trace_in(
         setting,
         form,
@@ -157,17 +103,26 @@ pub fn form_trace(
     arrival: PhyId,
     s: u64,
     passed: &mut [u8],
-) -> TraceAnswer
+) -> Result<End, Refusal>
     ensures { TraceDone
         (form_trace setting form.now (entries words.now bits.now) (length passed.old) (request start.0 arrival.0 s))
         result passed.old passed.new }
 {
     let n = reading::count_expanders(form);
+    if n <= 2 {
+        return trace_with::<{ files::ROWS_OF_2 }, { wiring::SLOTS_OF_2 }, { wiring::PHYS_OF_2 }>(
+            setting, form, n, words, bits, start, arrival, s, passed,
+        );
+    }
     if n <= 8 {
-        return trace_few(setting, form, n, words, bits, start, arrival, s, passed);
+        return trace_with::<{ files::ROWS_OF_8 }, { wiring::SLOTS_OF_8 }, { wiring::PHYS_OF_8 }>(
+            setting, form, n, words, bits, start, arrival, s, passed,
+        );
     }
     if form.len() > files::ROWS_OF_64 {
         return form_trace(setting, &form[..0], words, bits, start, arrival, s, passed);
     }
-    trace_many(setting, form, n, words, bits, start, arrival, s, passed)
+    trace_with::<{ files::ROWS_OF_64 }, { wiring::SLOTS_OF_64 }, { wiring::PHYS_OF_64 }>(
+        setting, form, n, words, bits, start, arrival, s, passed,
+    )
 }

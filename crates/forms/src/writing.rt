@@ -48,12 +48,10 @@ fn put_phys(rows: &[u64], first: &[u16], i: ExpanderNumber, words: &mut [u64], a
 {
     let n = wiring::phy_count(rows, i);
     let mut to = at;
-    let mut p: u8 = 0;
-    while p < n {
+    for p in 0..n {
         words[to] = wiring::phy_address(wiring::phy_at(rows, i, PhyId(p)));
         words[to + 1] = form_phy(rows, first, i, PhyId(p));
         to += 2;
-        p += 1;
     }
     to
 }
@@ -64,10 +62,8 @@ pub(crate) fn form_size(rows: &[u64]) -> usize
 {
     let n = wiring::expander_count(rows);
     let mut sum: usize = 0;
-    let mut i: u8 = 0;
-    while i < n {
+    for i in 0..n {
         sum += 2 + 2 * (wiring::phy_count(rows, ExpanderNumber(i)) as usize);
-        i += 1;
     }
     sum
 }
@@ -79,12 +75,10 @@ pub(crate) fn put_form(rows: &[u64], first: &[u16], words: &mut [u64])
 {
     let n = wiring::expander_count(rows);
     let mut to: usize = 0;
-    let mut i: u8 = 0;
-    while i < n {
+    for i in 0..n {
         let x = ExpanderNumber(i);
         words[to] = wiring::expander_address(rows, x);
         words[to + 1] = head_field(wiring::route_indexes(rows, x), wiring::phy_count(rows, x));
         to = put_phys(rows, first, x, words, to + 2);
-        i += 1;
     }
 }

@@ -9,20 +9,18 @@ use lib.ListN.{length}
 use lib.Dec.{T, eqb, leb, eqb→eq, eqb_refl, leb→le, le→leb}
 use Rattle.frames.specs.declared.Refusal.{Refusal}
 use Rattle.frames.specs.declared.Route.{Route}
+use Rattle.frames.specs.declared.General.{General}
 use Rattle.frames.specs.declared.Response.{Response}
 use Rattle.frames.specs.declared.Response.TheVariants.{ReportGeneral, Discover}
-use Rattle.frames.specs.declared.GeneralRead.{GeneralRead}
-use Rattle.frames.specs.declared.GeneralReadSas2.{GeneralReadSas2}
-use Rattle.frames.specs.declared.DiscoverRead.{DiscoverRead}
-use Rattle.frames.specs.declared.RouteRead.{RouteRead}
-use Rattle.frames.specs.declared.RouteWrite.{RouteWrite}
 use Rattle.frames.specs.Bytes.{byte}
 use Rattle.frames.specs.Refusals.{Result, refused, good, unless, then, refusal}
 use Rattle.frames.specs.RefusesExactly.{RefusesExactly}
 use Rattle.frames.specs.Sizes.{short_size, long_size, long_length, Sized, frame_size, by_itself}
-use Rattle.frames.specs.ReportGeneral.{general_answer, general_fixed, general_in, general_read, sas2_answer, general_read_sas2}
-use Rattle.frames.specs.Discovery.{discover_answer, discover_fixed, discover_in, discover_read}
-use Rattle.frames.specs.ConfigureRoute.{is_length, route_fixed, route_written, write_answer, route_answer, route_read}
+use Rattle.frames.specs.ReportGeneral.{general_fixed, general_in, general_read, general_read_sas2}
+use Rattle.frames.specs.declared.GeneralSas2.{GeneralSas2}
+use Rattle.frames.specs.Discovery.{discover_fixed, discover_in, discover_read}
+use Rattle.frames.specs.declared.Discovered.{Discovered}
+use Rattle.frames.specs.ConfigureRoute.{is_length, route_fixed, route_written, write_answer, route_read}
 
 -- where it is a refusal, its number is one of N; where it is good, P holds of what it yields
 module _ {A : Type 0} (N : ℕ → Type 0) where
@@ -139,36 +137,36 @@ general-read : (s : List ℕ) → RefusesExactly (general_read s) (Sized ReportG
 unfolding general_read
 general-read s = itself _ (inl refl) (inr refl) ReportGeneral s general_in _ (fixed _ (inl refl) (inr refl) (general_fixed s) _)
 
-pub general-exactly : (s : List ℕ) (answer : GeneralRead) → general_answer answer ≡ general_read s
-    → RefusesExactly (general_answer answer) (Sized ReportGeneral (byte s 3) (length s) × T (general_fixed s)) (λ n. (n ≡ 1) ⊎ (n ≡ 2))
-general-exactly s answer q = as_said _ (general_answer answer) (general_read s) _ _ q (general-read s) (λ t. t) (λ t. t)
+pub general-exactly : (s : List ℕ) (answer : Result General) → answer ≡ general_read s
+    → RefusesExactly answer (Sized ReportGeneral (byte s 3) (length s) × T (general_fixed s)) (λ n. (n ≡ 1) ⊎ (n ≡ 2))
+general-exactly s answer q = as_said _ answer (general_read s) _ _ q (general-read s) (λ t. t) (λ t. t)
 
 -- the SAS-2 reader refuses as the SAS-1.1 reader does
-pub sas2_exactly : (s : List ℕ) (answer : GeneralReadSas2) → sas2_answer answer ≡ general_read_sas2 s
-    → RefusesExactly (sas2_answer answer) (Sized ReportGeneral (byte s 3) (length s) × T (general_fixed s)) (λ n. (n ≡ 1) ⊎ (n ≡ 2))
+pub sas2_exactly : (s : List ℕ) (answer : Result GeneralSas2) → answer ≡ general_read_sas2 s
+    → RefusesExactly answer (Sized ReportGeneral (byte s 3) (length s) × T (general_fixed s)) (λ n. (n ≡ 1) ⊎ (n ≡ 2))
 unfolding general_read_sas2
-sas2_exactly s answer q = as_said _ (sas2_answer answer) (general_read_sas2 s) _ _ q (shows _ (general_read s) _ _ (general-read s)) (λ t. t) (λ t. t)
+sas2_exactly s answer q = as_said _ answer (general_read_sas2 s) _ _ q (shows _ (general_read s) _ _ (general-read s)) (λ t. t) (λ t. t)
 
-pub discover-exactly : (s : List ℕ) (answer : DiscoverRead) → discover_answer answer ≡ discover_read s
-    → RefusesExactly (discover_answer answer) (Sized Discover (byte s 3) (length s) × T (discover_fixed s)) (λ n. (n ≡ 1) ⊎ (n ≡ 2))
+pub discover-exactly : (s : List ℕ) (answer : Result Discovered) → answer ≡ discover_read s
+    → RefusesExactly answer (Sized Discover (byte s 3) (length s) × T (discover_fixed s)) (λ n. (n ≡ 1) ⊎ (n ≡ 2))
 unfolding discover_read
 discover-exactly s answer q =
-    as_said _ (discover_answer answer) (discover_read s) _ _ q
+    as_said _ answer (discover_read s) _ _ q
     (itself _ (inl refl) (inr refl) Discover s discover_in _ (fixed _ (inl refl) (inr refl) (discover_fixed s) _)) (λ t. t) (λ t. t)
 
 -- reading a request: its length (1), bytes 0, 1 and 3 (2), its phy (15)
-pub route-exactly : (s : List ℕ) (answer : RouteRead) → route_answer answer ≡ route_read s
-    → RefusesExactly (route_answer answer) ((length s ≡ 40) × (T (route_fixed s) × (byte s 9 ≤ 127))) (λ n. (n ≡ 1) ⊎ ((n ≡ 2) ⊎ (n ≡ 15)))
+pub route-exactly : (s : List ℕ) (answer : Result Route) → answer ≡ route_read s
+    → RefusesExactly answer ((length s ≡ 40) × (T (route_fixed s) × (byte s 9 ≤ 127))) (λ n. (n ≡ 1) ⊎ ((n ≡ 2) ⊎ (n ≡ 15)))
 unfolding route_read
 route-exactly s answer q =
-    as_said _ (route_answer answer) (route_read s) _ _ q
+    as_said _ answer (route_read s) _ _ q
     (passes _ (eqb (length s) 40) 1 _ _ (inl refl)
     (passes _ (route_fixed s) 2 _ _ (inr (inl refl)) (passes _ (leb (byte s 9) 127) 15 _ _ (inr (inr refl)) (yields _ _ (Unit {0}) tt))))
     (λ t. (eqb→eq (length s) 40 t.0, (t.1.0, leb→le (byte s 9) 127 t.1.1.0)))
     (λ t. (is-length s 40 t.0, (t.1.0, (le→leb (byte s 9) 127 t.1.1, tt))))
 
 -- writing a request: REQUEST LENGTH (2), its phy (15), the room (16)
-pub written-exactly : (room : ℕ) (request : Route) (answer : RouteWrite) → write_answer request answer ≡ route_written room request
+pub written-exactly : (room : ℕ) (request : Route) (answer : Result Unit) → write_answer request answer ≡ route_written room request
     → RefusesExactly (write_answer request answer) (T (is_length request.length) × ((request.phy.0 ≤ 127) × (40 ≤ room))) (λ n. (n ≡ 2) ⊎ ((n ≡ 15) ⊎ (n ≡ 16)))
 unfolding route_written
 written-exactly room request answer q =

@@ -8,11 +8,9 @@ use lib.Dec.{eqb, leb}
 use borrow.Author.Tests.{le-leb, leb-true}
 use Rattle.frames.specs.Bytes.{number_at, bytes_of}
 use Rattle.frames.specs.Refusals.{Result, good, unless, refusal}
-use Rattle.frames.specs.ConfigureRoute.{is_length, route_frame, route_written, part_after, route_answer, route_fixed, route_read}
+use Rattle.frames.specs.ConfigureRoute.{is_length, route_frame, route_written, part_after, route_fixed, route_read}
 use Rattle.frames.specs.declared.Refusal.{Refusal}
 use Rattle.frames.specs.declared.Route.{Route}
-use Rattle.frames.specs.declared.RouteRead.{RouteRead}
-use Rattle.frames.specs.declared.RouteRead.TheVariants.{Refused, Read}
 use Rattle.frames.proofs.ByteNumbers.{number-back}
 
 -- a written request has its length, its phy and its room
@@ -59,14 +57,10 @@ frames-differ q r a b e =
     let s : ◌≡◌ {A = Result Route} (good q) (good r) = sym (round_trip q a) ∙ ap route_read e ∙ round_trip r b in
     cc
 
-read-good : (answer : RouteRead) (q : Route) → route_answer answer ≡ good q → answer ≡ Read q
-read-good (Refused r) q e = let z : ◌≡◌ {A = ℕ} 0 1 = cc in absurd (omega arith)
-read-good (Read p) q e = cc
-
 -- over the two functions' promises: what was read of the part that was handed back is what was written
-pub promised_back : (room : ℕ) (q : Route) (part : List ℕ) (answer : RouteRead) → Allowed q → 40 ≤ room
-    → part ≡ part_after (route_written room q) → route_answer answer ≡ route_read part → answer ≡ Read q
+pub promised_back : (room : ℕ) (q : Route) (part : List ℕ) (answer : Result Route) → Allowed q → 40 ≤ room
+    → part ≡ part_after (route_written room q) → answer ≡ route_read part → answer ≡ good q
 unfolding route_written
 promised_back room q part answer a h e r =
     let p : part ≡ route_frame q = e ∙ simp (a.length, le-leb q.phy.0 127 a.phy, le-leb 40 room h) in
-    read-good answer q (r ∙ ap route_read p ∙ round_trip q a)
+    r ∙ ap route_read p ∙ round_trip q a

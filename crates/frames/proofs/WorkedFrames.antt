@@ -8,8 +8,11 @@ use Rattle.frames.specs.Bits.{number_bits, field, bits_of, packed_in, marked}
 use Rattle.frames.specs.Bytes.{number_at, bytes_of}
 use Rattle.frames.specs.Refusals.{refused, good, refusal}
 use Rattle.frames.specs.Sizes.{frame_size}
-use Rattle.frames.specs.ReportGeneral.{general_fixed, general_read, short, long, general_read_sas2}
-use Rattle.frames.specs.Discovery.{Discovered, vacant, fields, discover_fixed, discover_read}
+use Rattle.frames.specs.ReportGeneral.{general_fixed, general_read, general_read_sas2}
+use Rattle.frames.specs.declared.GeneralSas2.TheVariants.{Short as short, Long as long}
+use Rattle.frames.specs.Discovery.{discover_fixed, discover_read}
+use Rattle.frames.specs.declared.Discovered.{Discovered}
+use Rattle.frames.specs.declared.Discovered.TheVariants.{Vacant as vacant, Fields as fields}
 use Rattle.frames.specs.ConfigureRoute.{route_frame, route_written, route_fixed, route_read}
 use Rattle.frames.specs.declared.General.{General}
 use Rattle.frames.specs.declared.Route.{Route}

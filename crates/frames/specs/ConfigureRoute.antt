@@ -3,10 +3,6 @@ use Rattle.std.specs.Prelude.{ℕ, Bool, cond, ◌&&◌, ◌||◌, List, [], ◌
 use Rattle.frames.specs.Bytes.{byte, bits, number_at, bytes_of}
 use Rattle.frames.specs.Refusals.{Result, refused, good, unless, refusal}
 use Rattle.frames.specs.declared.Route.{Route}
-use Rattle.frames.specs.declared.RouteRead.{RouteRead}
-use Rattle.frames.specs.declared.RouteRead.TheVariants.{Refused, Read}
-use Rattle.frames.specs.declared.RouteWrite.{RouteWrite}
-use Rattle.frames.specs.declared.RouteWrite.TheVariants.{Refused as NotWritten, Written}
 
 -- byte 3, REQUEST LENGTH: 00h or 09h
 abbrev pub is_length : ℕ → Bool
@@ -31,9 +27,9 @@ route_written room q =
     (good (route_frame q))))
 
 -- what the answer to writing says in document 01's terms, given the request
-abbrev pub write_answer : Route → RouteWrite → Result (List ℕ)
-write_answer q (NotWritten r) = refused r
-write_answer q Written = good (route_frame q)
+abbrev pub write_answer : Route → Result Unit → Result (List ℕ)
+write_answer q (refused r) = refused r
+write_answer q (good done) = good (route_frame q)
 
 -- the whole buffer after writing, and the part that is handed back: empty where refused
 abbrev pub buffer_after : List ℕ → Result (List ℕ) → List ℕ
@@ -43,11 +39,6 @@ buffer_after buf (good frame) = frame ++ drop 40 buf
 abbrev pub part_after : Result (List ℕ) → List ℕ
 part_after (refused r) = []
 part_after (good frame) = frame
-
--- what the answer to reading says in document 01's terms
-abbrev pub route_answer : RouteRead → Result Route
-route_answer (Refused r) = refused r
-route_answer (Read q) = good q
 
 -- bytes 0, 1 and 3
 unfoldable pub route_fixed : List ℕ → Bool

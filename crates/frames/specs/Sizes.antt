@@ -4,8 +4,6 @@ use Rattle.frames.specs.Bytes.{byte}
 use Rattle.frames.specs.Refusals.{Result, refused, good, unless, then, refusal}
 use Rattle.frames.specs.declared.Response.{Response}
 use Rattle.frames.specs.declared.Response.TheVariants.{ReportGeneral, Discover}
-use Rattle.frames.specs.declared.SizeRead.{SizeRead}
-use Rattle.frames.specs.declared.SizeRead.TheVariants.{Refused, Size}
 
 -- a short response, with byte 3 zero
 abbrev pub short_size : Response → ℕ
@@ -39,11 +37,6 @@ module _ {A : Type 0} where
   -- reading one frame by itself: its size by the first four bytes (1, 2), exactly so many bytes (1), then what its other bytes say
   abbrev pub by_itself : Response → (List ℕ → Result A) → List ℕ → Result A
   by_itself kind rest s = then (frame_size kind s) (λ size. unless (eqb (length s) size) (refusal 1 0 0) (rest s))
-
--- what the answer says in document 01's terms
-abbrev pub size_answer : SizeRead → Result ℕ
-size_answer (Refused r) = refused r
-size_answer (Size n) = good n
 
 -- the short frame of the frame that starts with these bytes: its first bytes, with byte 3 zero
 abbrev pub short_frame : Response → List ℕ → List ℕ

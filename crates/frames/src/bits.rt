@@ -56,10 +56,8 @@ fn zero_byte(words: &[u64], at: usize) -> u8
     ensures { result ≡ field 8 (drop at (zero_bits words.now)) }
 {
     let mut x: u8 = 0;
-    let mut k: usize = 0;
-    while k < 8 {
+    for k in 0..8 {
         x = 2 * x + zero_bit(words, at + k);
-        k += 1;
     }
     x
 }
@@ -69,12 +67,10 @@ fn eight_alike(words: &[u64], at: usize, zero: bool) -> bool
     requires { at + 8 ≤ length words.now }
     ensures { result ≡ eqb (field 8 (drop at (zero_bits words.now))) (cond zero 255 0) }
 {
-    let mut k: usize = 0;
-    while k < 8 {
+    for k in 0..8 {
         if (words[at + k] == 0) != zero {
             return false;
         }
-        k += 1;
     }
     true
 }
@@ -105,9 +101,7 @@ pub fn mark_zeros(words: &[u64], bits: &mut [u8])
     if bits.len() < n {
         return;
     }
-    let mut i: usize = 0;
-    while i < n {
+    for i in 0..n {
         bits[i] = byte_of_eight(words, 8 * i);
-        i += 1;
     }
 }

@@ -1,8 +1,8 @@
 // CONFIGURE ROUTE INFORMATION requests.
 ghost use Rattle.std.specs.Prelude.{◌≡◌, ◌++◌, ◌≤◌, length, drop};
-ghost use Rattle.frames.specs.ConfigureRoute.{is_length, disable_byte, route_frame, route_written, write_answer, buffer_after, part_after, route_answer, route_fixed, is_disabled, route_read};
+ghost use Rattle.frames.specs.ConfigureRoute.{is_length, disable_byte, route_frame, route_written, write_answer, buffer_after, part_after, route_fixed, is_disabled, route_read};
 
-use crate::{PhyId, Route, RouteIndex, RouteRead, RouteWrite, bytes, refusals};
+use crate::{PhyId, Refusal, Route, RouteIndex, bytes, refusals};
 
 // Whether byte 3, REQUEST LENGTH, may be this: 00h or 09h.
 fn is_length(b: u8) -> bool
@@ -43,36 +43,31 @@ fn put_frame(buf: &mut [u8], request: Route)
 
 // Whether a request can be written into the buffer: REQUEST LENGTH (2), the phy (15), then the room (16).
 // It is given what the writers are given, and writes nothing.
-pub fn route_refusal(buf: &[u8], request: Route) -> RouteWrite
+pub fn route_refusal(buf: &[u8], request: Route) -> Result<(), Refusal>
     ensures { write_answer request result ≡ route_written (length buf.now) request }
 {
     let stated = is_length(request.length);
     let identifier = request.phy.0;
     if !stated {
-        return RouteWrite::Refused(refusals::refused(2));
+        return Err(refusals::refused(2)); // REQUEST LENGTH
     }
     if identifier > 127 {
-        return RouteWrite::Refused(refusals::refused(15));
+        return Err(refusals::refused(15));
     }
     if buf.len() < crate::ROUTE_BYTES {
-        return RouteWrite::Refused(refusals::refused(16));
+        return Err(refusals::refused(16));
     }
-    RouteWrite::Written
+    Ok(())
 }
 
 // Writes the request at the front of the buffer. The bytes after the forty stay, and all of them
 // where it is refused.
-pub fn put_route(buf: &mut [u8], request: Route) -> RouteWrite
+pub fn put_route(buf: &mut [u8], request: Route) -> Result<(), Refusal>
     ensures { (write_answer request result ≡ route_written (length buf.old) request) × (buf.new ≡ buffer_after buf.old (route_written (length buf.old) request)) }
 {
-    let answer = route_refusal(&*buf, request);
-    match answer {
-        RouteWrite::Refused(r) => RouteWrite::Refused(r),
-        RouteWrite::Written => {
-            put_frame(buf, request);
-            RouteWrite::Written
-        }
-    }
+    route_refusal(&*buf, request)?;
+    put_frame(buf, request);
+    Ok(())
 }
 
 // Writes the request as put_route does, and hands back the forty bytes of the buffer that hold it:
@@ -82,8 +77,8 @@ pub fn write_route<'a>(buf: &'a mut [u8], request: Route) -> &'a mut [u8]
 {
     let answer = put_route(buf, request);
     match answer {
-        RouteWrite::Refused(_) => &mut buf[..0],
-        RouteWrite::Written => &mut buf[..40],
+        Err(_) => &mut buf[..0],
+        Ok(()) => &mut buf[..crate::ROUTE_BYTES],
     }
 }
 
@@ -110,20 +105,20 @@ fn is_disabled(frame: &[u8]) -> bool
 }
 
 // Reads one request. Its length (1), bytes 0, 1 and 3 (2) and phy (15) are checked in this order.
-pub fn read_route(frame: &[u8]) -> RouteRead
-    ensures { route_answer result ≡ route_read frame.now }
+pub fn read_route(frame: &[u8]) -> Result<Route, Refusal>
+    ensures { result ≡ route_read frame.now }
 {
     if frame.len() != crate::ROUTE_BYTES {
-        return RouteRead::Refused(refusals::refused(1));
+        return Err(refusals::refused(1));
     }
     if !is_fixed(frame) {
-        return RouteRead::Refused(refusals::refused(2));
+        return Err(refusals::refused(2));
     }
     let phy = frame[9];
     if phy > 127 {
-        return RouteRead::Refused(refusals::refused(15));
+        return Err(refusals::refused(15));
     }
-    RouteRead::Read(Route {
+    Ok(Route {
         length: frame[3],
         phy: PhyId(phy),
         index: RouteIndex(bytes::number_at(frame, 6, 2) as u16),

@@ -35,15 +35,15 @@ pub const LONG_DISCOVER_BYTES: usize = 64;
 pub const ROUTE_BYTES: usize = 40;
 
 // A phy identifier: which phy of an expander.
-#[derive(Clone, Copy)]
+#[derive(Clone, Copy, PartialEq, Eq)]
 pub struct PhyId(pub u8);
 
 // A route index: which entry of a phy's routing table.
-#[derive(Clone, Copy)]
+#[derive(Clone, Copy, PartialEq, Eq)]
 pub struct RouteIndex(pub u16);
 
 // An expander number: which expander of a domain file, from 0.
-#[derive(Clone, Copy)]
+#[derive(Clone, Copy, PartialEq, Eq)]
 pub struct ExpanderNumber(pub u8);
 
 // A refusal: "number, expander, phy".
@@ -61,13 +61,6 @@ pub enum Response {
     Discover,
 }
 
-// What finding a frame's size answers: how many bytes it has.
-#[derive(Clone, Copy)]
-pub enum SizeRead {
-    Refused(Refusal),
-    Size(usize),
-}
-
 // The fields of a REPORT GENERAL response: how many route indexes each phy has (R), how many phys
 // there are, and the configurable bit.
 #[derive(Clone, Copy)]
@@ -75,13 +68,6 @@ pub struct General {
     pub route_indexes: u16,
     pub phys: u8,
     pub configurable: u8,
-}
-
-// What reading a REPORT GENERAL response answers.
-#[derive(Clone, Copy)]
-pub enum GeneralRead {
-    Refused(Refusal),
-    Read(General),
 }
 
 // The fields that the SAS-2 reader shows of a long REPORT GENERAL response: TABLE TO TABLE SUPPORTED and
@@ -92,10 +78,9 @@ pub struct LongGeneral {
     pub configures_others: u8,
 }
 
-// What the SAS-2 reader of a REPORT GENERAL response answers: a short frame has no more fields.
+// What the SAS-2 reader shows of a REPORT GENERAL response: a short frame has no more fields.
 #[derive(Clone, Copy)]
-pub enum GeneralReadSas2 {
-    Refused(Refusal),
+pub enum GeneralSas2 {
     Short(General),
     Long(General, LongGeneral),
 }
@@ -112,12 +97,11 @@ pub struct Discover {
     pub attribute: u8,
 }
 
-// What reading a DISCOVER response answers. A vacant phy is reported with its non-zero function result.
+// What a DISCOVER response tells of its phy. A vacant phy is reported with its non-zero function result.
 #[derive(Clone, Copy)]
-pub enum DiscoverRead {
-    Refused(Refusal),
+pub enum Discovered {
     Vacant(u8),
-    Read(Discover),
+    Fields(Discover),
 }
 
 // The fields of a CONFIGURE ROUTE INFORMATION request: REQUEST LENGTH (00h or 09h), phy, route index, the entry's
@@ -129,18 +113,4 @@ pub struct Route {
     pub index: RouteIndex,
     pub address: u64,
     pub disabled: bool,
-}
-
-// What reading a CONFIGURE ROUTE INFORMATION request answers.
-#[derive(Clone, Copy)]
-pub enum RouteRead {
-    Refused(Refusal),
-    Read(Route),
-}
-
-// What writing a CONFIGURE ROUTE INFORMATION request answers.
-#[derive(Clone, Copy)]
-pub enum RouteWrite {
-    Refused(Refusal),
-    Written,
 }

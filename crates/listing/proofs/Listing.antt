@@ -6,14 +6,14 @@ use mathlib.Core.List.{List, [], ◌∷◌, ◌++◌, flat_map, append_assoc}
 use native.Mathlib.Omega.{arith}
 use lib.ListN.{length, get_or, take, drop, length-append}
 use Rattle.tables.specs.WiringDefinitions.{most_slots, most_domain_phys, most_row_words, row_words}
-use Rattle.tables.specs.WiringDefinitions.{Result, good, then, Expanders, keep, Domain, expander_at, phy_at, is_table, Place, places, domain_in, RowsRead, Setting, IndexRoom}
+use Rattle.tables.specs.WiringDefinitions.{Result, good, then, keep, Domain, expander_at, phy_at, is_table, Place, places, domain_in, RowsRead, Setting, IndexRoom}
 use Rattle.tables.proofs.WiringLemmas.{good-one, then-good, read-good, opened}
 use Rattle.tables.specs.filling.Tables.{table, table_places, tables, size, needed}
 use Rattle.tables.specs.lists.GrowingLists.{with_tables}
 use Rattle.tables.specs.filling.Entries.{Entries, room_of}
-use Rattle.tables.specs.JudgingCall.{judged, tables_for, table_call, Counted, counts_in, tables_after}
+use Rattle.tables.specs.declared.Counted.{Counted}
+use Rattle.tables.specs.JudgingCall.{judged, tables_for, table_call, counts_in, tables_after}
 use Rattle.tables.specs.lists.PreparedLists.{judged_in, OwnDone}
-use Rattle.tables.specs.declared.TablesGiven.TheVariants.{Counts}
 use Rattle.tables.proofs.filling.TableLengths.{table-length, tables-length}
 use Rattle.tables.proofs.AcceptedDomains.{judged-file, table_call_iff}
 use Rattle.tables.proofs.lists.LevelListsByOwn.{judged_own, call-done}
@@ -96,15 +96,15 @@ pub record Listed (setting : Setting) (file : List ℕ) (t w : ℕ) (rows words 
 
 -- from what `read_domain` promises, and `give_rows` over the rows that it wrote
 pub listed : (setting : Setting) (file before after first low : List ℕ) (lent left : Entries) (n t w : ℕ) → length before ≡ most_row_words → length first ≡ most_slots → length low ≡ most_domain_phys
-    → RowsRead setting file (Expanders n) before after
-    → OwnDone (then (judged_in setting.chain (length first) (length low) (domain_in (take (row_words * n) after))) (tables_for (room_of lent))) (Counts t w) lent left
+    → RowsRead setting file (good n) before after
+    → OwnDone (then (judged_in setting.chain (length first) (length low) (domain_in (take (row_words * n) after))) (tables_for (room_of lent))) (good (record { table_count = t; word_count = w })) lent left
     → Listed setting file t w (take (row_words * n) after) left.words
 unfolding listing_of
 listed setting file before after first low lent left n t w eb ef el r done =
-    let o = opened setting file before after (λ x q. let g = read-good setting file x q in omega (arith, g.few, g.range.expanders.1)) (Expanders n) r in
+    let o = opened setting file before after (λ x q. let g = read-good setting file x q in omega (arith, g.few, g.range.expanders.1)) (good n) r in
     let here : Domain = domain_in (take (row_words * n) after) in
     let room : IndexRoom here first low = let few = o.1 in record { slots = omega (arith, few.0, few.1); phys = omega (arith, few.0, few.1) } in
-    let g = call-done setting file lent left here (judged_in setting.chain (length first) (length low) here) (Counts t w) o.0 (judged_own setting file first low here o.0 room) done in
+    let g = call-done setting file lent left here (judged_in setting.chain (length first) (length low) here) (good (record { table_count = t; word_count = w })) o.0 (judged_own setting file first low here o.0 room) done in
     let a = then-good (table_call setting file (room_of lent)) counts_in (record { table_count = t; word_count = w }) (sym g.answers) in
     let d : Domain = a.0 in
     let c = (table_call_iff setting file d (room_of lent)).0 a.1 in

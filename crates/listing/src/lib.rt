@@ -12,8 +12,8 @@ pub use text::{refused, too_long, totals};
 
 // What the program uses of the layers below.
 pub use tables::{
-    DomainRead, PHYS_OF_64, ROW_WORDS, ROWS_OF_64, Refusal, SLOTS_OF_64, TablesGiven, give_rows,
-    read_domain, widest,
+    Counted, PHYS_OF_64, ROW_WORDS, ROWS_OF_64, Refusal, SLOTS_OF_64, give_rows, read_domain,
+    widest,
 };
 
 // How many bytes there are for one line.

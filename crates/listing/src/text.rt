@@ -21,10 +21,8 @@ fn put_bytes(out: &mut [u8], at: usize, text: &[u8]) -> usize
     ensures { WordsPut out.old out.new at result text.now }
 {
     let mut to = at;
-    let mut i: usize = 0;
-    while i < text.len() {
+    for i in 0..text.len() {
         to = put_byte(out, to, text[i]);
-        i += 1;
     }
     to
 }

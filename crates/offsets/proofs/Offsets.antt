@@ -21,14 +21,14 @@ use Rattle.files.specs.declared.Phy.{Phy}
 use Rattle.files.specs.declared.Phy.TheVariants.{Vacant}
 use Rattle.files.specs.Settings.{in_range, most_phys}
 use Rattle.files.specs.Domain.{Expander, Domain, expander_at}
-use Rattle.files.specs.File.{Parsed, parsed, size_at, phy_of, phy_unit, phy_units, unit_of, unit_tested, expander_unit, expander_of, expanders, header_unit, domain_read}
+use Rattle.files.specs.File.{parsed, size_at, phy_of, phy_unit, phy_units, unit_of, unit_tested, expander_unit, expander_of, expanders, header_unit, domain_read}
+use Rattle.files.specs.declared.Parsed.{Parsed}
 use Rattle.files.specs.UnitAnswers.{ends_at}
 use Rattle.frames.proofs.LongFrames.{size-least}
 use Rattle.files.proofs.ReadDomain.{read-good, few-phys}
 use Rattle.files.proofs.Domains.{expander-range}
 use Rattle.files.proofs.CallResults.{never, good-one, unless-good, then-good}
 use Rattle.files.proofs.UnitReading.{size-whole, size-within, unit_at, unit-cut, unit-by, general-is, tested-same, phys-count}
-use borrow.Author.Tests.{ne_eqb}
 use Rattle.offsets.specs.Offsets.{Placed, longest_unit}
 use Rattle.offsets.specs.Offsets.{size_from, phys_after, phys_from, expanders_after, expander_offset, phy_offset}
 
@@ -302,13 +302,6 @@ phy-placed most file d e i p h =
     let b = place_after file i 2 in
     let inside = w.inside in
     record { after = omega arith; within = omega arith }
-
--- the size by the byte that was looked at
-pub size-short : (kind : Response) (file : List ℕ) (at b : ℕ) → b ≡ byte file (at + 3) → b ≡ 0 → short_size kind ≡ size_from kind file at
-size-short kind file at b e z = rw (← e, z)
-
-pub size-long : (kind : Response) (file : List ℕ) (at b : ℕ) → b ≡ byte file (at + 3) → (b ≡ 0 → ⊥) → long_size kind ≡ size_from kind file at
-size-long kind file at b e z = rw (← e, ne_eqb b 0 z)
 
 -- one turn of each loop, and its end
 pub phys-go : (file : List ℕ) (n p next v : ℕ) → phys_after file (n - p) next ≡ v → p < n → phys_after file (n - (p + 1)) (next + size_from Discover file next) ≡ v

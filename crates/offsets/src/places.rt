@@ -34,10 +34,8 @@ fn phys_after(file: &[u8], n: u64, at: usize) -> usize
     ensures { (result ≡ phys_after file.now n at) × (result ≤ at + long_size Discover * n) }
 {
     let mut next = at;
-    let mut p: u64 = 0;
-    while p < n {
+    for p in 0..n {
         next += discover_size(file, next);
-        p += 1;
     }
     next
 }
@@ -47,11 +45,9 @@ pub fn expander_offset(file: &[u8], i: ExpanderNumber) -> usize
     ensures { (result ≡ expander_offset file.now i.0) × (result ≤ 2 + longest_unit 255 * i.0) }
 {
     let mut at: usize = 2;
-    let mut k: u8 = 0;
-    while k < i.0 {
+    for k in 0..i.0 {
         let n = wiring::byte_at(file, at + 17);
         at = phys_after(file, n, phys_from(file, at));
-        k += 1;
     }
     at
 }

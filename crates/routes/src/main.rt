@@ -4,7 +4,7 @@
 
 ghost use Rattle.io.specs.Counts.{IsPrefixLen};
 
-use listing::{DomainRead, Refusal, TablesGiven};
+use listing::{Counted, Refusal};
 use std::io::{Read, Stderr, Stdin, Stdout, Write};
 
 // How many bytes of input are listed at most.
@@ -86,12 +86,16 @@ fn print_lines(to: Stdout, rows: &[u64], words: &[u64]) -> bool {
 }
 
 // Writes the lines of all entries, and the totals, and answers whether all were written.
-fn print_tables(to: Stdout, rows: &[u64], words: &[u64], tables: u64, entries: u64) -> bool {
+fn print_tables(to: Stdout, rows: &[u64], words: &[u64], counted: Counted) -> bool {
     if !print_lines(to, rows, words) {
         return false;
     }
     let mut line = [0u8; listing::LINE_BYTES];
-    let end = listing::totals(&mut line, tables, entries);
+    let end = listing::totals(
+        &mut line,
+        counted.table_count as u64,
+        counted.word_count as u64,
+    );
     print(to, &line[..end])
 }
 
@@ -118,8 +122,8 @@ fn print_rows(to: Stdout, rows: &[u64], chain: u8) -> bool {
         chain,
     );
     match given {
-        TablesGiven::Refused(r) => print_refusal(to, r),
-        TablesGiven::Counts(t, w) => print_tables(to, rows, &words[..], t as u64, w as u64),
+        Err(r) => print_refusal(to, r),
+        Ok(counted) => print_tables(to, rows, &words[..], counted),
     }
 }
 
@@ -132,10 +136,9 @@ fn print_listing(to: Stdout, file: &[u8]) -> bool {
     }
     let mut rows = [0u64; listing::ROWS_OF_64];
     let course = listing::widest();
-    let read = listing::read_domain(course, file, &mut rows[..]);
-    match read {
-        DomainRead::Refused(r) => print_refusal(to, r),
-        DomainRead::Expanders(n) => {
+    match listing::read_domain(course, file, &mut rows[..]) {
+        Err(r) => print_refusal(to, r),
+        Ok(n) => {
             let e = listing::ROW_WORDS * (n as usize);
             print_rows(to, &rows[..e], course.chain)
         }

@@ -22,7 +22,6 @@ use Rattle.shelves.specs.Shelf.{CanBeTold, kind_in, made, Done}
 use Rattle.shelves.specs.Calls.{Call, Sent, frames_in, answers_in, left, HoldsTable}
 use Rattle.shelves.specs.TableFrames.{entry_in, request, written, frames_from, frames_of, with_table}
 use Rattle.shelves.specs.declared.Shelf.{Shelf}
-use Rattle.shelves.specs.declared.Answer.TheVariants.{Result as Answered}
 use Rattle.shelves.proofs.ToldKinds.{told-says, made_told}
 use Rattle.shelves.proofs.ShelfAgrees.{put_same, put-other-phy, put-other-index, run, fresh-same, holds_also, one-shelf}
 
@@ -117,14 +116,14 @@ module _ (phys route_indexes : ℕ) (kinds : List ℕ) (numbers : CanBeTold phys
   among j i (suc count) a b =
       by_cases (ℕ_discrete j i) (λ e. Memᴰ.head (ap (λ (n : ℕ). route_frame (q n)) e ∙ sym (writes i))) (λ e. Memᴰ.tail (among j (i + 1) count (omega arith) (omega arith)))
 
-  answer_00h : (fs : List (List ℕ)) → ((f : List ℕ) → Memᴰ f fs → From f) → table_answers phys route_indexes (kind_in kinds) fs ≡ replicate (length fs) (Answered 0x00)
+  answer_00h : (fs : List (List ℕ)) → ((f : List ℕ) → Memᴰ f fs → From f) → table_answers phys route_indexes (kind_in kinds) fs ≡ replicate (length fs) (good 0x00)
   unfolding table_answers
   answer_00h [] all = refl
   answer_00h (f ∷ fs) all =
       let w = all f (Memᴰ.head refl) in
-      let s : answer_to phys route_indexes (kind_in kinds) (route_read f) ≡ Answered 0x00 =
+      let s : answer_to phys route_indexes (kind_in kinds) (route_read f) ≡ good 0x00 =
       ap (λ (g : List ℕ). answer_to phys route_indexes (kind_in kinds) (route_read g)) w.is
-      ∙ (ap (answer_to phys route_indexes (kind_in kinds)) (read_back w.index w.below) ∙ ap Answered (gives_00h w.index w.below)) in
+      ∙ (ap (answer_to phys route_indexes (kind_in kinds)) (read_back w.index w.below) ∙ ap good (gives_00h w.index w.below)) in
       let r = answer_00h fs (λ g m. all g (Memᴰ.tail m)) in
       λ i. s i ∷ r i
 
@@ -174,7 +173,7 @@ module _ (phys route_indexes : ℕ) (kinds : List ℕ) (numbers : CanBeTold phys
 
   -- from any shelf that holds a table, in any order: each answer is 00h, the table is there, and every other entry is as it was
   pub any_order : (s : Shelf) (t : Table) (cs : List Call) → HoldsTable phys route_indexes kinds s t → Sent s cs → Permᴰ (frames_of stated phy entry route_indexes) (frames_in cs)
-      → (answers_in cs ≡ replicate (length (frames_in cs)) (Answered 0x00)) × HoldsTable phys route_indexes kinds (left s cs) (with_table t phy route_indexes entry)
+      → (answers_in cs ≡ replicate (length (frames_in cs)) (good 0x00)) × HoldsTable phys route_indexes kinds (left s cs) (with_table t phy route_indexes entry)
   any_order s t cs holds sent order =
       let r = run phys route_indexes kinds numbers cs s t holds sent in
       (r.0 ∙ answer_00h (frames_in cs) (all (frames_in cs) order), holds_also phys route_indexes kinds _ _ (with_table t phy route_indexes entry) r.1 (table-left (frames_in cs) order t))
@@ -210,9 +209,9 @@ pub record Configured (route_indexes : ℕ) (words bits : List ℕ) (first : ℕ
 -- its frames, sent to a fresh shelf of the same R whose phy is a table phy in any order: each is answered 00h, and they leave exactly
 -- that table, an entry disabled exactly where it is 0, and every other entry zero and disabled as it was
 pub table_obeyed : (before s : Shelf) (phys route_indexes : ℕ) (kinds : List ℕ) (stated phy first : ℕ) (words bits : List ℕ) (value : ℕ → ℕ) (cs : List Call)
-    → Done (made before phys route_indexes kinds) (Answered 0x00) s → Configured route_indexes words bits first value → Loadable phys route_indexes kinds stated phy (entry_in words bits first)
+    → Done (made before phys route_indexes kinds) (good 0x00) s → Configured route_indexes words bits first value → Loadable phys route_indexes kinds stated phy (entry_in words bits first)
     → Sent s cs → Permᴰ (frames_of stated phy (entry_in words bits first) route_indexes) (frames_in cs)
-    → (answers_in cs ≡ replicate (length (frames_in cs)) (Answered 0x00)) × HoldsTable phys route_indexes kinds (left s cs) (with_table empty phy route_indexes (λ i. (value i, eqb (value i) 0)))
+    → (answers_in cs ≡ replicate (length (frames_in cs)) (good 0x00)) × HoldsTable phys route_indexes kinds (left s cs) (with_table empty phy route_indexes (λ i. (value i, eqb (value i) 0)))
 table_obeyed before s phys route_indexes kinds stated phy first words bits value cs done table can sent order =
     let m = made_told before phys route_indexes kinds s done in
     let n = told-says phys route_indexes kinds m.0 in

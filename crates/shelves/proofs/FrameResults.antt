@@ -12,8 +12,6 @@ use Rattle.frames.specs.declared.Route.{Route}
 use Rattle.shelves.specs.PlainTable.{result_of}
 use Rattle.shelves.specs.Shelf.{stepped_to, shelf_result, loaded, after_read, stepped, Done}
 use Rattle.shelves.specs.declared.Shelf.{Shelf}
-use Rattle.shelves.specs.declared.Answer.{Answer}
-use Rattle.shelves.specs.declared.Answer.TheVariants.{Result as Answered}
 
 -- what 00h says of a phy and a route index
 pub record Exists (phys route_indexes : ℕ) (kind : ℕ → ℕ) (phy index : ℕ) : Type 0 where
@@ -39,19 +37,19 @@ module _ (s : Shelf) (q : Route) where
   abbrev result : ℕ
   result = shelf_result s q.phy.0 q.index.0
 
-  pub after-good : result ≡ 0x00 → after_read s (good q) ≡ stepped_to (loaded s q) (Answered result)
+  pub after-good : result ≡ 0x00 → after_read s (good q) ≡ stepped_to (loaded s q) (good result)
   unfolding after_read
   after-good e = simp (eq-eqb result 0x00 e)
 
-  pub after-other : (result ≡ 0x00 → ⊥) → after_read s (good q) ≡ stepped_to s (Answered result)
+  pub after-other : (result ≡ 0x00 → ⊥) → after_read s (good q) ≡ stepped_to s (good result)
   unfolding after_read
   after-other e = simp (ne_eqb result 0x00 e)
 
 -- a frame that is refused, or answered with anything but 00h, changes nothing
-kept_read : (s : Shelf) (r : Result Route) → ((after_read s r).answer ≡ Answered 0x00 → ⊥) → (after_read s r).shelf ≡ s
+kept_read : (s : Shelf) (r : Result Route) → ((after_read s r).answer ≡ good 0x00 → ⊥) → (after_read s r).shelf ≡ s
 unfolding after_read
 kept_read s (refused r) n = refl
-kept_read s (good q) n = ap (λ x. x.shelf) (after-other s q (λ e. n (ap Answered e)))
+kept_read s (good q) n = ap (λ x. x.shelf) (after-other s q (λ e. n (ap good e)))
 
-pub kept : (s t : Shelf) (frame : List ℕ) (answer : Answer) → Done (stepped s frame) answer t → (answer ≡ Answered 0x00 → ⊥) → t ≡ s
+pub kept : (s t : Shelf) (frame : List ℕ) (answer : Result ℕ) → Done (stepped s frame) answer t → (answer ≡ good 0x00 → ⊥) → t ≡ s
 kept s t frame answer d n = d.left ∙ kept_read s (route_read frame) (λ e. n (d.answers ∙ e))

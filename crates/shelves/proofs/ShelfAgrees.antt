@@ -17,7 +17,6 @@ use Rattle.shelves.specs.PlainTable.{Table, empty, replaced, result_of, answer_t
 use Rattle.shelves.specs.Shelf.{CanBeTold, kind_in, bit_of, fresh_shelf, made, shelf_result, place, loaded, after_read, Done, entry_at, disabled_at, shelf_entries}
 use Rattle.shelves.specs.Calls.{Call, Sent, frames_in, answers_in, left, HoldsTable}
 use Rattle.shelves.specs.declared.Shelf.{Shelf}
-use Rattle.shelves.specs.declared.Answer.TheVariants.{Result as Answered}
 use Rattle.shelves.proofs.ToldKinds.{told-says, made_told}
 use Rattle.shelves.proofs.FrameResults.{Exists, exists}
 
@@ -95,7 +94,7 @@ module _ (phys route_indexes : ℕ) (kinds : List ℕ) (numbers : CanBeTold phys
     read_same (refused r) = (refl, same)
     read_same (good q) =
         let e = result-same q.phy.0 q.index.0 in
-        (ap Answered e, rw e (by_result q (eqb (result_of phys route_indexes (kind_in kinds) q.phy.0 q.index.0) 0x00) refl))
+        (ap good e, rw e (by_result q (eqb (result_of phys route_indexes (kind_in kinds) q.phy.0 q.index.0) 0x00) refl))
 
   -- by induction on the calls: each leaves the same, by its own promise
   pub run : (cs : List Call) (s : Shelf) (t : Table) → SameTable s t → Sent s cs
@@ -121,7 +120,7 @@ module _ (phys route_indexes : ℕ) (kinds : List ℕ) (numbers : CanBeTold phys
   }
 
 -- for every list of frames from a fresh shelf, shelf and table return the same, and hold the same
-pub agrees : (before s : Shelf) (phys route_indexes : ℕ) (kinds : List ℕ) (cs : List Call) → Done (made before phys route_indexes kinds) (Answered 0x00) s → Sent s cs
+pub agrees : (before s : Shelf) (phys route_indexes : ℕ) (kinds : List ℕ) (cs : List Call) → Done (made before phys route_indexes kinds) (good 0x00) s → Sent s cs
     → (answers_in cs ≡ table_answers phys route_indexes (kind_in kinds) (frames_in cs))
     × HoldsTable phys route_indexes kinds (left s cs) (table_left phys route_indexes (kind_in kinds) empty (frames_in cs))
 agrees before s phys route_indexes kinds cs done sent =

@@ -11,29 +11,16 @@ use lib.Dec.{T}
 use Rattle.frames.specs.Bytes.{byte}
 use Rattle.frames.specs.Refusals.{Result, refused, good, refusal}
 use Rattle.frames.specs.RefusesExactly.{RefusesExactly}
-use Rattle.frames.specs.ConfigureRoute.{route_answer, route_fixed, route_read}
+use Rattle.frames.specs.ConfigureRoute.{route_fixed, route_read}
 use Rattle.frames.specs.declared.Refusal.{Refusal}
 use Rattle.frames.specs.declared.Route.{Route}
-use Rattle.frames.specs.declared.RouteRead.{RouteRead}
-use Rattle.frames.specs.declared.RouteRead.TheVariants.{Refused as NotRead, Read}
 use Rattle.frames.proofs.FrameRefusals.{never, route-exactly, refused-one}
-use Rattle.shelves.specs.Shelf.{CanBeTold, can_be_told, shelf_answer, made, after_read, stepped, Done}
+use Rattle.shelves.specs.Shelf.{CanBeTold, can_be_told, made, after_read, stepped, Done}
 use Rattle.shelves.specs.declared.Shelf.{Shelf}
-use Rattle.shelves.specs.declared.Answer.{Answer}
 use Rattle.shelves.proofs.ToldKinds.{told-says, says-told, made-fresh, made-refused}
 
--- the reader's answer that says this
-reader : Result Route → RouteRead
-reader (refused r) = NotRead r
-reader (good q) = Read q
-
-reader-says : (x : Result Route) → route_answer (reader x) ≡ x
-unfolding reader
-reader-says (refused r) = refl
-reader-says (good q) = refl
-
 -- a shelf refuses where the reader does
-as_read : (s : Shelf) (x : Result Route) (N : Type 0) (P : ℕ → Type 0) → RefusesExactly x N P → RefusesExactly (shelf_answer (after_read s x).answer) N P
+as_read : (s : Shelf) (x : Result Route) (N : Type 0) (P : ℕ → Type 0) → RefusesExactly x N P → RefusesExactly (after_read s x).answer N P
 unfolding after_read
 as_read s (refused r) N P e = record {
   answers = (λ a. never r a.0 a.1, λ n. let a = e.answers.1 n in never r a.0 a.1);
@@ -48,18 +35,16 @@ Frame frame = (length frame ≡ 40) × (T (route_fixed frame) × (byte frame 9 �
 abbrev frame_number : ℕ → Type 0
 frame_number n = (n ≡ 1) ⊎ ((n ≡ 2) ⊎ (n ≡ 15))
 
-pub obey-exactly : (s t : Shelf) (frame : List ℕ) (answer : Answer) → Done (stepped s frame) answer t → RefusesExactly (shelf_answer answer) (Frame frame) frame_number
+pub obey-exactly : (s t : Shelf) (frame : List ℕ) (answer : Result ℕ) → Done (stepped s frame) answer t → RefusesExactly answer (Frame frame) frame_number
 obey-exactly s t frame answer d =
-    let x = route_read frame in
-    let r : RefusesExactly (route_read frame) (Frame frame) frame_number = subst (λ (y : Result Route). RefusesExactly y (Frame frame) frame_number) (reader-says x) (route-exactly frame (reader x) (reader-says x)) in
-    subst (λ (a : Answer). RefusesExactly (shelf_answer a) (Frame frame) frame_number) (sym d.answers) (as_read s x (Frame frame) frame_number r)
+    subst (λ (a : Result ℕ). RefusesExactly a (Frame frame) frame_number) (sym d.answers) (as_read s (route_read frame) (Frame frame) frame_number (route-exactly frame (route_read frame) refl))
 
 -- what a fresh shelf is told
-pub fresh-exactly : (s t : Shelf) (phys route_indexes : ℕ) (kinds : List ℕ) (answer : Answer) → Done (made s phys route_indexes kinds) answer t
-    → RefusesExactly (shelf_answer answer) (CanBeTold phys route_indexes kinds) (λ n. n ≡ 3)
-fresh-exactly s t phys route_indexes kinds answer d = subst (λ (a : Answer). RefusesExactly (shelf_answer a) (CanBeTold phys route_indexes kinds) (λ n. n ≡ 3)) (sym d.answers) (go (can_be_told phys route_indexes kinds) refl)
+pub fresh-exactly : (s t : Shelf) (phys route_indexes : ℕ) (kinds : List ℕ) (answer : Result ℕ) → Done (made s phys route_indexes kinds) answer t
+    → RefusesExactly answer (CanBeTold phys route_indexes kinds) (λ n. n ≡ 3)
+fresh-exactly s t phys route_indexes kinds answer d = subst (λ (a : Result ℕ). RefusesExactly a (CanBeTold phys route_indexes kinds) (λ n. n ≡ 3)) (sym d.answers) (go (can_be_told phys route_indexes kinds) refl)
   where
-    go : (b : Bool) → can_be_told phys route_indexes kinds ≡ b → RefusesExactly (shelf_answer (made s phys route_indexes kinds).answer) (CanBeTold phys route_indexes kinds) (λ n. n ≡ 3)
+    go : (b : Bool) → can_be_told phys route_indexes kinds ≡ b → RefusesExactly (made s phys route_indexes kinds).answer (CanBeTold phys route_indexes kinds) (λ n. n ≡ 3)
     go true e =
         rw (made-fresh s phys route_indexes kinds e)
         (record { answers = (λ _. told-says phys route_indexes kinds e, λ _. (0, refl)); numbers = λ r z. never r _ (sym z) })

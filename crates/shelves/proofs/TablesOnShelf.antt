@@ -16,14 +16,12 @@ use Rattle.files.specs.File.{domain_read}
 use Rattle.tables.specs.filling.Entries.{Entries, room_of}
 use Rattle.tables.specs.filling.Tables.{level_list, offset}
 use Rattle.tables.specs.JudgingCall.{table_call, TablesDone, IndexForIndex}
-use Rattle.tables.specs.declared.TablesGiven.TheVariants.{Counts}
 use Rattle.tables.proofs.filling.TableStretches.{index_for_index-file}
 use Rattle.shelves.specs.PlainTable.{empty}
 use Rattle.shelves.specs.Shelf.{kind_in, made, Done}
 use Rattle.shelves.specs.Calls.{Call, Sent, frames_in, answers_in, left, HoldsTable}
 use Rattle.shelves.specs.TableFrames.{entry_in, frames_of, with_table}
 use Rattle.shelves.specs.declared.Shelf.{Shelf}
-use Rattle.shelves.specs.declared.Answer.TheVariants.{Result as Answered}
 use Rattle.shelves.proofs.FrameOrders.{Configured, table_obeyed}
 
 -- what the table call leaves for a table phy is one configured table: its level list, and zeros up to R words
@@ -38,12 +36,12 @@ given-table d before after x p all t = record {
 -- the words and bits of a table call on a file, of which the table of phy p of expander x is written as frames: a fresh shelf of that R
 -- whose phy p is a table phy answers 00h to each, in any order, and is left with that table, every other entry as it was
 pub given_obeyed : (setting : Setting) (file : List ℕ) (d : Domain) (before after : Entries) (c w : ℕ) → domain_read setting file ≡ good d
-    → TablesDone (table_call setting file (room_of before)) (Counts c w) before after → ((k : ℕ) → get_or after.words k 0 < 2 ^ 64)
+    → TablesDone (table_call setting file (room_of before)) (good (record { table_count = c; word_count = w })) before after → ((k : ℕ) → get_or after.words k 0 < 2 ^ 64)
     → (x p : ℕ) → T (is_table (phy_at d x p))
-    → (there s : Shelf) (phys : ℕ) (kinds : List ℕ) → Done (made there phys (expander_at d x).route_indexes kinds) (Answered 0x00) s → p < phys → kind_in kinds p ≡ 1
+    → (there s : Shelf) (phys : ℕ) (kinds : List ℕ) → Done (made there phys (expander_at d x).route_indexes kinds) (good 0x00) s → p < phys → kind_in kinds p ≡ 1
     → (stated : ℕ) → is_length stated ≡ true → (cs : List Call) → Sent s cs
     → Permᴰ (frames_of stated p (entry_in after.words after.bits (offset d x p)) (expander_at d x).route_indexes) (frames_in cs)
-    → (answers_in cs ≡ replicate (length (frames_in cs)) (Answered 0x00))
+    → (answers_in cs ≡ replicate (length (frames_in cs)) (good 0x00))
     × HoldsTable phys (expander_at d x).route_indexes kinds (left s cs) (with_table empty p (expander_at d x).route_indexes (λ i. (get_or (level_list d x p) i 0, eqb (get_or (level_list d x p) i 0) 0)))
 given_obeyed setting file d before after c w e tables words x p t there s phys kinds done a b stated l cs sent order =
     let i = index_for_index-file setting file d before after c w e tables in

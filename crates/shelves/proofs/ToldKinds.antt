@@ -1,47 +1,16 @@
 -- What a fresh shelf is told: its kinds tested, and followed by zeros up to sixteen.
-use Prim.Native.Nat.{ℕ, zero, suc, ◌+◌, ◌-◌, ◌≤◌, ◌<◌}
+use Prim.Native.Nat.{ℕ, zero, suc, ◌≤◌}
 use mathlib.Core.Path.{◌≡◌, refl, sym, ◌∙◌, ap}
 use mathlib.Core.Bool.{Bool, true, false}
-use mathlib.Core.List.{List, [], ◌∷◌, ◌++◌}
+use mathlib.Core.List.{List, [], ◌∷◌}
 use native.Mathlib.Omega.{arith}
-use native.Mathlib.Numerals.{add-one}
-use lib.ListN.{length, get_or, take, drop, set, replicate, drop_of_length-le}
-use lib.Seq.{drop-cons, append_snoc, length-take-le, set_at, take_all}
+use lib.ListN.{length, get_or}
 use lib.Dec.{leb}
-use borrow.Author.Tests.{le-leb, lt-leb, leb-true, eqb-true, eq-eqb}
-use Rattle.frames.specs.Refusals.{refusal}
+use borrow.Author.Tests.{le-leb, leb-true, eqb-true, eq-eqb}
+use Rattle.frames.specs.Refusals.{Result, refused, good, refusal}
 use Rattle.files.proofs.CallResults.{both}
-use Rattle.files.proofs.OneMore.{take_next}
-use Rattle.shelves.specs.Shelf.{stepped_to, are_kinds, can_be_told, CanBeTold, sixteen, fresh_shelf, made, Done}
+use Rattle.shelves.specs.Shelf.{stepped_to, are_kinds, can_be_told, CanBeTold, fresh_shelf, made, Done}
 use Rattle.shelves.specs.declared.Shelf.{Shelf}
-use Rattle.shelves.specs.declared.Answer.TheVariants.{Refused, Result as Answered}
-
-pub kinds_wrong : (s : List ℕ) (i : ℕ) → i < length s → 2 < get_or s i 0 → are_kinds (drop i s) ≡ false
-unfolding are_kinds
-kinds_wrong s i h k = rw (drop-cons s i 0 h) (simp (lt-leb (get_or s i 0) 2 k))
-
-pub kinds-next : (s : List ℕ) (i : ℕ) → i < length s → get_or s i 0 ≤ 2 → are_kinds (drop (i + 1) s) ≡ are_kinds (drop i s)
-unfolding are_kinds
-kinds-next s i h k = rw (add-one, drop-cons s i 0 h) (simp (le-leb (get_or s i 0) 2 k))
-
-pub kinds-end : (s : List ℕ) (i : ℕ) → length s ≤ i → are_kinds (drop i s) ≡ true
-unfolding are_kinds
-kinds-end s i h = ap are_kinds (drop_of_length-le s h)
-
--- one kind more before the zeros
-pub padded-next : (s : List ℕ) (i : ℕ) → i < length s → i < 16 → set (take i s ++ replicate (16 - i) 0) i (get_or s i 0) ≡ take (i + 1) s ++ replicate (16 - (i + 1)) 0
-padded-next s i h k =
-    let z : List ℕ = replicate (16 - (i + 1)) 0 in
-    let e : 16 - i ≡ suc (16 - (i + 1)) = omega arith in
-    let f : take i s ++ replicate (16 - i) 0 ≡ take i s ++ (0 ∷ z) = ap (λ (n : ℕ). take i s ++ replicate n 0) e in
-    let u = take_next 0 s i h in
-    let g : take (i + 1) s ++ z ≡ take i s ++ (get_or s i 0 ∷ z) = ap (λ (l : List ℕ). l ++ z) u ∙ append_snoc (take i s) (get_or s i 0) z in
-    ap (λ (l : List ℕ). set l i (get_or s i 0)) f ∙ (set_at (take i s) 0 z (get_or s i 0) i (length-take-le i s (omega arith)) ∙ sym g)
-
-pub padded-end : (s l : List ℕ) (i : ℕ) → i ≡ length s → l ≡ take i s ++ replicate (16 - i) 0 → l ≡ sixteen s
-padded-end s l i e f =
-    let g : take i s ≡ s = take_all i s (omega arith) in
-    f ∙ (ap (λ (m : List ℕ). m ++ replicate (16 - i) 0) g ∙ ap (λ (n : ℕ). s ++ replicate (16 - n) 0) e)
 
 kinds-known : (ks : List ℕ) → are_kinds ks ≡ true → (i : ℕ) → get_or ks i 0 ≤ 2
 unfolding are_kinds
@@ -70,22 +39,22 @@ says-told phys route_indexes kinds t =
     simp (le-leb 1 phys t.some, le-leb phys 16 t.few, le-leb route_indexes 64 t.short, eq-eqb (length kinds) phys t.each) (known-kinds kinds t.known)
 
 module _ (s : Shelf) (phys route_indexes : ℕ) (kinds : List ℕ) where
-  pub made-fresh : can_be_told phys route_indexes kinds ≡ true → made s phys route_indexes kinds ≡ stepped_to (fresh_shelf phys route_indexes kinds) (Answered 0x00)
+  pub made-fresh : can_be_told phys route_indexes kinds ≡ true → made s phys route_indexes kinds ≡ stepped_to (fresh_shelf phys route_indexes kinds) (good 0x00)
   unfolding made
   made-fresh e = simp e
 
-  pub made-refused : can_be_told phys route_indexes kinds ≡ false → made s phys route_indexes kinds ≡ stepped_to s (Refused (refusal 3 0 0))
+  pub made-refused : can_be_told phys route_indexes kinds ≡ false → made s phys route_indexes kinds ≡ stepped_to s (refused (refusal 3 0 0))
   unfolding made
   made-refused e = simp e
 
-  answered : (b : Bool) → can_be_told phys route_indexes kinds ≡ b → (made s phys route_indexes kinds).answer ≡ Answered 0x00 → b ≡ true
+  answered : (b : Bool) → can_be_told phys route_indexes kinds ≡ b → (made s phys route_indexes kinds).answer ≡ good 0x00 → b ≡ true
   answered true e f = refl
   answered false e f =
-      let g : Refused (refusal 3 0 0) ≡ Answered 0x00 = sym (ap (λ x. x.answer) (made-refused e)) ∙ f in
+      let g : ◌≡◌ {A = Result ℕ} (refused (refusal 3 0 0)) (good 0x00) = sym (ap (λ x. x.answer) (made-refused e)) ∙ f in
       let z : ◌≡◌ {A = ℕ} 0 1 = cc in absurd (omega arith)
 
   -- what it answered 00h to could be told, and made the fresh shelf
-  pub made_told : (t : Shelf) → Done (made s phys route_indexes kinds) (Answered 0x00) t → (can_be_told phys route_indexes kinds ≡ true) × (t ≡ fresh_shelf phys route_indexes kinds)
+  pub made_told : (t : Shelf) → Done (made s phys route_indexes kinds) (good 0x00) t → (can_be_told phys route_indexes kinds ≡ true) × (t ≡ fresh_shelf phys route_indexes kinds)
   made_told t d =
       let e : can_be_told phys route_indexes kinds ≡ true = answered (can_be_told phys route_indexes kinds) refl (sym d.answers) in
       (e, d.left ∙ ap (λ x. x.shelf) (made-fresh e))

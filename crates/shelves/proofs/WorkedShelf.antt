@@ -5,13 +5,11 @@ use mathlib.Core.Bool.{Bool, true, false}
 use mathlib.Core.List.{List, [], ◌∷◌}
 use lib.ListN.{replicate}
 use Rattle.frames.specs.Bytes.{number_at, bytes_of}
-use Rattle.frames.specs.Refusals.{refusal}
+use Rattle.frames.specs.Refusals.{Result, refused, good, refusal}
 use Rattle.frames.specs.ConfigureRoute.{route_frame, route_fixed, route_read}
 use Rattle.shelves.specs.PlainTable.{empty, result_of, table_answers, table_after, table_left}
 use Rattle.shelves.specs.Shelf.{are_kinds, can_be_told, kind_in, fresh_shelf, loaded, after_read, stepped, entry_at, disabled_at, shelf_entries}
 use Rattle.shelves.specs.declared.Shelf.{Shelf}
-use Rattle.shelves.specs.declared.Answer.{Answer}
-use Rattle.shelves.specs.declared.Answer.TheVariants.{Refused, Result as Answered}
 
 -- a phy count out of range, R out of range, fewer or more kinds than phys, a kind above 2; R 0 and 16 phys can be told
 tells : (can_be_told 4 2 (1 ∷ 0 ∷ 2 ∷ 1 ∷ []) ≡ true)
@@ -37,7 +35,7 @@ shelf = fresh_shelf 4 2 kinds
 abbrev frame : ℕ → ℕ → ℕ → Bool → List ℕ
 frame phy index address disabled = route_frame (record { length = 0; phy = record { 0 = phy }; index = record { 0 = index }; address = address; disabled = disabled })
 
-abbrev answer : Shelf → List ℕ → Answer
+abbrev answer : Shelf → List ℕ → Result ℕ
 answer s f = (stepped s f).answer
 
 abbrev then : Shelf → List ℕ → Shelf
@@ -48,11 +46,11 @@ then s f = (stepped s f).shelf
 abbrev sent : List (List ℕ)
 sent = frame 4 0 7 false ∷ frame 1 0 7 false ∷ frame 1 2 7 false ∷ frame 2 0 7 false ∷ frame 3 2 7 false ∷ frame 128 0 7 false ∷ [] ∷ frame 3 1 7 false ∷ frame 3 1 8 true ∷ []
 
-abbrev told_back : List Answer
+abbrev told_back : List (Result ℕ)
 told_back =
-    Answered 0x10 ∷ Answered 0x16 ∷ Answered 0x16 ∷ Answered 0x11 ∷ Answered 0x11 ∷ Refused (refusal 15 0 0) ∷ Refused (refusal 1 0 0) ∷ Answered 0x00 ∷ Answered 0x00 ∷ []
+    good 0x10 ∷ good 0x16 ∷ good 0x16 ∷ good 0x11 ∷ good 0x11 ∷ refused (refusal 15 0 0) ∷ refused (refusal 1 0 0) ∷ good 0x00 ∷ good 0x00 ∷ []
 
-abbrev all : (Shelf → List ℕ → Answer) → List (List ℕ) → List Answer
+abbrev all : (Shelf → List ℕ → Result ℕ) → List (List ℕ) → List (Result ℕ)
 all a [] = []
 all a (f ∷ fs) = a shelf f ∷ all a fs
 
@@ -73,10 +71,10 @@ first = 0x40 ∷ 0x90 ∷ 0 ∷ 9 ∷ 0 ∷ 0 ∷ 0 ∷ 1 ∷ 0 ∷ 3 ∷ 0 ∷ 
 second : List ℕ
 second = 0x40 ∷ 0x90 ∷ 0 ∷ 9 ∷ 0 ∷ 0 ∷ 0 ∷ 0 ∷ 0 ∷ 0 ∷ 0 ∷ 0 ∷ 0x80 ∷ 0 ∷ 0 ∷ 0 ∷ 0x50 ∷ 0 ∷ 0xc5 ∷ 0 ∷ 0x12 ∷ 0x34 ∷ 0x56 ∷ 0x78 ∷ replicate 16 0
 
-smp_utils : (answer shelf first ≡ Answered 0x00)
+smp_utils : (answer shelf first ≡ good 0x00)
     × ((entry_at (then shelf first) 3 1 ≡ 0x50000000000000b1)
     × ((disabled_at (then shelf first) 3 1 ≡ 0)
-    × ((answer (then shelf first) second ≡ Answered 0x00)
+    × ((answer (then shelf first) second ≡ good 0x00)
     × ((entry_at (then (then shelf first) second) 0 0 ≡ 0x5000c50012345678)
     × ((disabled_at (then (then shelf first) second) 0 0 ≡ 1)
     × (entry_at (then (then shelf first) second) 3 1 ≡ 0x50000000000000b1))))))
@@ -114,12 +112,12 @@ cleared = record {
   phys = 0;
 }
 
-total : (answer anything (frame 16 0 7 false) ≡ Answered 0x10)
-    × ((answer anything (frame 1 0 7 false) ≡ Answered 0x11)
-    × ((answer anything (frame 15 64 7 false) ≡ Answered 0x11)
-    × ((answer anything (frame 15 63 7 false) ≡ Answered 0x00)
+total : (answer anything (frame 16 0 7 false) ≡ good 0x10)
+    × ((answer anything (frame 1 0 7 false) ≡ good 0x11)
+    × ((answer anything (frame 15 64 7 false) ≡ good 0x11)
+    × ((answer anything (frame 15 63 7 false) ≡ good 0x00)
     × ((entry_at (then anything (frame 15 63 7 false)) 15 63 ≡ 7)
     × ((disabled_at anything 15 62 ≡ 1)
-    × (answer cleared (frame 0 0 7 false) ≡ Answered 0x10))))))
+    × (answer cleared (frame 0 0 7 false) ≡ good 0x10))))))
 unfolding after_read loaded entry_at disabled_at result_of route_read route_fixed route_frame number_at bytes_of
 total = (refl, (refl, (refl, (refl, (refl, (refl, refl))))))

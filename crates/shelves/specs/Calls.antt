@@ -2,13 +2,13 @@
 use Rattle.std.specs.Prelude.{ℕ, ◌<◌, ◌≡◌, List, [], ◌∷◌, map, length, get_or}
 use Rattle.shelves.specs.PlainTable.{Table}
 use Rattle.shelves.specs.Shelf.{sixteen, bit_of, place, stepped, Done, shelf_entries}
+use Rattle.frames.specs.Refusals.{Result}
 use Rattle.shelves.specs.declared.Shelf.{Shelf}
-use Rattle.shelves.specs.declared.Answer.{Answer}
 
 -- a call of `obey`: the frame, the answer, and the shelf after
 pub record Call : Type 0 where
   pub frame : List ℕ
-  pub answer : Answer
+  pub answer : Result ℕ
   pub after : Shelf
 
 -- calls one after the other, each on the shelf that the one before left: of each only what `obey` promises is known
@@ -20,7 +20,7 @@ Sent s (c ∷ cs) = Done (stepped s c.frame) c.answer c.after × Sent c.after cs
 abbrev pub frames_in : List Call → List (List ℕ)
 frames_in cs = map (λ c. c.frame) cs
 
-abbrev pub answers_in : List Call → List Answer
+abbrev pub answers_in : List Call → List (Result ℕ)
 answers_in cs = map (λ c. c.answer) cs
 
 abbrev pub left : Shelf → List Call → Shelf

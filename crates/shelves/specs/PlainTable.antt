@@ -3,8 +3,6 @@ use Rattle.std.specs.Prelude.{ℕ, Bool, true, cond, ◌&&◌, List, [], ◌∷�
 use Rattle.frames.specs.Refusals.{Result, refused, good}
 use Rattle.frames.specs.ConfigureRoute.{route_read}
 use Rattle.frames.specs.declared.Route.{Route}
-use Rattle.shelves.specs.declared.Answer.{Answer}
-use Rattle.shelves.specs.declared.Answer.TheVariants.{Refused, Result as Answered}
 
 -- an entry and its disable bit, for each phy and route index
 abbrev pub Table : Type 0
@@ -28,16 +26,16 @@ module _ (phys route_indexes : ℕ) (kind : ℕ → ℕ) where
       (cond (eqb (kind phy) 1 && ltb index route_indexes) 0x00 0x11))
 
   -- what it answers to a frame, of which the reader says this, and its table after it
-  abbrev pub answer_to : Result Route → Answer
-  answer_to (refused r) = Refused r
-  answer_to (good q) = Answered (result_of q.phy.0 q.index.0)
+  abbrev pub answer_to : Result Route → Result ℕ
+  answer_to (refused r) = refused r
+  answer_to (good q) = good (result_of q.phy.0 q.index.0)
 
   unfoldable pub table_after : Table → Result Route → Table
   table_after t (refused r) = t
   table_after t (good q) = cond (eqb (result_of q.phy.0 q.index.0) 0x00) (replaced t q) t
 
   -- a list of frames: the answers, and the table after all of them
-  unfoldable pub table_answers : List (List ℕ) → List Answer
+  unfoldable pub table_answers : List (List ℕ) → List (Result ℕ)
   table_answers [] = []
   table_answers (frame ∷ frames) = answer_to (route_read frame) ∷ table_answers frames
 

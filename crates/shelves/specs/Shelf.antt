@@ -6,8 +6,6 @@ use Rattle.frames.specs.declared.Route.{Route}
 use Rattle.shelves.specs.PlainTable.{result_of}
 use Rattle.shelves.specs.declared.Shelf.{Shelf}
 use Rattle.shelves.specs.declared.Stepped.{Stepped}
-use Rattle.shelves.specs.declared.Answer.{Answer}
-use Rattle.shelves.specs.declared.Answer.TheVariants.{Refused, Result as Answered}
 
 -- how many entries a shelf has: 16 phys, and 64 route indexes of each
 abbrev pub shelf_entries : ℕ
@@ -18,7 +16,7 @@ abbrev pub shelf_bytes : ℕ
 shelf_bytes = shelf_entries * 8 + shelf_entries + 16 + 4 + 4
 
 -- a shelf, and what it answered
-abbrev pub stepped_to : Shelf → Answer → Stepped
+abbrev pub stepped_to : Shelf → Result ℕ → Stepped
 stepped_to s a = record { shelf = s; answer = a }
 
 -- kinds are 0 vacant, 1 table, 2 other
@@ -62,8 +60,8 @@ fresh_shelf phys route_indexes kinds = record {
 -- told anything else it is refused, and what was there stays
 unfoldable pub made : Shelf → ℕ → ℕ → List ℕ → Stepped
 made s phys route_indexes kinds =
-    cond (can_be_told phys route_indexes kinds) (stepped_to (fresh_shelf phys route_indexes kinds) (Answered 0x00))
-    (stepped_to s (Refused (refusal 3 0 0)))
+    cond (can_be_told phys route_indexes kinds) (stepped_to (fresh_shelf phys route_indexes kinds) (good 0x00))
+    (stepped_to s (refused (refusal 3 0 0)))
 
 -- the function result by what stands in a shelf, whatever it is: no phy past 16 and no route index past 64 exists
 abbrev pub shelf_result : Shelf → ℕ → ℕ → ℕ
@@ -85,22 +83,17 @@ loaded s q = record {
 
 -- after what the reader says of a frame: a refusal changes nothing, and no result but 00h does
 unfoldable pub after_read : Shelf → Result Route → Stepped
-after_read s (refused r) = stepped_to s (Refused r)
+after_read s (refused r) = stepped_to s (refused r)
 after_read s (good q) =
-    stepped_to (cond (eqb (shelf_result s q.phy.0 q.index.0) 0x00) (loaded s q) s) (Answered (shelf_result s q.phy.0 q.index.0))
+    stepped_to (cond (eqb (shelf_result s q.phy.0 q.index.0) 0x00) (loaded s q) s) (good (shelf_result s q.phy.0 q.index.0))
 
 abbrev pub stepped : Shelf → List ℕ → Stepped
 stepped s frame = after_read s (route_read frame)
 
 -- all that a call with this outcome promises: the answer, and the whole shelf after
-pub record Done (outcome : Stepped) (answer : Answer) (after : Shelf) : Type 0 where
+pub record Done (outcome : Stepped) (answer : Result ℕ) (after : Shelf) : Type 0 where
   pub answers : answer ≡ outcome.answer
   pub left : after ≡ outcome.shelf
-
--- what an answer says in document 01's terms: a refusal, or the function result
-abbrev pub shelf_answer : Answer → Result ℕ
-shelf_answer (Refused r) = refused r
-shelf_answer (Answered n) = good n
 
 -- an entry exists where a request for it would be answered 00h: its address, 0 where there is none
 unfoldable pub entry_at : Shelf → ℕ → ℕ → ℕ

@@ -36,23 +36,16 @@ pub struct Shelf {
     pub phys: u32,
 }
 
-// What a shelf answers: a refusal, or a function result.
-#[derive(Clone, Copy)]
-pub enum Answer {
-    Refused(Refusal),
-    Result(u8),
-}
-
-// A shelf, and what it answered.
+// A shelf, and what it answered: a refusal, or a function result.
 #[derive(Clone, Copy)]
 pub struct Stepped {
     pub shelf: Shelf,
-    pub answer: Answer,
+    pub answer: Result<u8, Refusal>,
 }
 
 // Obeys one frame: the reader's refusal (1, 2, 15), or a function result (10h, 16h, 11h, in this order, else 00h). With
 // 00h one entry and its disable bit are replaced where they are; anything else changes nothing.
-pub fn obey(shelf: &mut Shelf, frame: &[u8]) -> Answer
+pub fn obey(shelf: &mut Shelf, frame: &[u8]) -> Result<u8, Refusal>
     ensures { Done (stepped shelf.old frame.now) result shelf.new }
 {
     let next = loading::step(*shelf, frame);
@@ -62,7 +55,7 @@ pub fn obey(shelf: &mut Shelf, frame: &[u8]) -> Answer
 
 // Makes a fresh shelf, all entries zero and disabled, and answers 00h. It is told 1 to 16 phys, R up to 64, and one kind
 // for each phy. Told anything else it answers 3, and what was there stays.
-pub fn fresh(shelf: &mut Shelf, phys: u8, route_indexes: u16, kinds: &[u8]) -> Answer
+pub fn fresh(shelf: &mut Shelf, phys: u8, route_indexes: u16, kinds: &[u8]) -> Result<u8, Refusal>
     ensures { Done (made shelf.old phys route_indexes kinds.now) result shelf.new }
 {
     let next = making::make(*shelf, phys, route_indexes, kinds);

@@ -4,8 +4,8 @@ ghost use Rattle.frames.specs.Refusals.{good};
 ghost use Rattle.shelves.specs.PlainTable.{result_of};
 ghost use Rattle.shelves.specs.Shelf.{kind_in, place, bit_of, loaded, after_read, stepped};
 
-use crate::{Answer, Shelf, Stepped, making};
-use frames::{PhyId, Route, RouteIndex, RouteRead};
+use crate::{Shelf, Stepped, making};
+use frames::{PhyId, Route, RouteIndex};
 
 // n, but at most as much as there is room for.
 fn at_most(room: u32, n: u32) -> u32
@@ -83,7 +83,7 @@ fn load(shelf: Shelf, q: Route) -> Stepped
 {
     let kinds = shelf.kinds;
     let result = result_of(shelf.phys, shelf.route_indexes, kinds, q.phy, q.index);
-    let answer = Answer::Result(result);
+    let answer = Ok(result);
     if result != 0 {
         return making::stepped_to(shelf, answer);
     }
@@ -96,7 +96,7 @@ pub(crate) fn step(shelf: Shelf, frame: &[u8]) -> Stepped
 {
     let read = frames::read_route(frame);
     match read {
-        RouteRead::Refused(r) => making::stepped_to(shelf, Answer::Refused(r)),
-        RouteRead::Read(q) => load(shelf, q),
+        Err(r) => making::stepped_to(shelf, Err(r)),
+        Ok(q) => load(shelf, q),
     }
 }

@@ -2,10 +2,11 @@
 ghost use Rattle.std.specs.Prelude.{◌≡◌, ◌≤◌, length};
 ghost use Rattle.shelves.specs.Shelf.{stepped_to, are_kinds, can_be_told, sixteen, fresh_shelf, made};
 
-use crate::{Answer, Shelf, Stepped};
+use crate::{Shelf, Stepped};
+use frames::Refusal;
 
 // A shelf, and what it answered.
-pub(crate) fn stepped_to(shelf: Shelf, answer: Answer) -> Stepped
+pub(crate) fn stepped_to(shelf: Shelf, answer: Result<u8, Refusal>) -> Stepped
     ensures { result ≡ stepped_to shelf answer }
 {
     Stepped {
@@ -18,14 +19,7 @@ pub(crate) fn stepped_to(shelf: Shelf, answer: Answer) -> Stepped
 fn are_kinds(kinds: &[u8]) -> bool
     ensures { result ≡ are_kinds kinds.now }
 {
-    let mut i: usize = 0;
-    while i < kinds.len() {
-        if kinds[i] > 2 {
-            return false;
-        }
-        i += 1;
-    }
-    true
+    kinds.iter().all(|kind| *kind <= 2)
 }
 
 // Whether a fresh shelf can be told this.
@@ -53,11 +47,7 @@ fn all_kinds(kinds: &[u8]) -> [u8; crate::SHELF_PHYS]
     ensures { result ≡ sixteen kinds.now }
 {
     let mut all = [0u8; crate::SHELF_PHYS];
-    let mut i: usize = 0;
-    while i < kinds.len() {
-        all[i] = kinds[i];
-        i += 1;
-    }
+    all[..kinds.len()].copy_from_slice(kinds);
     all
 }
 
@@ -83,10 +73,7 @@ pub(crate) fn make(shelf: Shelf, phys: u8, route_indexes: u16, kinds: &[u8]) -> 
     ensures { result ≡ made shelf phys route_indexes kinds.now }
 {
     if !is_told(phys, route_indexes, kinds) {
-        return stepped_to(shelf, Answer::Refused(frames::refused(3)));
+        return stepped_to(shelf, Err(frames::refused(3)));
     }
-    stepped_to(
-        fresh_shelf(phys, route_indexes, kinds),
-        Answer::Result(0x00),
-    )
+    stepped_to(fresh_shelf(phys, route_indexes, kinds), Ok(0x00))
 }

@@ -1,6 +1,6 @@
 -- The searches for the entry that a word of the tables is, turn by turn, and what a survey of a file says.
 use Prim.Native.Nat.{ℕ, ◌+◌, ◌-◌, ◌≤◌, ◌<◌}
-use mathlib.Core.Path.{◌≡◌, refl, sym, ◌∙◌, ap}
+use mathlib.Core.Path.{◌≡◌, sym, ◌∙◌, ap}
 use mathlib.Core.List.{List, ◌∷◌, ◌++◌}
 use lib.ListN.{length, drop}
 use borrow.Author.Tests.{lt-ltb, le-ltb}
@@ -9,13 +9,11 @@ use Rattle.files.specs.Domain.{Domain}
 use Rattle.files.specs.declared.Setting.{Setting}
 use Rattle.files.specs.File.{domain_read}
 use Rattle.wiring.specs.phys.PhyCauses.{Place, place, phy_places, places_from}
-use Rattle.tables.specs.filling.Tables.{table_places, size, needed}
-use Rattle.tables.specs.JudgingCall.{judged_domain, judged, counts_in}
-use Rattle.surveys.specs.WordEntries.{entry, word_in, word_place, word_answer, sought_in, SoughtAt, survey_in, survey_answer}
+use Rattle.tables.specs.filling.Tables.{size}
+use Rattle.tables.specs.JudgingCall.{judged_domain, judged}
+use Rattle.surveys.specs.WordEntries.{entry, word_in, sought_in, SoughtAt, survey_in}
 use Rattle.surveys.specs.declared.Entry.{Entry}
-use Rattle.surveys.specs.declared.WordPlace.{WordPlace}
-use Rattle.surveys.specs.declared.calls.Survey.TheVariants.{Accepted}
-use Rattle.surveys.specs.declared.word_places.Sought.{Sought}
+use Rattle.std.specs.declared.result.Result.{Result as Search}
 use Rattle.tables.proofs.filling.TablesPut.{phys-next, phys-last, from_next, from_last}
 
 module _ (d : Domain) where
@@ -41,7 +39,7 @@ module _ (d : Domain) where
 
   -- the search through the expanders, from expander i on
   module _ (i left : ℕ) {v : Result Entry} (inv : word_in d (places_from i (drop i d)) left ≡ v) where
-    pub find-next : {r known : Sought} → r ≡ known → SoughtAt d i left r → i < length d → sought_in d (places_from (i + 1) (drop (i + 1) d)) known ≡ v
+    pub find-next : {r known : Search Entry ℕ} → r ≡ known → SoughtAt d i left r → i < length d → sought_in d (places_from (i + 1) (drop (i + 1) d)) known ≡ v
     find-next e s h = ap (sought_in d (places_from (i + 1) (drop (i + 1) d))) (sym e) ∙ sym (s (places_from (i + 1) (drop (i + 1) d))) ∙ sym (ap (λ l. word_in d l left) (from_next d i h)) ∙ inv
 
     pub find-end : length d ≤ i → refused (refusal 15 0 0) ≡ v
@@ -50,24 +48,9 @@ module _ (d : Domain) where
 
 -- a survey: of a domain past its causes or not, of a file, and what it says of the counts and of the word
 module _ (k : ℕ) where
-  pub survey_refused : (r : Refusal) (x : Result Domain) → x ≡ refused r → refused r ≡ then x (survey_in k)
-  survey_refused r x e = rw e
-
-  pub survey_good : (d : Domain) (x : Result Domain) {t w : ℕ} (p : WordPlace) → x ≡ good d → t ≡ length (table_places d) → w ≡ needed d → word_answer p ≡ word_place k d
-      → survey_answer (Accepted t w p) ≡ then x (survey_in k)
-  survey_good d x p e f g h = rw (e, f, g, h)
-
   pub file-refused : (setting : Setting) (file : List ℕ) (r : Refusal) → domain_read setting file ≡ refused r → refused r ≡ then (judged setting file) (survey_in k)
   file-refused setting file r e = rw e
 
   pub file-done : (setting : Setting) (file : List ℕ) (d : Domain) (x : Result Domain) → domain_read setting file ≡ good d → x ≡ judged_domain setting.chain d
       → then x (survey_in k) ≡ then (judged setting file) (survey_in k)
   file-done setting file d x e q = rw (e, q)
-
-  pub survey_counts : (x : Result Domain) → then (then x (survey_in k)) (λ s. good s.counted) ≡ then x counts_in
-  survey_counts (refused r) = refl
-  survey_counts (good d) = refl
-
-  pub survey_place : (x : Result Domain) → then (then x (survey_in k)) (λ s. s.place) ≡ then x (word_place k)
-  survey_place (refused r) = refl
-  survey_place (good d) = refl

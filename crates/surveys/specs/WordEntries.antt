@@ -5,14 +5,9 @@ use Rattle.files.specs.Domain.{Domain}
 use Rattle.wiring.specs.phys.PhyCauses.{Place, places}
 use Rattle.tables.specs.filling.Tables.{table_places, size, needed}
 use Rattle.tables.specs.lists.GrowingLists.{places_at}
-use Rattle.tables.specs.JudgingCall.{Counted}
 use Rattle.surveys.specs.declared.Entry.{Entry}
-use Rattle.surveys.specs.declared.WordPlace.{WordPlace}
-use Rattle.surveys.specs.declared.WordPlace.TheVariants.{Refused, At}
-use Rattle.surveys.specs.declared.calls.Survey.{Survey}
-use Rattle.surveys.specs.declared.calls.Survey.TheVariants.{Refused as NotSurveyed, Accepted}
-use Rattle.surveys.specs.declared.word_places.Sought.{Sought}
-use Rattle.surveys.specs.declared.word_places.Sought.TheVariants.{At as Found, Left}
+use Rattle.surveys.specs.declared.calls.Surveyed.{Surveyed}
+use Rattle.std.specs.declared.result.Result.{Result as Search}
 
 -- an entry: expander, phy and route index
 abbrev pub entry : ℕ → ℕ → ℕ → Entry
@@ -27,28 +22,15 @@ word_in d (q ∷ qs) k = cond (ltb k (size d q)) (good (entry q.expander q.phy k
 abbrev pub word_place : ℕ → Domain → Result Entry
 word_place k d = word_in d (places d) k
 
--- what asking for a word answers in document 01's terms
-abbrev pub word_answer : WordPlace → Result Entry
-word_answer (Refused r) = refused r
-word_answer (At e) = good e
-
 -- after a search through the places of one expander: the entry, or what the places after them give for the words that are left
-abbrev pub sought_in : Domain → List Place → Sought → Result Entry
-sought_in d after (Found e) = good e
-sought_in d after (Left k) = word_in d after k
+abbrev pub sought_in : Domain → List Place → Search Entry ℕ → Result Entry
+sought_in d after (good e) = good e
+sought_in d after (refused k) = word_in d after k
 
 -- what the search through the places of expander i for word k gives, whatever places come after
-abbrev pub SoughtAt : Domain → ℕ → ℕ → Sought → Type 0
+abbrev pub SoughtAt : Domain → ℕ → ℕ → Search Entry ℕ → Type 0
 SoughtAt d i k r = (after : List Place) → word_in d (places_at d i ++ after) k ≡ sought_in d after r
 
 -- how many tables and words there are, and where word k is
-pub record Surveyed : Type 0 where
-  pub counted : Counted
-  pub place : Result Entry
-
 abbrev pub survey_in : ℕ → Domain → Result Surveyed
 survey_in k d = good (record { counted = record { table_count = length (table_places d); word_count = needed d }; place = word_place k d })
-
-abbrev pub survey_answer : Survey → Result Surveyed
-survey_answer (NotSurveyed r) = refused r
-survey_answer (Accepted t w p) = good (record { counted = record { table_count = t; word_count = w }; place = word_answer p })

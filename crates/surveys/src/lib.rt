@@ -5,7 +5,7 @@ mod calls;
 mod word_places;
 
 pub use calls::{needed, word_place};
-use wiring::{ExpanderNumber, PhyId, Refusal, RouteIndex};
+use wiring::{ExpanderNumber, PhyId, RouteIndex};
 
 // An entry of a table: its expander, phy and route index.
 #[derive(Clone, Copy)]
@@ -13,11 +13,4 @@ pub struct Entry {
     pub expander: ExpanderNumber,
     pub phy: PhyId,
     pub index: RouteIndex,
-}
-
-// What asking for a word of the tables answers: the entry that it is.
-#[derive(Clone, Copy)]
-pub enum WordPlace {
-    Refused(Refusal),
-    At(Entry),
 }

@@ -25,10 +25,9 @@ use Rattle.wiring.proofs.CheckOutcomes.{room_checked}
 use Rattle.tables.specs.filling.Tables.{table_places, needed}
 use Rattle.tables.specs.filling.Entries.{Entries, entries, Room, room_of, Enough}
 use Rattle.tables.specs.lists.PreparedLists.{own_words_of_order, own_overlong, judged_in, own_tables, OwnDone, Fillable}
+use Rattle.tables.specs.declared.Counted.{Counted}
 use Rattle.tables.specs.JudgingCall.{overlong, judged_domain, judged, expanders_in, tables_for, table_call, TablesDone}
 use Rattle.tables.proofs.filling.TablesPut.{length-tables}
-use Rattle.tables.specs.declared.TablesGiven.{TablesGiven}
-use Rattle.tables.specs.declared.TablesGiven.TheVariants.{Refused, Counts}
 
 then-then : {A B C : Type 0} (x : Result A) (y : Result B) (z : Result C) → then x (λ _. then y (λ _. z)) ≡ then (then x (λ _. y)) (λ _. z)
 then-then (refused r) y z = refl
@@ -82,21 +81,21 @@ pub judge-by : (setting : Setting) (file : List ℕ) (d : Domain) (x : Result Do
 judge-by setting file d x e q = rw (e, q)
 
 -- tables by own lists past causes 1 to 6: refused before, 16, 18, and given
-pub own_refused : (room : Room) (before : Entries) (r : Refusal) (x : Result Domain) → x ≡ refused r → OwnDone (then x (tables_for room)) (Refused r) before before
+pub own_refused : (room : Room) (before : Entries) (r : Refusal) (x : Result Domain) → x ≡ refused r → OwnDone (then x (tables_for room)) (refused r) before before
 own_refused room before r x e = rw e (record { answers = refl; left = refl })
 
 module _ (d : Domain) (before : Entries) (x : Result Domain) (e : x ≡ good d) where
-  pub own_few : length before.words < needed d → (answer : TablesGiven) → answer ≡ Refused (refusal 16 0 0) → OwnDone (then x (tables_for (room_of before))) answer before before
+  pub own_few : length before.words < needed d → (answer : Result Counted) → answer ≡ refused (refusal 16 0 0) → OwnDone (then x (tables_for (room_of before))) answer before before
   own_few h answer a = rw (e, a, lt-leb (needed d) (length before.words) h) (record { answers = refl; left = refl })
 
-  pub own_few-bits : needed d ≤ length before.words → length before.bits < bytes_for (needed d) → (answer : TablesGiven) → answer ≡ Refused (refusal 18 0 0)
+  pub own_few-bits : needed d ≤ length before.words → length before.bits < bytes_for (needed d) → (answer : Result Counted) → answer ≡ refused (refusal 18 0 0)
       → OwnDone (then x (tables_for (room_of before))) answer before before
   own_few-bits g h answer a = rw (e, a, le-leb (needed d) (length before.words) g, lt-leb (bytes_for (needed d)) (length before.bits) h) (record { answers = refl; left = refl })
 
   -- the bits are those of the words up to so many
   pub own_done_lem : (t w : ℕ) (words bits : List ℕ) → Enough (needed d) (room_of before) → t ≡ length (table_places d) → w ≡ needed d
       → words ≡ own_tables d ++ drop (needed d) before.words → bits ≡ marked (take w words) before.bits
-      → OwnDone (then x (tables_for (room_of before))) (Counts t w) before (entries words bits)
+      → OwnDone (then x (tables_for (room_of before))) (good (record { table_count = t; word_count = w })) before (entries words bits)
   own_done_lem t w words bits h p q s m =
       let n = length-tables d (places d) in
       let f : take w words ≡ own_tables d = ap (take w) s ∙ take_at (own_tables d) _ w (omega arith) in
@@ -107,6 +106,6 @@ module _ (d : Domain) (before : Entries) (x : Result Domain) (e : x ≡ good d) 
 
 -- the table call on a file
 pub call-refused : (setting : Setting) (file : List ℕ) (before : Entries) (r : Refusal) → domain_read setting file ≡ refused r
-    → TablesDone (table_call setting file (room_of before)) (Refused r) before before
+    → TablesDone (table_call setting file (room_of before)) (refused r) before before
 unfolding table_call
 call-refused setting file before r e = rw e (record { answers = refl; left = refl })

@@ -24,11 +24,9 @@ pub use Rattle.wiring.proofs.WiringRefusals.{Numbered, numbered-unless, numbered
 use Rattle.wiring.proofs.WiringRefusals.{first-numbered, wired-numbered}
 use Rattle.tables.specs.filling.Tables.{table_places, tables, needed}
 use Rattle.tables.specs.filling.Entries.{Entries, Room, room_of, Enough, put_before}
-use Rattle.tables.specs.JudgingCall.{overlong, judged_domain, judged, judge_answer, expanders_in, tables_for, judged_tables, table_call, Counted, counts_in, tables_answer, tables_after, TablesDone}
+use Rattle.tables.specs.JudgingCall.{overlong, judged_domain, judged, expanders_in, tables_for, judged_tables, table_call, counts_in, tables_after, TablesDone}
+use Rattle.tables.specs.declared.Counted.{Counted}
 use Rattle.tables.specs.TableCauses.{Routable, NoJudgingCause, NoTableCause, judging_number, table_number}
-use Rattle.tables.specs.declared.Judgement.{Judgement}
-use Rattle.tables.specs.declared.TablesGiven.{TablesGiven}
-use Rattle.tables.specs.declared.TablesGiven.TheVariants.{Refused, Counts}
 use Rattle.tables.proofs.AcceptedDomains.{judged-routable, routable_iff, tables-same, judged-file, table_call_iff}
 
 -- causes 11, 12, 23 and 14 refuse with their numbers
@@ -76,24 +74,24 @@ causes_judged setting file c =
     (judged-file setting file d).1 (c.read, (routable_iff setting.chain d ((passed_iff d).1 c.passed)).1 c.routable)
 
 -- the judging call answers exactly when none of its causes holds, and refuses with no other number
-pub judging-exactly : (setting : Setting) (file : List ℕ) (answer : Judgement) → judge_answer answer ≡ then (judged setting file) expanders_in
-    → RefusesExactly (judge_answer answer) (NoJudgingCause setting file) judging_number
+pub judging-exactly : (setting : Setting) (file : List ℕ) (answer : Result ℕ) → answer ≡ then (judged setting file) expanders_in
+    → RefusesExactly answer (NoJudgingCause setting file) judging_number
 judging-exactly setting file answer q =
-    exactly judging_number (judge_answer answer) (then (judged setting file) expanders_in) (NoJudgingCause setting file) q
+    exactly judging_number answer (then (judged setting file) expanders_in) (NoJudgingCause setting file) q
     (numbered-then judging_number (judged setting file) expanders_in (judged-numbered judging_number (λ n h. h) setting file) (λ d. tt))
     (λ n e. let a = then-good (judged setting file) expanders_in n e in (judged_causes setting file a.0 a.1).0)
     (λ c. (length c.domain, good-then (judged setting file) expanders_in c.domain (length c.domain) (causes_judged setting file c) refl))
 
 -- the table call answers counts exactly when its outcome is no refusal
-pub counts_iff : (outcome : Result Domain) (answer : TablesGiven) (before after : Entries) → TablesDone outcome answer before after
-    → ((t w : ℕ) × (answer ≡ Counts t w)) ↔ ((d : Domain) × (outcome ≡ good d))
-counts_iff outcome (Refused r) before after o = (
+pub counts_iff : (outcome : Result Domain) (answer : Result Counted) (before after : Entries) → TablesDone outcome answer before after
+    → ((t w : ℕ) × (answer ≡ good (record { table_count = t; word_count = w }))) ↔ ((d : Domain) × (outcome ≡ good d))
+counts_iff outcome (refused r) before after o = (
   λ c. let z : ◌≡◌ {A = ℕ} 0 1 = cc in absurd (omega arith),
   λ c. never r _ (o.answers ∙ ap (λ x. then x counts_in) c.1),
 )
-counts_iff outcome (Counts t w) before after o = (
-  λ c. let a = then-good outcome counts_in (record { table_count = t; word_count = w }) (sym o.answers) in (a.0, a.1),
-  λ c. (t, w, refl),
+counts_iff outcome (good n) before after o = (
+  λ c. let a = then-good outcome counts_in n (sym o.answers) in (a.0, a.1),
+  λ c. (n.table_count, n.word_count, refl),
 )
 
 -- a table call on domain d that answered counts: there was room, and it left the tables of d, their bits, and what was lent after them
@@ -102,19 +100,19 @@ pub record TablesOf (chain : ℕ) (d : Domain) (before after : Entries) : Type 0
   pub enough : Enough (needed d) (room_of before)
   pub left : after ≡ put_before (tables d) before
 
-pub tables-of : (chain : ℕ) (d : Domain) (t w : ℕ) (before after : Entries) → TablesDone (judged_tables chain d (room_of before)) (Counts t w) before after
+pub tables-of : (chain : ℕ) (d : Domain) (t w : ℕ) (before after : Entries) → TablesDone (judged_tables chain d (room_of before)) (good (record { table_count = t; word_count = w })) before after
     → TablesOf chain d before after
 tables-of chain d t w before after o =
-    let c = (counts_iff (judged_tables chain d (room_of before)) (Counts t w) before after o).0 (t, w, refl) in
+    let c = (counts_iff (judged_tables chain d (room_of before)) (good (record { table_count = t; word_count = w })) before after o).0 (t, w, refl) in
     let s = tables-same chain d c.0 (room_of before) c.1 in
     record { routable = s.1; enough = s.2; left = o.left ∙ ap (λ x. tables_after x before) (c.1 ∙ ap good (sym s.0)) }
 
 -- the table call answers exactly when none of its causes holds, and refuses with no other number
-pub tables-exactly : (setting : Setting) (file : List ℕ) (before after : Entries) (answer : TablesGiven) → TablesDone (table_call setting file (room_of before)) answer before after
-    → RefusesExactly (tables_answer answer) (NoTableCause setting file (room_of before)) table_number
+pub tables-exactly : (setting : Setting) (file : List ℕ) (before after : Entries) (answer : Result Counted) → TablesDone (table_call setting file (room_of before)) answer before after
+    → RefusesExactly answer (NoTableCause setting file (room_of before)) table_number
 unfolding table_call
 tables-exactly setting file before after answer t =
-    exactly table_number (tables_answer answer) (then (table_call setting file room) counts_in) (NoTableCause setting file room) t.answers numbered from to
+    exactly table_number answer (then (table_call setting file room) counts_in) (NoTableCause setting file room) t.answers numbered from to
   where
     room : Room
     room = room_of before

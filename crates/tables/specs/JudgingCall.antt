@@ -7,11 +7,8 @@ use Rattle.files.specs.File.{domain_read}
 use Rattle.wiring.specs.phys.PhyCauses.{first_of, wired_domain}
 use Rattle.wiring.specs.graph.LinkCauses.{linked_domain}
 use Rattle.tables.specs.filling.Tables.{level_list, table_places, tables, needed, offset}
+use Rattle.tables.specs.declared.Counted.{Counted}
 use Rattle.tables.specs.filling.Entries.{Entries, Room, room_of, Enough, put_before}
-use Rattle.tables.specs.declared.Judgement.{Judgement}
-use Rattle.tables.specs.declared.Judgement.TheVariants.{Refused, Expanders}
-use Rattle.tables.specs.declared.TablesGiven.{TablesGiven}
-use Rattle.tables.specs.declared.TablesGiven.TheVariants.{Refused as NotGiven, Counts}
 
 -- 14: level list longer than R
 unfoldable pub overlong : Domain → ℕ → ℕ → Bool
@@ -28,11 +25,7 @@ judged_domain chain d =
 abbrev pub judged : Setting → List ℕ → Result Domain
 judged setting file = then (domain_read setting file) (judged_domain setting.chain)
 
--- what the judging call answers in document 01's terms: the number of expanders
-abbrev pub judge_answer : Judgement → Result ℕ
-judge_answer (Refused r) = refused r
-judge_answer (Expanders n) = good n
-
+-- what the judging call answers: the number of expanders
 abbrev pub expanders_in : Domain → Result ℕ
 expanders_in d = good (length d)
 
@@ -51,18 +44,9 @@ judged_tables chain d room = then (judged_domain chain d) (tables_for room)
 unfoldable pub table_call : Setting → List ℕ → Room → Result Domain
 table_call setting file room = then (judged setting file) (tables_for room)
 
--- the number of tables and of words
-pub record Counted : Type 0 where
-  pub table_count : ℕ
-  pub word_count : ℕ
-
+-- what the table call answers: the number of tables and of words
 abbrev pub counts_in : Domain → Result Counted
 counts_in d = good (record { table_count = length (table_places d); word_count = needed d })
-
--- what the table call answers in document 01's terms
-abbrev pub tables_answer : TablesGiven → Result Counted
-tables_answer (NotGiven r) = refused r
-tables_answer (Counts t w) = good (record { table_count = t; word_count = w })
 
 -- the entries after the call: the tables with their bits, and what lies after them as it was; all as it was where refused
 abbrev pub tables_after : Result Domain → Entries → Entries
@@ -70,8 +54,8 @@ tables_after (refused r) before = before
 tables_after (good d) before = put_before (tables d) before
 
 -- all that a table call with this outcome promises: the answer, and the entries after
-pub record TablesDone (outcome : Result Domain) (answer : TablesGiven) (before after : Entries) : Type 0 where
-  pub answers : tables_answer answer ≡ then outcome counts_in
+pub record TablesDone (outcome : Result Domain) (answer : Result Counted) (before after : Entries) : Type 0 where
+  pub answers : answer ≡ then outcome counts_in
   pub left : after ≡ tables_after outcome before
 
 -- demand 2's equation in the lent words: index for index, every table is the level list of its phy; and their disable bits

@@ -1,13 +1,11 @@
 -- What the layers above use of wiring, files and frames.
 pub use Rattle.wiring.specs.FrameDefinitions.{byte, bytes_for, zero_bit, Refusal, Result, refused, good, unless, then, refusal, new_after, RefusesExactly}
 unfoldable pub use Rattle.wiring.specs.FrameDefinitions.{number_bits, field, bits_of, packed_in, marked}
-pub use Rattle.wiring.specs.FrameDefinitions.{General, LongGeneral, Discover, Route, general_read, general_answer, GeneralSas2, short, long, general_read_sas2, sas2_answer}
-pub use Rattle.wiring.specs.FrameDefinitions.{Discovered, vacant, fields, discover_read, discover_answer}
-pub use Rattle.wiring.specs.FrameDefinitions.{route_written, write_answer, buffer_after, route_read, route_answer}
+pub use Rattle.wiring.specs.FrameDefinitions.{General, LongGeneral, Discover, Route, general_read, GeneralSas2, short, long, general_read_sas2}
+pub use Rattle.wiring.specs.FrameDefinitions.{Discovered, vacant, fields, discover_read}
+pub use Rattle.wiring.specs.FrameDefinitions.{route_written, write_answer, buffer_after, route_read}
 pub use Rattle.files.specs.declared.Phy.{Phy}
 pub use Rattle.files.specs.declared.Phy.TheVariants.{Vacant, Present}
-pub use Rattle.wiring.specs.declared.Check.TheVariants.{Refused}
-pub use Rattle.files.specs.declared.DomainRead.TheVariants.{Expanders}
 pub use Rattle.files.specs.Lists.{up_to, In, Distinct, Below, last}
 unfoldable pub use Rattle.files.specs.Lists.{numbers, any, is_in, keep}
 pub use Rattle.files.specs.Domain.{Expander, Domain, no_expander, expander_at, phy_at, type_of, address_of, attached_phy_of, attribute_of, has_attribute, is_table, is_subtractive, is_direct}
@@ -25,5 +23,5 @@ unfoldable pub use Rattle.wiring.specs.phys.PhyCauses.{phy_places, places_from}
 pub use Rattle.wiring.specs.phys.Checks.{check_answer, FileRoom}
 pub use Rattle.wiring.specs.index.AddressIndex.{slots_before, most_slots, most_domain_phys, IndexedFirst, IndexLeft, IndexRoom}
 pub use Rattle.wiring.specs.graph.Graph.{Steps, self}
-pub use Rattle.wiring.specs.graph.Neighbours.{neighbours, wiring_call, wiring_answer, bits_set}
+pub use Rattle.wiring.specs.graph.Neighbours.{neighbours, wiring_call, bits_set}
 pub use Rattle.wiring.specs.graph.Devices.{LoopIn, ChainIn, TableToTable, Clear, ClearChain, NoTableToTable, Home, Borne}

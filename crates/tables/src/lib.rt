@@ -16,13 +16,12 @@ pub use lists::own_lists::phy_bears;
 // What the layers above use of the layers below.
 pub use files::{ROW_WORDS, ROWS_OF_2, ROWS_OF_8, ROWS_OF_64};
 pub use wiring::{
-    Check, Discover, DiscoverRead, DomainRead, ExpanderNumber, General, GeneralRead,
-    GeneralReadSas2, LongGeneral, PHYS_OF_2, PHYS_OF_8, PHYS_OF_64, Phy, PhyId, Refusal, Route,
-    RouteIndex, RouteRead, RouteWrite, SLOTS_OF_2, SLOTS_OF_8, SLOTS_OF_64, Setting, Wiring,
-    attached_expander, attached_phy, bit_at, bytes_for, expander_address, expander_count,
-    mark_zeros, phy_address, phy_at, phy_attribute, phy_count, phy_type, put_route, read_discover,
-    read_domain, read_general, read_general_sas2, read_route, refused, route_indexes, stated_count,
-    widest, wire,
+    Discover, Discovered, ExpanderNumber, General, GeneralSas2, IndexedRows, LongGeneral,
+    PHYS_OF_2, PHYS_OF_8, PHYS_OF_64, Phy, PhyId, Refusal, Route, RouteIndex, SLOTS_OF_2,
+    SLOTS_OF_8, SLOTS_OF_64, Setting, attached_expander, attached_phy, bit_at, bytes_for,
+    expander_address, expander_count, mark_zeros, phy_address, phy_at, phy_attribute, phy_count,
+    phy_type, put_route, read_discover, read_domain, read_general, read_general_sas2, read_route,
+    refused, route_indexes, stated_count, widest, wire,
 };
 
 // How many words an own list has with its length before it: at most 128, and one.
@@ -52,23 +51,16 @@ pub(crate) const ORDER_OF_8: usize = 8 * MOST_DOWNSTREAM + 1;
 // How many bytes the order of a phy takes at most.
 pub(crate) const ORDER_OF_64: usize = 64 * MOST_DOWNSTREAM + 1;
 
-// What the judging call answers: the number of expanders.
+// How many tables a domain has, and how many words.
 #[derive(Clone, Copy)]
-pub enum Judgement {
-    Refused(Refusal),
-    Expanders(u8),
+pub struct Counted {
+    pub table_count: u32,
+    pub word_count: u32,
 }
 
-// What the table call answers: the number of tables, and of words.
+// How many tables a drive plugged or pulled touches, and how many words it changes.
 #[derive(Clone, Copy)]
-pub enum TablesGiven {
-    Refused(Refusal),
-    Counts(u32, u32),
-}
-
-// What a drive plugged or pulled over rows answers: the number of tables touched, and of words changed.
-#[derive(Clone, Copy)]
-pub enum Replugged {
-    Refused(Refusal),
-    Counts(u32, u32),
+pub struct Moved {
+    pub table_count: u32,
+    pub word_count: u32,
 }

@@ -9,10 +9,9 @@ use Rattle.tables.specs.WiringDefinitions.{bits_of, marked, Result, good, then, 
 use Rattle.tables.specs.WiringDefinitions.{NoTableToTable, Home, Borne}
 use Rattle.tables.specs.filling.Tables.{tables, needed}
 use Rattle.tables.specs.filling.Entries.{Entries, Room, room_of, Enough, counted_by, counted}
+use Rattle.tables.specs.declared.Counted.{Counted}
 use Rattle.tables.specs.JudgingCall.{judged_domain, tables_for, judged_tables, table_call, TablesDone}
 use Rattle.tables.specs.TableCauses.{Routable}
-use Rattle.tables.specs.declared.TablesGiven.{TablesGiven}
-use Rattle.tables.specs.declared.TablesGiven.TheVariants.{Counts}
 use Rattle.tables.proofs.WiringLemmas.{good-one, then-good, Wired, read-good, wired_iff, wired-file}
 use Rattle.tables.proofs.levels.LevelsBeyond.{all-clear}
 use Rattle.tables.proofs.filling.CountedWords.{counted-put}
@@ -111,8 +110,8 @@ module _ (most : Setting) (d : Domain) (read : Read most d) (past : wired_domain
         }
 
   -- with room, the table call answers counts exactly when the domain is routable
-  counts-routable : (before filled : Entries) (answer : TablesGiven) → Enough (needed d) (room_of before)
-      → TablesDone (judged_tables chain d (room_of before)) answer before filled → ((t w : ℕ) × (answer ≡ Counts t w)) ↔ Routable chain d
+  counts-routable : (before filled : Entries) (answer : Result Counted) → Enough (needed d) (room_of before)
+      → TablesDone (judged_tables chain d (room_of before)) answer before filled → ((t w : ℕ) × (answer ≡ good (record { table_count = t; word_count = w }))) ↔ Routable chain d
   counts-routable before filled answer h o =
       let c = counts_iff (judged_tables chain d (room_of before)) answer before filled o in (
         λ g. let x = c.0 g in (tables-same chain d x.0 (room_of before) x.1).1,

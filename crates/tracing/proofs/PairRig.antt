@@ -13,16 +13,15 @@ use Rattle.tables.proofs.AcceptedDomains.{table_call_iff}
 use Rattle.tables.specs.levels.Levels.{each_once, downstream_of_phys, downstream, next_level, levels_from, levels}
 use Rattle.tables.specs.filling.Tables.{address_at, gives, give, give_all, level_list, table, table_places, tables, size, sizes, needed, offset_in, stretch}
 use Rattle.tables.specs.filling.Entries.{Entries, entries, room_of, Enough, put_before, counted_by, counted}
-use Rattle.tables.specs.JudgingCall.{overlong, judged_domain, judged, judge_answer, expanders_in, table_call, counts_in, tables_answer, tables_after, TablesDone}
-use Rattle.tables.specs.declared.Judgement.{Judgement}
-use Rattle.tables.specs.declared.TablesGiven.{TablesGiven}
+use Rattle.tables.specs.declared.Counted.{Counted}
+use Rattle.tables.specs.JudgingCall.{overlong, judged_domain, judged, expanders_in, table_call, counts_in, tables_after, TablesDone}
 use Rattle.tracing.specs.Steps.{pick, subtractively, by_table, directly, step}
+use Rattle.tracing.specs.declared.End.{End}
 use Rattle.tracing.specs.Trace.{Traced, Request, request, after_step, trace_from, traced, requested, traced_request, trace_call, report, trace_answer, bytes_after, TraceDone}
 use Rattle.tracing.specs.Reasons.{because, index_of, by_subtraction, by_entry, by_phy, reason}
 use Rattle.tracing.specs.TraceCauses.{Asks}
 use Rattle.tracing.specs.declared.Outcome.{Outcome}
 use Rattle.tracing.specs.declared.Outcome.TheVariants.{Arrived, NoDestination, BadDestination}
-use Rattle.tracing.specs.declared.TraceAnswer.{TraceAnswer}
 use Rattle.tracing.proofs.RequestCauses.{requested_iff}
 
 -- a REPORT GENERAL response: R, number of phys, configurable bit
@@ -68,13 +67,13 @@ words = at 0xb1 ∷ 0 ∷ 0 ∷ 0 ∷ []
 
 -- what the judging call answers of a file
 abbrev pub Judges : List ℕ → Result ℕ → Type 0
-Judges file said = (answer : Judgement) → judge_answer answer ≡ then (judged widest file) expanders_in → judge_answer answer ≡ said
+Judges file said = (answer : Result ℕ) → answer ≡ then (judged widest file) expanders_in → answer ≡ said
 
 -- what the trace call over the rig and these entries answers a request, with a byte lent for each expander: outcome, last expander, phy and
 -- count, and the lent bytes after
 abbrev pub Traces : Entries → Request → Outcome → ℕ → ℕ → ℕ → List ℕ → Type 0
 Traces lent q outcome last phy count passed =
-    (before after : List ℕ) (answer : TraceAnswer) → 2 ≤ length before → TraceDone (trace_call widest (pair 4) lent (length before) q) answer before after
+    (before after : List ℕ) (answer : Result End) → 2 ≤ length before → TraceDone (trace_call widest (pair 4) lent (length before) q) answer before after
     → (trace_answer answer ≡ good (record { outcome = outcome; last = last; phy = phy; count = count })) × (after ≡ passed ++ drop count before)
 
 -- words and their bits, with words and bytes lent after them
@@ -86,8 +85,8 @@ lend l byte rest more = entries (l ++ rest) (byte ∷ more)
 pub record PairRig : Type 0 where
   pub bytes : length (pair 4) ≡ 334
   pub read : domain_read widest (pair 4) ≡ good (rig 4)
-  pub listing : (before after : Entries) (answer : TablesGiven) → Enough 4 (room_of before) → TablesDone (table_call widest (pair 4) (room_of before)) answer before after
-      → (tables_answer answer ≡ good (record { table_count = 1; word_count = 4 })) × (after ≡ lend words 0x70 (drop 4 before.words) (drop 1 before.bits))
+  pub listing : (before after : Entries) (answer : Result Counted) → Enough 4 (room_of before) → TablesDone (table_call widest (pair 4) (room_of before)) answer before after
+      → (answer ≡ good (record { table_count = 1; word_count = 4 })) × (after ≡ lend words 0x70 (drop 4 before.words) (drop 1 before.bits))
   pub accepted : Judges (pair 4) (good 2)
   pub indexes2 : Judges (pair 2) (good 2)
   pub indexes1 : Judges (pair 1) (refused (refusal 14 0 0))

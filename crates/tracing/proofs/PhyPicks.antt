@@ -1,22 +1,21 @@
 -- Picks, turn by turn, and what each step does with the phy picked. `inv` is the loop's invariant.
 use Prim.Native.Nat.{ℕ, suc, ◌+◌, ◌-◌, ◌≤◌, ◌<◌}
 use mathlib.Core.Path.{◌≡◌, refl, sym, ◌∙◌}
-use mathlib.Core.Logic.{⊎_elim}
 use mathlib.Core.Bool.{Bool, true, false, cond}
 use mathlib.Core.List.{List}
 use native.Mathlib.Omega.{arith}
 use lib.ListN.{length, take, drop}
-use lib.Dec.{T, eqb, eqb→eq}
-use borrow.Author.Tests.{eq-eqb, ne_eqb}
+use lib.Dec.{T, eqb}
+use borrow.Author.Tests.{ne_eqb}
 use Rattle.tables.specs.WiringDefinitions.{numbers}
-use Rattle.tables.specs.WiringDefinitions.{Phy, Domain, expander_at, phy_at, type_of, address_of, attached_phy_of, number_of, attached, to_expander, is_in}
+use Rattle.tables.specs.WiringDefinitions.{Domain, expander_at, phy_at, address_of, attached_phy_of, number_of, attached, to_expander, is_in}
 use Rattle.tracing.specs.Steps.{Step as Stepped, here, bad, lost, Pick, at, nowhere, pick, phy_numbers, bearing, listing, subtracting}
 use Rattle.tables.specs.filling.Tables.{offset, stretch}
 use Rattle.tracing.specs.Steps.{came_from, move_by, arriving, subtractively, by_table, directly, step}
 use Rattle.tracing.specs.declared.Step.{Step}
 use Rattle.tracing.specs.declared.Step.TheVariants.{Onward}
 use Rattle.tracing.specs.Answers.{step_of, bearing_pick, listing_pick, subtracting_pick, direct_step}
-use Rattle.tables.proofs.WiringLemmas.{tests, expander-attached, attached_cases, in_range_lem}
+use Rattle.tables.proofs.WiringLemmas.{tests, expander-attached, in_range_lem}
 use Rattle.tracing.proofs.StepReasons.{pick_at}
 
 module _ (test : ℕ → Bool) (n p : ℕ) {v : Pick} (inv : pick test (numbers p (n - p)) ≡ v) where
@@ -49,10 +48,6 @@ module _ (d : Domain) (i : ℕ) {p : ℕ} where
   pub subtracting-far : at p ≡ subtracting_pick d i → T (to_expander (phy_at d i p))
   subtracting-far e = let t = pick_at (subtracting d i) (phy_numbers d i) p (sym e) in search (tests, t)
 
--- and to an expander, where it is attached but not to an end device
-pub far-attached : (φ : Phy) → (type_of φ ≡ 1 → ⊥) → T (attached φ) → T (to_expander φ)
-far-attached φ n t = ⊎_elim (λ u. absurd (n (eqb→eq (type_of φ) 1 u))) (λ u. u) (attached_cases φ t)
-
 -- the words from the offset on are the stretch
 pub in_stretch : (d : Domain) (words : List ℕ) (i p s : ℕ) {n from : ℕ} → n ≡ (expander_at d i).route_indexes → from ≡ offset d i p
     → is_in s (take n (drop from words)) ≡ is_in s (stretch d words i p)
@@ -61,9 +56,6 @@ in_stretch d words i p s e f = rw (e, f)
 
 -- on over a phy, or `back` where its address s is the one that the request came from
 module _ (d : Domain) (i p came : ℕ) (back : Step) {s : ℕ} (q : s ≡ address_of (phy_at d i p)) where
-  pub move_back : s ≡ came → back ≡ cond (eqb (address_of (phy_at d i p)) came) back (step_of (move_by d i p))
-  move_back e = rw (eq-eqb (address_of (phy_at d i p)) came (sym q ∙ e))
-
   pub move_on : {j f : ℕ} → (s ≡ came → ⊥) → j ≡ number_of d (address_of (phy_at d i p)) → f ≡ attached_phy_of (phy_at d i p)
       → Onward (record { 0 = j }) (record { 0 = f }) ≡ cond (eqb (address_of (phy_at d i p)) came) back (step_of (move_by d i p))
   move_on n e g = rw (ne_eqb (address_of (phy_at d i p)) came (λ h. n (q ∙ h)), e, g)

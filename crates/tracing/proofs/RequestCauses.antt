@@ -6,15 +6,13 @@ use mathlib.Core.Bool.{Bool, not, ◌||◌, ◌&&◌}
 use mathlib.Core.List.{List}
 use lib.ListN.{length}
 use lib.Dec.{T, eqb, ltb, leb, eqb→eq, ltb→lt, lt→ltb, leb→le, le→leb, not_T, T_not}
-use Rattle.tables.specs.WiringDefinitions.{bytes_for, Refusal, refused, good, unless, refusal, Domain, phy_at, to_end, Setting, domain_read}
+use Rattle.tables.specs.WiringDefinitions.{Result, bytes_for, Refusal, refused, good, unless, refusal, Domain, phy_at, to_end, Setting, domain_read}
 use Rattle.tables.specs.filling.Tables.{needed}
 use Rattle.tables.specs.filling.Entries.{Entries, Room, room_of, counted}
 use Rattle.tables.proofs.WiringLemmas.{tests, or_cases, or_left, or_right, eq→eqb, unless-good, good-unless}
 use Rattle.tables.specs.JudgingCall.{judged_domain}
 use Rattle.tables.specs.lists.PreparedLists.{judged_in}
 use Rattle.tracing.specs.declared.End.{End}
-use Rattle.tracing.specs.declared.TraceAnswer.{TraceAnswer}
-use Rattle.tracing.specs.declared.TraceAnswer.TheVariants.{Refused, Ended}
 use Rattle.tracing.specs.Trace.{Request, traced, allowed, requested, trace_call, traced_request, TraceDone}
 use Rattle.tracing.specs.TraceCauses.{Asks}
 use Rattle.tracing.specs.Answers.{Walked, request_in}
@@ -76,32 +74,32 @@ module _ (r : Room) (bytes : ℕ) (q : Request) (d : Domain) where
 
 module _ (d : Domain) (t : Entries) (q : Request) (before : List ℕ) where
   pub answer_no : {r : Refusal} → refused r ≡ requested q (room_of t) (length before) d
-      → TraceDone (traced_request d t (length before) q) (Refused r) before before
+      → TraceDone (traced_request d t (length before) q) (refused r) before before
   unfolding traced_request
   answer_no {r} e = rw (sym e) (record { answers = refl; bytes = refl })
 
   pub answer_yes : {x : Domain} {end : End} {now : List ℕ} → good x ≡ requested q (room_of t) (length before) d
-      → Walked (traced d (counted t) q) end before now → TraceDone (traced_request d t (length before) q) (Ended end) before now
+      → Walked (traced d (counted t) q) end before now → TraceDone (traced_request d t (length before) q) (good end) before now
   unfolding traced_request
   answer_yes e w = rw (sym e) (record { answers = w.ends; bytes = w.bytes })
 
 -- the trace call past causes 1 to 6
 module _ (chain first low : ℕ) (d : Domain) (t : Entries) (before : List ℕ) (q : Request) where
-  pub rows-refused : (r : Refusal) → judged_in chain first low d ≡ refused r → TraceDone (request_in chain first low d t (length before) q) (Refused r) before before
+  pub rows-refused : (r : Refusal) → judged_in chain first low d ≡ refused r → TraceDone (request_in chain first low d t (length before) q) (refused r) before before
   unfolding request_in
   rows-refused r e = rw e (record { answers = refl; bytes = refl })
 
-  pub rows-done : (answer : TraceAnswer) (after : List ℕ) → judged_in chain first low d ≡ good d
+  pub rows-done : (answer : Result End) (after : List ℕ) → judged_in chain first low d ≡ good d
       → TraceDone (traced_request d t (length before) q) answer before after → TraceDone (request_in chain first low d t (length before) q) answer before after
   unfolding request_in
   rows-done answer after e a = rw e a
 
 module _ (setting : Setting) (file : List ℕ) (t : Entries) (before : List ℕ) (q : Request) where
-  pub call-refused : (r : Refusal) → domain_read setting file ≡ refused r → TraceDone (trace_call setting file t (length before) q) (Refused r) before before
+  pub call-refused : (r : Refusal) → domain_read setting file ≡ refused r → TraceDone (trace_call setting file t (length before) q) (refused r) before before
   unfolding trace_call
   call-refused r e = rw e (record { answers = refl; bytes = refl })
 
-  pub call-done : (first low : ℕ) (d : Domain) (answer : TraceAnswer) (after : List ℕ) → domain_read setting file ≡ good d → judged_in setting.chain first low d ≡ judged_domain setting.chain d
+  pub call-done : (first low : ℕ) (d : Domain) (answer : Result End) (after : List ℕ) → domain_read setting file ≡ good d → judged_in setting.chain first low d ≡ judged_domain setting.chain d
       → TraceDone (request_in setting.chain first low d t (length before) q) answer before after → TraceDone (trace_call setting file t (length before) q) answer before after
   unfolding trace_call request_in
   call-done first low d answer after e j a = rw e (rw j at a)

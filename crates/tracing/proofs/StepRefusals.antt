@@ -14,7 +14,7 @@ use Rattle.tables.specs.JudgingCall.{judged}
 use Rattle.tables.proofs.WiringLemmas.{tests, or_cases, or_left, or_right, eq→eqb, unless-good, good-unless, then-good, good-then}
 use Rattle.tables.proofs.TableRefusals.{Numbered, numbered-unless, numbered-then, exactly, judged-numbered, judged_causes, causes_judged}
 use Rattle.tracing.specs.declared.Reason.{Reason}
-use Rattle.tracing.specs.declared.StepAnswer.{StepAnswer}
+use Rattle.tracing.specs.declared.Told.{Told}
 use Rattle.tracing.specs.Trace.{Request}
 use Rattle.tracing.specs.Reasons.{step_allowed, step_requested, StepTold, step_told, step_asked, step_call, step_answer_of}
 use Rattle.tracing.specs.TraceCauses.{trace_number}
@@ -69,7 +69,7 @@ told-rule (refused r) = refl
 told-rule (good t) = refl
 
 -- the call answers exactly when none of its causes holds, and refuses with no other number
-pub step-exactly : (setting : Setting) (file : List ℕ) (t : Entries) (q : Request) (answer : StepAnswer) → answer ≡ step_answer_of (step_call setting file t q)
+pub step-exactly : (setting : Setting) (file : List ℕ) (t : Entries) (q : Request) (answer : Result Told) → answer ≡ step_answer_of (step_call setting file t q)
     → RefusesExactly (reason_told answer) (NoStepCause setting file q (room_of t)) trace_number
 unfolding step_call step_asked rule_of
 step-exactly setting file t q answer e =

@@ -13,7 +13,6 @@ use Rattle.tables.specs.WiringDefinitions.{bits_of, packed_in, good, Result, In,
 use Rattle.tables.specs.filling.Tables.{address_at, level_list, table, tables, size, sizes, needed, offset_in, offset, stretch}
 use Rattle.tables.specs.filling.Entries.{Entries, Room, room_of, Enough, counted_by, counted}
 use Rattle.tables.specs.JudgingCall.{judged, table_call, TablesDone}
-use Rattle.tables.specs.declared.TablesGiven.TheVariants.{Counts}
 use Rattle.tables.specs.TableCauses.{Routable}
 use Rattle.tables.proofs.WiringLemmas.{tests, is_true, eq→eqb, in_cast, last_in, take_in, Bits, length-bits_of, length-packed_in, bit-packed, bits-bits_of, same_rest, ChainTail, Wired, wired-file, adj_symmetric, end-attached, expander-attached, far-below, far-is, to-adj}
 use Rattle.tables.proofs.levels.LevelsBeyond.{Sub, levels-down, link-both}
@@ -260,7 +259,7 @@ module _ (setting : Setting) (file : List ℕ) (d : Domain) (j : judged setting 
     tables_are : TablesOf setting.chain d o.before t
     tables_are =
         tables-of setting.chain d o.table_count o.word_count o.before t
-        (subst (λ y. TablesDone y (Counts o.table_count o.word_count) o.before t) (table-call setting file d ((judged-file setting file d).0 j).0 (room_of o.before)) o.given)
+        (subst (λ y. TablesDone y (good (record { table_count = o.table_count; word_count = o.word_count })) o.before t) (table-call setting file d ((judged-file setting file d).0 j).0 (room_of o.before)) o.given)
 
     enough : Enough (needed d) (room_of t)
     enough = let e = (index-tables d o.before r.fits tables_are.enough).size in

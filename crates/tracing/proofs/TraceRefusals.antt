@@ -7,13 +7,13 @@ use mathlib.Core.List.{List}
 use native.Mathlib.Omega.{arith}
 use lib.ListN.{length}
 use lib.Dec.{eqb, leb}
-use Rattle.tables.specs.WiringDefinitions.{bytes_for, good, then, refusal, Setting, Domain, RefusesExactly}
+use Rattle.tables.specs.WiringDefinitions.{Result, bytes_for, good, then, refusal, Setting, Domain, RefusesExactly}
 use Rattle.tables.specs.filling.Tables.{needed}
 use Rattle.tables.specs.filling.Entries.{Entries, Room, room_of, counted}
 use Rattle.tables.specs.JudgingCall.{judged}
 use Rattle.tables.proofs.WiringLemmas.{then-good, good-then}
 use Rattle.tables.proofs.TableRefusals.{Numbered, numbered-unless, numbered-then, exactly, judged-numbered, judged_causes, causes_judged}
-use Rattle.tracing.specs.declared.TraceAnswer.{TraceAnswer}
+use Rattle.tracing.specs.declared.End.{End}
 use Rattle.tracing.specs.Trace.{Traced, Request, traced, allowed, requested, traced_request, trace_call, Reported, report, trace_answer, TraceDone}
 use Rattle.tracing.specs.TraceCauses.{Asks, NoTraceCause, trace_number}
 use Rattle.tracing.proofs.RequestCauses.{requested_iff}
@@ -27,7 +27,7 @@ requested-numbered q room bytes d =
     (numbered-unless trace_number (not (eqb q.address 0)) (refusal 17 0 0) (good d) (inr (omega arith, omega arith)) tt)))
 
 -- the trace call answers exactly when none of its causes holds, and refuses with no other number
-pub trace-exactly : (setting : Setting) (file : List ℕ) (t : Entries) (lent after : List ℕ) (q : Request) (answer : TraceAnswer) → TraceDone (trace_call setting file t (length lent) q) answer lent after
+pub trace-exactly : (setting : Setting) (file : List ℕ) (t : Entries) (lent after : List ℕ) (q : Request) (answer : Result End) → TraceDone (trace_call setting file t (length lent) q) answer lent after
     → RefusesExactly (trace_answer answer) (NoTraceCause setting file q (room_of t) (length lent)) trace_number
 unfolding trace_call traced_request
 trace-exactly setting file r lent after q answer o =

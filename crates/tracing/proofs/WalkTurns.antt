@@ -77,7 +77,7 @@ module _ (d : Domain) (words : List ℕ) (s n k i q : ℕ) (bytes bytes₀ : Lis
       })
 
   -- as many steps as there are expanders
-  pub walk_end : n ≤ k → k ≤ length bytes → Walked v (end_of NoDestination i 255 k) bytes₀ bytes
+  pub walk_end : n ≡ k → k ≤ length bytes → Walked v (end_of NoDestination i 255 n) bytes₀ bytes
   unfolding trace_from
   walk_end h g =
       let e : n - k ≡ 0 = omega arith in
@@ -85,9 +85,9 @@ module _ (d : Domain) (words : List ℕ) (s n k i q : ℕ) (bytes bytes₀ : Lis
       let u : after (take k bytes) (record { outcome = NoDestination; last = i; phy = 255; passed = [] }) ≡ v =
       ap (λ (x : ℕ). after (take k bytes) (trace_from x d words i q s)) (sym e) ∙ inv in
       let m : length l ≡ k = ap length (append-nil (take k bytes)) ∙ length-take-le k bytes g in
-      subst (λ (x : Traced). Walked x (end_of NoDestination i 255 k) bytes₀ bytes) u
+      subst (λ (x : Traced). Walked x (end_of NoDestination i 255 n) bytes₀ bytes) u
       (record {
-        ends = ap (reported NoDestination i 255) (sym m);
+        ends = ap (reported NoDestination i 255) (h ∙ sym m);
         bytes =
             sym (take-append-drop k bytes) ∙ ap (λ (x : List ℕ). x ++ drop k bytes) (sym (append-nil (take k bytes)))
             ∙ ap (λ (x : List ℕ). l ++ x) (same ∙ ap (λ (x : ℕ). drop x bytes₀) (sym m));

@@ -1,7 +1,7 @@
 -- What the code's answers say, and what its parts promise.
 use Rattle.std.specs.Prelude.{ℕ, ◌≡◌, List, ◌++◌, length, take, drop}
 use Rattle.tables.specs.WiringDefinitions.{places_from}
-use Rattle.tables.specs.WiringDefinitions.{Result, then, Domain}
+use Rattle.tables.specs.WiringDefinitions.{good, Result, then, Domain}
 use Rattle.tables.specs.filling.Tables.{sizes}
 use Rattle.tables.specs.filling.Entries.{Entries}
 use Rattle.tables.specs.lists.PreparedLists.{judged_in}
@@ -10,12 +10,12 @@ use Rattle.tracing.specs.Steps.{bearing, listing, subtracting, subtractively, by
 use Rattle.tracing.specs.Trace.{Request, Traced, traced_request, report, trace_answer}
 use Rattle.tracing.specs.declared.Step.{Step}
 use Rattle.tracing.specs.declared.Step.TheVariants.{Ended, Onward}
-use Rattle.tracing.specs.declared.steps.Pick.{Pick}
-use Rattle.tracing.specs.declared.steps.Pick.TheVariants.{At, Nowhere}
+use Rattle.std.specs.declared.option.Option.{Option}
+use Rattle.std.specs.declared.option.Option.TheVariants.{None, Some}
+use Rattle.frames.specs.declared.PhyId.{PhyId}
 use Rattle.tracing.specs.declared.Outcome.{Outcome}
 use Rattle.tracing.specs.declared.Outcome.TheVariants.{Arrived, NoDestination, BadDestination}
 use Rattle.tracing.specs.declared.End.{End}
-use Rattle.tracing.specs.declared.TraceAnswer.TheVariants.{Ended as TraceEnded}
 
 -- how the code says that a request ends at the expander itself: with phy 255
 abbrev pub ended_here : Outcome → Step
@@ -30,9 +30,9 @@ step_of lost = ended_here NoDestination
 step_of (onward j q) = Onward (record { 0 = j }) (record { 0 = q })
 
 -- what a pick says in document 01's terms
-abbrev pub pick_answer : Pick → Picked
-pick_answer (At p) = at p.0
-pick_answer Nowhere = nowhere
+abbrev pub pick_answer : Option PhyId → Picked
+pick_answer (Some p) = at p.0
+pick_answer None = nowhere
 
 -- the phys that (ii), (iii) and (iv) pick
 abbrev pub bearing_pick : Domain → ℕ → ℕ → Picked
@@ -64,7 +64,7 @@ end_of o i p count = record { outcome = o; last = record { 0 = i }; phy = record
 
 -- what a walk answers, and its bytes
 pub record Walked (t : Traced) (end : End) (before after : List ℕ) : Type 0 where
-  pub ends : trace_answer (TraceEnded end) ≡ report t
+  pub ends : trace_answer (good end) ≡ report t
   pub bytes : after ≡ t.passed ++ drop (length t.passed) before
 
 -- the judging call's causes from 7 on, and 15 to 18, then the trace; 14 by own lists, and 16 where there is no room for entries of so

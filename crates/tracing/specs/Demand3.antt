@@ -1,19 +1,17 @@
 -- Demand 3, in the order of its sentences, said of the answers and the lent words and bytes of the table call and the trace call.
 use Rattle.std.specs.Prelude.{ℕ, ◌<◌, ◌≡◌, ◌⊎◌, ◌≢◌, ◌↔◌, List, [], ◌∷◌, ◌++◌, length, take, drop, T}
-use Rattle.tables.specs.WiringDefinitions.{Result, Distinct, Below, last, Domain, expander_at, phy_at, address_of, to_end}
+use Rattle.tables.specs.WiringDefinitions.{good, Result, Distinct, Below, last, Domain, expander_at, phy_at, address_of, to_end}
 use Rattle.tables.specs.WiringDefinitions.{ChainIn, ClearChain, Home, Borne}
 use Rattle.tables.specs.filling.Tables.{needed}
 use Rattle.tables.specs.filling.Entries.{Entries, Room, room_of, Enough, counted}
+use Rattle.tables.specs.declared.Counted.{Counted}
 use Rattle.tables.specs.JudgingCall.{TablesDone}
 use Rattle.tables.specs.TableCauses.{Routable}
-use Rattle.tables.specs.declared.TablesGiven.{TablesGiven}
-use Rattle.tables.specs.declared.TablesGiven.TheVariants.{Counts}
 use Rattle.tracing.specs.Steps.{Step, here, end_device, bad, lost, onward, step}
 use Rattle.tracing.specs.Trace.{Traced, Request, TraceDone}
 use Rattle.tracing.specs.declared.Outcome.{Outcome}
 use Rattle.tracing.specs.declared.Outcome.TheVariants.{Arrived, NoDestination, BadDestination}
 use Rattle.tracing.specs.declared.End.{End}
-use Rattle.tracing.specs.declared.TraceAnswer.TheVariants.{Ended}
 
 -- a request from the expander itself, or from an end device that does not bear the address
 abbrev pub Starts : Domain → Request → Type 0
@@ -89,7 +87,7 @@ pub record Mission (d : Domain) (q : Request) (e : End) (lent after : List ℕ) 
 module _ (d : Domain) (table_called : Room → Result Domain) (trace_called : Entries → ℕ → Request → Result Traced) where
   -- a request over these entries, which is a trace that isn't refused: the trace call answered e, and left these bytes of those lent
   abbrev pub TracedOver : Entries → Request → End → List ℕ → List ℕ → Type 0
-  TracedOver t q e lent after = TraceDone (trace_called t (length lent) q) (Ended e) lent after
+  TracedOver t q e lent after = TraceDone (trace_called t (length lent) q) (good e) lent after
 
   -- a request over the tables given: words and bits as the table call left them, which answered with counts
   pub record OverTables (q : Request) (e : End) (lent after : List ℕ) : Type 0 where
@@ -97,7 +95,7 @@ module _ (d : Domain) (table_called : Room → Result Domain) (trace_called : En
     pub filled : Entries
     pub table_count : ℕ
     pub word_count : ℕ
-    pub given : TablesDone (table_called (room_of before)) (Counts table_count word_count) before filled
+    pub given : TablesDone (table_called (room_of before)) (good (record { table_count = table_count; word_count = word_count })) before filled
     pub over : TracedOver filled q e lent after
 
   -- a chain may have so many expanders
@@ -105,8 +103,8 @@ module _ (d : Domain) (table_called : Room → Result Domain) (trace_called : En
     -- "tables are given exactly when there is no loop, every expander is chained to the first, and no level list exceeds R", and "only where
     -- the limits are kept as well" (document 02, paper 13): with room, the table call answers with counts exactly then. The limits on expanders
     -- and phys are kept where the domain is past cause 3
-    pub given : (before filled : Entries) (answer : TablesGiven) → Enough (needed d) (room_of before) → TablesDone (table_called (room_of before)) answer before filled
-        → ((t w : ℕ) × (answer ≡ Counts t w)) ↔ Routable chain d
+    pub given : (before filled : Entries) (answer : Result Counted) → Enough (needed d) (room_of before) → TablesDone (table_called (room_of before)) answer before filled
+        → ((t w : ℕ) × (answer ≡ good (record { table_count = t; word_count = w }))) ↔ Routable chain d
     -- "over those tables": requests whose chain crosses no table-to-table link, or whose address no device bears, end as in the mission
     pub mission : (q : Request) (e : End) (lent after : List ℕ) → OverTables q e lent after → Uncrossed d q → Mission d q e lent after
     -- whatever words and bits: a request that arrives arrives where the address is borne

@@ -9,8 +9,7 @@ use Rattle.tracing.specs.Steps.{Step, here, bad, lost, Pick, at, nowhere, pick, 
 use Rattle.tracing.specs.Trace.{Request}
 use Rattle.tracing.specs.Answers.{step_of}
 use Rattle.tracing.specs.declared.Reason.{Reason}
-use Rattle.tracing.specs.declared.StepAnswer.{StepAnswer}
-use Rattle.tracing.specs.declared.StepAnswer.TheVariants.{Refused, Told}
+use Rattle.tracing.specs.declared.Told.{Told}
 
 -- a rule, 1 to 5 for (i) to (v), the phy picked, and the route index of the entry that matched; 255 and 65535 where there is none
 abbrev pub because : ℕ → ℕ → ℕ → Reason
@@ -88,6 +87,6 @@ unfoldable pub step_call : Setting → List ℕ → Entries → Request → Resu
 step_call setting file t q = then (judged setting file) (λ d. step_asked d t q)
 
 -- how the code says what the call answers
-abbrev pub step_answer_of : Result StepTold → StepAnswer
-step_answer_of (refused r) = Refused r
-step_answer_of (good t) = Told t.reason (step_of t.step)
+abbrev pub step_answer_of : Result StepTold → Result Told
+step_answer_of (refused r) = refused r
+step_answer_of (good t) = good (record { reason = t.reason; step = step_of t.step })

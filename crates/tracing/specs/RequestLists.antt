@@ -6,8 +6,6 @@ use Rattle.tables.specs.filling.Entries.{Entries, Room, Enough}
 use Rattle.tables.specs.lists.PreparedLists.{judged_in}
 use Rattle.tracing.specs.Trace.{Traced, request, traced_request, report}
 use Rattle.tracing.specs.Packing.{packed, end_packed}
-use Rattle.tracing.specs.declared.ListAnswer.{ListAnswer}
-use Rattle.tracing.specs.declared.ListAnswer.TheVariants.{Refused, Requests}
 
 -- one request of the list: 15 where its first word has a bit above start and arrival phy; else as by itself, with 64 bytes of its own
 abbrev pub one_traced : Domain → Entries → ℕ → ℕ → Result Traced
@@ -38,19 +36,14 @@ list_for room answers count d =
 unfoldable pub list_in : ℕ → ℕ → ℕ → Domain → Room → ℕ → ℕ → Result Domain
 list_in chain first low d room answers count = then (judged_in chain first low d) (list_for room answers count)
 
--- what the answer says: how many requests there are
-abbrev pub list_answer : ListAnswer → Result ℕ
-list_answer (Refused r) = refused r
-list_answer (Requests n) = good n
-
 -- the words after the call: the answers, and the rest as it was; all as it was where refused
 abbrev pub list_after : Result Domain → Entries → List ℕ → List ℕ → List ℕ
 list_after (refused r) t requests before = before
 list_after (good d) t requests before = answers_of d t requests ++ drop (request_count requests) before
 
 -- all that a list of requests with this outcome promises: the answer, and the words after
-pub record ListTraced (outcome : Result Domain) (t : Entries) (requests : List ℕ) (answer : ListAnswer) (before after : List ℕ) : Type 0 where
-  pub answers : list_answer answer ≡ then outcome (λ d. good (request_count requests))
+pub record ListTraced (outcome : Result Domain) (t : Entries) (requests : List ℕ) (answer : Result ℕ) (before after : List ℕ) : Type 0 where
+  pub answers : answer ≡ then outcome (λ d. good (request_count requests))
   pub words : after ≡ list_after outcome t requests before
 
 -- tracing one request of a list: who has which address, and room for the tables and for the expanders passed

@@ -6,8 +6,7 @@ use Rattle.tables.specs.filling.Entries.{Room, Enough}
 use Rattle.tables.specs.TableCauses.{NoJudgingCause}
 use Rattle.tracing.specs.Trace.{Request}
 use Rattle.tracing.specs.declared.Reason.{Reason}
-use Rattle.tracing.specs.declared.StepAnswer.{StepAnswer}
-use Rattle.tracing.specs.declared.StepAnswer.TheVariants.{Refused, Told}
+use Rattle.tracing.specs.declared.Told.{Told}
 
 -- none of causes 15 to 18 holds of a request at one expander, with so much room for table entries
 pub record AsksStep (q : Request) (room : Room) (d : Domain) : Type 0 where
@@ -25,6 +24,6 @@ pub record NoStepCause (setting : Setting) (file : List ℕ) (q : Request) (room
   pub asks : AsksStep q room judging.domain
 
 -- what the answer says: a refusal, or the rule that applies
-abbrev pub reason_told : StepAnswer → Result Reason
-reason_told (Refused r) = refused r
-reason_told (Told reason step) = good reason
+abbrev pub reason_told : Result Told → Result Reason
+reason_told (refused r) = refused r
+reason_told (good t) = good t.reason

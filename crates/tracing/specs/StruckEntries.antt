@@ -1,10 +1,9 @@
 -- An address struck from the tables that lead over one link, and what becomes of requests for it (document 02, paper 11).
 use Rattle.std.specs.Prelude.{ℕ, ◌≡◌, ◌⊎◌, ◌≢◌, Bool, cond, ◌&&◌, List, [], ◌∷◌, ◌++◌, map, length, take, drop, T, eqb}
-use Rattle.tables.specs.WiringDefinitions.{bits_of, packed_in, Result, In, Place, places, Domain, phy_at, address_of, is_table, to_end, to_expander, NoTableToTable}
+use Rattle.tables.specs.WiringDefinitions.{bits_of, packed_in, Result, good, In, Place, places, Domain, phy_at, address_of, is_table, to_end, to_expander, NoTableToTable}
 use Rattle.tables.specs.filling.Tables.{size, stretch}
 use Rattle.tables.specs.filling.Entries.{Entries, entries, Room, room_of, counted_by}
 use Rattle.tables.specs.JudgingCall.{TablesDone}
-use Rattle.tables.specs.declared.TablesGiven.TheVariants.{Counts}
 use Rattle.tracing.specs.Trace.{Traced, Request}
 use Rattle.tracing.specs.Demand3.{TracedOver}
 use Rattle.tracing.specs.declared.End.{End}
@@ -44,7 +43,7 @@ module _ (d : Domain) (table_called : Room → Result Domain) (trace_called : En
     pub before : Entries
     pub table_count : ℕ
     pub word_count : ℕ
-    pub given : TablesDone (table_called (room_of before)) (Counts table_count word_count) before filled
+    pub given : TablesDone (table_called (room_of before)) (good (record { table_count = table_count; word_count = word_count })) before filled
     pub routed : T (is_table (phy_at d q.start p))
     pub nonzero : q.address ≢ 0
     pub listed : In q.address (stretch d filled.words q.start p)

@@ -5,10 +5,9 @@ use Rattle.tables.specs.filling.Tables.{needed}
 use Rattle.tables.specs.filling.Entries.{Entries, Room, room_of, counted}
 use Rattle.tables.specs.JudgingCall.{judged_domain, judged}
 use Rattle.tracing.specs.Steps.{Step, here, end_device, bad, lost, onward, step}
+use Rattle.tracing.specs.declared.End.{End}
 use Rattle.tracing.specs.declared.Outcome.{Outcome}
 use Rattle.tracing.specs.declared.Outcome.TheVariants.{Arrived, NoDestination, BadDestination}
-use Rattle.tracing.specs.declared.TraceAnswer.{TraceAnswer}
-use Rattle.tracing.specs.declared.TraceAnswer.TheVariants.{Refused, Ended}
 
 -- outcome, last expander, phy (255 unless arrived at an end device), and the expanders passed
 pub record Traced : Type 0 where
@@ -87,9 +86,9 @@ pub record Reported : Type 0 where
 abbrev pub report : Traced → Result Reported
 report t = good (record { outcome = t.outcome; last = t.last; phy = t.phy; count = length t.passed })
 
-abbrev pub trace_answer : TraceAnswer → Result Reported
-trace_answer (Refused r) = refused r
-trace_answer (Ended e) = good (record { outcome = e.outcome; last = e.last.0; phy = e.phy.0; count = e.count })
+abbrev pub trace_answer : Result End → Result Reported
+trace_answer (refused r) = refused r
+trace_answer (good e) = good (record { outcome = e.outcome; last = e.last.0; phy = e.phy.0; count = e.count })
 
 -- the bytes after the call: the expanders passed, and the rest as it was; all as it was where refused
 abbrev pub bytes_after : Result Traced → List ℕ → List ℕ
@@ -97,6 +96,6 @@ bytes_after (refused r) before = before
 bytes_after (good t) before = t.passed ++ drop (length t.passed) before
 
 -- all that a trace call with this outcome promises: the answer, and the bytes after
-pub record TraceDone (outcome : Result Traced) (answer : TraceAnswer) (before after : List ℕ) : Type 0 where
+pub record TraceDone (outcome : Result Traced) (answer : Result End) (before after : List ℕ) : Type 0 where
   pub answers : trace_answer answer ≡ then outcome report
   pub bytes : after ≡ bytes_after outcome before

@@ -5,8 +5,8 @@ ghost use Rattle.tracing.specs.Answers.{request_in};
 ghost use Rattle.tables.specs.WiringDefinitions.{byte, domain_in, FileRoom, IndexLeft};
 ghost use Rattle.tables.specs.filling.Entries.{entries};
 
-use crate::{TraceAnswer, requests};
-use tables::{Check, DomainRead, ExpanderNumber, PhyId, Setting};
+use crate::{End, requests};
+use tables::{ExpanderNumber, PhyId, Refusal, Setting};
 
 // Causes 7 to 12, 23, 14 and 15 to 18 of a request over rows, then the walk. A chain may have `chain` expanders. `first` and `low` have room for who has which
 // address, and are left as `judge_rows` leaves them; 16 where there is too little.
@@ -21,17 +21,14 @@ pub fn request_rows(
     s: u64,
     passed: &mut [u8],
     chain: u8,
-) -> TraceAnswer
+) -> Result<End, Refusal>
     ensures trace_done { TraceDone
         (request_in chain (length first.old) (length low.old) (domain_in rows.now) (entries words.now bits.now) (length passed.old) (request start.0 arrival.0 s))
         result passed.old passed.new }
     ensures index_left { IndexLeft (domain_in rows.now) first.old low.old first.new low.new }
 {
-    let verdict = tables::judge_rows(rows, first, low, chain);
-    match verdict {
-        Check::Refused(r) => TraceAnswer::Refused(r),
-        Check::Passed => requests::trace_rows(rows, first, words, bits, start, arrival, s, passed),
-    }
+    tables::judge_rows(rows, first, low, chain)?;
+    requests::trace_rows(rows, first, words, bits, start, arrival, s, passed)
 }
 
 // The trace call, with room for the rows of the file's domain and for who has which address.
@@ -47,32 +44,27 @@ fn trace_in(
     arrival: PhyId,
     s: u64,
     passed: &mut [u8],
-) -> TraceAnswer
+) -> Result<End, Refusal>
     requires { FileRoom setting file.now rows.old first.old low.old }
     ensures { TraceDone
         (trace_call setting file.now (entries words.now bits.now) (length passed.old) (request start.0 arrival.0 s))
         result passed.old passed.new }
 {
-    let read = tables::read_domain(setting, file, rows);
-    match read {
-        DomainRead::Refused(r) => TraceAnswer::Refused(r),
-        DomainRead::Expanders(n) => {
-            let e = tables::ROW_WORDS * (n as usize);
-            let chain = setting.chain;
-            request_rows(
-                &rows[..e],
-                first,
-                low,
-                words,
-                bits,
-                start,
-                arrival,
-                s,
-                passed,
-                chain,
-            )
-        }
-    }
+    let n = tables::read_domain(setting, file, rows)?;
+    let e = tables::ROW_WORDS * (n as usize);
+    let chain = setting.chain;
+    request_rows(
+        &rows[..e],
+        first,
+        low,
+        words,
+        bits,
+        start,
+        arrival,
+        s,
+        passed,
+        chain,
+    )
 }
 
 // The trace call of a file that states few expanders: at most 2, or at most 8.
@@ -85,7 +77,7 @@ fn trace_few(
     arrival: PhyId,
     s: u64,
     passed: &mut [u8],
-) -> TraceAnswer
+) -> Result<End, Refusal>
     requires { byte file.now 1 ≤ 8 }
     ensures { TraceDone
         (trace_call setting file.now (entries words.now bits.now) (length passed.old) (request start.0 arrival.0 s))
@@ -137,7 +129,7 @@ fn trace_many(
     arrival: PhyId,
     s: u64,
     passed: &mut [u8],
-) -> TraceAnswer
+) -> Result<End, Refusal>
     ensures { TraceDone
         (trace_call setting file.now (entries words.now bits.now) (length passed.old) (request start.0 arrival.0 s))
         result passed.old passed.new }
@@ -171,7 +163,7 @@ pub fn trace(
     arrival: PhyId,
     s: u64,
     passed: &mut [u8],
-) -> TraceAnswer
+) -> Result<End, Refusal>
     ensures { TraceDone
         (trace_call setting file.now (entries words.now bits.now) (length passed.old) (request start.0 arrival.0 s))
         result passed.old passed.new }

@@ -18,10 +18,9 @@ pub use step_call::explain_step;
 
 // What the layer above uses of the layers below.
 pub use tables::{
-    Discover, DiscoverRead, ExpanderNumber, General, GeneralRead, GeneralReadSas2, Judgement,
-    LongGeneral, PhyId, Refusal, Route, RouteIndex, RouteRead, RouteWrite, Setting, TablesGiven,
-    Wiring, give_tables, judge, put_route, read_discover, read_general, read_general_sas2,
-    read_route, wire,
+    Counted, Discover, Discovered, ExpanderNumber, General, GeneralSas2, LongGeneral, PhyId,
+    Refusal, Route, RouteIndex, Setting, give_tables, judge, put_route, read_discover,
+    read_general, read_general_sas2, read_route, wire,
 };
 
 // What an expander does with a request: it ends there, with its outcome and phy (255 unless arrived at an end device), or goes
@@ -41,11 +40,11 @@ pub struct Reason {
     pub index: RouteIndex,
 }
 
-// What the call on one expander's step answers: the reason, and the step.
+// What the call on one expander's step tells: the reason, and the step.
 #[derive(Clone, Copy)]
-pub enum StepAnswer {
-    Refused(Refusal),
-    Told(Reason, Step),
+pub struct Told {
+    pub reason: Reason,
+    pub step: Step,
 }
 
 // The outcome of a request: arrived, NO DESTINATION, BAD DESTINATION.
@@ -64,18 +63,4 @@ pub struct End {
     pub last: ExpanderNumber,
     pub phy: PhyId,
     pub count: u8,
-}
-
-// What the trace call answers: how the request ends.
-#[derive(Clone, Copy)]
-pub enum TraceAnswer {
-    Refused(Refusal),
-    Ended(End),
-}
-
-// What tracing a list of requests answers: how many requests there are.
-#[derive(Clone, Copy)]
-pub enum ListAnswer {
-    Refused(Refusal),
-    Requests(usize),
 }

@@ -3,7 +3,7 @@ ghost use Rattle.std.specs.Prelude.{◌≡◌, ◌≤◌};
 ghost use Rattle.tracing.specs.Trace.{trace_answer};
 ghost use Rattle.tracing.specs.Packing.{pack_refusal, packed, pack_outcome, pack_end, end_packed};
 
-use crate::{End, Outcome, TraceAnswer};
+use crate::{End, Outcome};
 use tables::Refusal;
 
 // A refusal: 2 to the power 63, and below it number, expander and phy, a byte each.
@@ -36,11 +36,11 @@ pub fn pack_end(e: End) -> u64
 }
 
 // What a trace answers: a refusal, or how the request ends.
-pub(crate) fn pack_trace(answer: TraceAnswer) -> u64
+pub(crate) fn pack_trace(answer: Result<End, Refusal>) -> u64
     ensures { result ≡ packed end_packed (trace_answer answer) }
 {
     match answer {
-        TraceAnswer::Refused(r) => pack_refusal(r),
-        TraceAnswer::Ended(e) => pack_end(e),
+        Err(r) => pack_refusal(r),
+        Ok(e) => pack_end(e),
     }
 }

@@ -5,7 +5,7 @@ ghost use Rattle.tables.specs.filling.Entries.{entries, counted};
 ghost use Rattle.tracing.specs.Reasons.{because, reason, subtractive_reason, table_reason};
 
 use crate::Reason;
-use crate::steps::{Pick, came_from, pick_bearing, pick_listing, pick_subtracting};
+use crate::steps::{came_from, pick_bearing, pick_listing, pick_subtracting};
 use crate::stretches::{index_of, stretch_start};
 use tables::{ExpanderNumber, PhyId, RouteIndex};
 
@@ -25,13 +25,13 @@ fn subtractive_reason(rows: &[u64], i: ExpanderNumber, came: u64) -> Reason
     ensures { result ≡ subtractive_reason (domain_in rows.now) i.0 came }
 {
     match pick_subtracting(rows, i) {
-        Pick::At(p) => {
+        Some(p) => {
             if tables::phy_address(tables::phy_at(rows, i, p)) == came {
                 return told(5, PhyId(255), 65535);
             }
             told(4, p, 65535)
         }
-        Pick::Nowhere => told(5, PhyId(255), 65535),
+        None => told(5, PhyId(255), 65535),
     }
 }
 
@@ -47,7 +47,7 @@ fn table_reason(
     ensures { result ≡ table_reason (domain_in rows.now) (counted (entries words.now bits.now)) i.0 came s }
 {
     match pick_listing(rows, words, bits, i, s) {
-        Pick::At(p) => {
+        Some(p) => {
             let at = stretch_start(rows, i, p);
             told(
                 3,
@@ -55,7 +55,7 @@ fn table_reason(
                 index_of(words, bits, at, tables::route_indexes(rows, i), s),
             )
         }
-        Pick::Nowhere => subtractive_reason(rows, i, came),
+        None => subtractive_reason(rows, i, came),
     }
 }
 
@@ -74,7 +74,7 @@ pub(crate) fn reason_for(
         return told(1, PhyId(255), 65535);
     }
     match pick_bearing(rows, i, s) {
-        Pick::At(p) => told(2, p, 65535),
-        Pick::Nowhere => table_reason(rows, words, bits, i, came_from(rows, i, arrival), s),
+        Some(p) => told(2, p, 65535),
+        None => table_reason(rows, words, bits, i, came_from(rows, i, arrival), s),
     }
 }

@@ -5,11 +5,10 @@ ghost use Rattle.tables.specs.filling.Tables.{needed};
 ghost use Rattle.tables.specs.filling.Entries.{entries, room_of, Enough};
 ghost use Rattle.tracing.specs.Trace.{request, traced_request, TraceDone};
 ghost use Rattle.tracing.specs.RequestLists.{one_answer, answers_of, request_count, list_for, list_in, ListTraced, RequestReady};
-ghost use Rattle.tracing.specs.declared.ListAnswer.TheVariants.{Refused};
 
 use crate::walks::walk;
-use crate::{ListAnswer, TraceAnswer, packing, requests};
-use tables::{Check, ExpanderNumber, PhyId, refused};
+use crate::{End, packing, requests};
+use tables::{ExpanderNumber, PhyId, Refusal, refused};
 
 // A request where the tables, their bits and the expanders passed have room: 15 and 17 are left to test.
 fn trace_lent(
@@ -21,19 +20,19 @@ fn trace_lent(
     arrival: PhyId,
     s: u64,
     passed: &mut [u8],
-) -> TraceAnswer
+) -> Result<End, Refusal>
     requires { RequestReady (domain_in rows.now) first.now (room_of (entries words.now bits.now)) passed.old }
     ensures { TraceDone
         (traced_request (domain_in rows.now) (entries words.now bits.now) (length passed.old) (request start.0 arrival.0 s))
         result passed.old passed.new }
 {
     if !requests::is_allowed(rows, start, arrival) {
-        return TraceAnswer::Refused(refused(15));
+        return Err(refused(15));
     }
     if s == 0 {
-        return TraceAnswer::Refused(refused(17));
+        return Err(refused(17));
     }
-    TraceAnswer::Ended(walk(rows, first, words, bits, start, arrival, s, passed))
+    Ok(walk(rows, first, words, bits, start, arrival, s, passed))
 }
 
 // The answer to the request of two words: 15 where the first is 65536 or more.
@@ -64,8 +63,7 @@ fn answer_all(
     ensures { answers.new ≡ answers_of (domain_in rows.now) (entries words.now bits.now) requests.now ++ drop (request_count requests.now) answers.old }
 {
     let n = requests.len() / 2;
-    let mut k: usize = 0;
-    while k < n {
+    for k in 0..n {
         answers[k] = answer_one(
             rows,
             first,
@@ -74,7 +72,6 @@ fn answer_all(
             requests[2 * k],
             requests[2 * k + 1],
         );
-        k += 1;
     }
 }
 
@@ -86,7 +83,7 @@ fn answer_list(
     bits: &[u8],
     requests: &[u64],
     answers: &mut [u64],
-) -> ListAnswer
+) -> Result<usize, Refusal>
     requires { IndexedFirst (domain_in rows.now) first.now }
     ensures { ListTraced
         (list_for (room_of (entries words.now bits.now)) (length answers.old) (request_count requests.now) (domain_in rows.now))
@@ -95,16 +92,16 @@ fn answer_list(
     let needed = tables::needed_words(rows);
     let n = requests.len() / 2;
     if words.len() < needed {
-        return ListAnswer::Refused(refused(16));
+        return Err(refused(16));
     }
     if answers.len() < n {
-        return ListAnswer::Refused(refused(16));
+        return Err(refused(16));
     }
     if bits.len() < tables::bytes_for(needed) {
-        return ListAnswer::Refused(refused(18));
+        return Err(refused(18));
     }
     answer_all(rows, first, words, bits, requests, answers);
-    ListAnswer::Requests(n)
+    Ok(n)
 }
 
 // Causes 7 to 12, 23 and 14, then 16 and 18, then the answer to each request: its own 15 or 17, or how it ends. A chain may have `chain`
@@ -118,15 +115,12 @@ pub fn trace_list(
     requests: &[u64],
     answers: &mut [u64],
     chain: u8,
-) -> ListAnswer
+) -> Result<usize, Refusal>
     ensures list_traced { ListTraced
         (list_in chain (length first.old) (length low.old) (domain_in rows.now) (room_of (entries words.now bits.now)) (length answers.old) (request_count requests.now))
         (entries words.now bits.now) requests.now result answers.old answers.new }
     ensures index_left { IndexLeft (domain_in rows.now) first.old low.old first.new low.new }
 {
-    let verdict = tables::judge_rows(rows, first, low, chain);
-    match verdict {
-        Check::Refused(r) => ListAnswer::Refused(r),
-        Check::Passed => answer_list(rows, first, words, bits, requests, answers),
-    }
+    tables::judge_rows(rows, first, low, chain)?;
+    answer_list(rows, first, words, bits, requests, answers)
 }

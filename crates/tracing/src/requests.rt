@@ -1,15 +1,13 @@
 // Requests: causes 15 to 18, and the walk.
 ghost use Rattle.std.specs.Prelude.{◌≡◌, length};
 ghost use Rattle.tables.specs.WiringDefinitions.{domain_in, IndexedFirst};
-ghost use Rattle.tables.specs.WiringDefinitions.{Refused};
 ghost use Rattle.tables.specs.WiringDefinitions.{check_answer};
-ghost use Rattle.tables.specs.WiringDefinitions.{refusal};
 ghost use Rattle.tables.specs.filling.Entries.{entries};
 ghost use Rattle.tracing.specs.Trace.{request, allowed, requested, traced_request, TraceDone};
 
-use crate::TraceAnswer;
+use crate::End;
 use crate::walks::walk;
-use tables::{Check, ExpanderNumber, PhyId};
+use tables::{ExpanderNumber, PhyId, Refusal};
 
 // Whether cause 15 does not hold: the start is an expander, and the arrival phy is 255 or attached to an end
 // device.
@@ -25,13 +23,6 @@ pub(crate) fn is_allowed(rows: &[u64], start: ExpanderNumber, arrival: PhyId) ->
     tables::phy_type(tables::phy_at(rows, start, arrival)) == 1
 }
 
-// A refusal at place 0, 0.
-pub(crate) fn refuse(number: u8) -> Check
-    ensures { result ≡ Refused (refusal number 0 0) }
-{
-    Check::Refused(tables::refused(number))
-}
-
 // Causes 15, 16, 18 and 17, with so many table words, bytes for their bits, and bytes for expanders passed lent.
 fn check_request(
     rows: &[u64],
@@ -41,27 +32,27 @@ fn check_request(
     start: ExpanderNumber,
     arrival: PhyId,
     s: u64,
-) -> Check
+) -> Result<(), Refusal>
     ensures { check_answer (domain_in rows.now) result ≡ requested (request start.0 arrival.0 s) (record { words = words; bits = bits }) bytes (domain_in rows.now) }
 {
     if !is_allowed(rows, start, arrival) {
-        return refuse(15);
+        return Err(tables::refused(15));
     }
     let needed = tables::needed_words(rows);
     if words < needed {
-        return refuse(16);
+        return Err(tables::refused(16));
     }
     if bytes < tables::expander_count(rows) as usize {
-        return refuse(16);
+        return Err(tables::refused(16));
     }
     let bytes_of_bits = tables::bytes_for(needed);
     if bits < bytes_of_bits {
-        return refuse(18);
+        return Err(tables::refused(18));
     }
     if s == 0 {
-        return refuse(17);
+        return Err(tables::refused(17));
     }
-    Check::Passed
+    Ok(())
 }
 
 // A request over rows: why it is refused, or how it ends; the expanders passed go into the lent bytes. `first`
@@ -75,13 +66,13 @@ pub(crate) fn trace_rows(
     arrival: PhyId,
     s: u64,
     passed: &mut [u8],
-) -> TraceAnswer
+) -> Result<End, Refusal>
     requires { IndexedFirst (domain_in rows.now) first.now }
     ensures { TraceDone
         (traced_request (domain_in rows.now) (entries words.now bits.now) (length passed.old) (request start.0 arrival.0 s))
         result passed.old passed.new }
 {
-    match check_request(
+    check_request(
         rows,
         words.len(),
         bits.len(),
@@ -89,10 +80,6 @@ pub(crate) fn trace_rows(
         start,
         arrival,
         s,
-    ) {
-        Check::Refused(r) => TraceAnswer::Refused(r),
-        Check::Passed => TraceAnswer::Ended(walk(
-            rows, first, words, bits, start, arrival, s, passed,
-        )),
-    }
+    )?;
+    Ok(walk(rows, first, words, bits, start, arrival, s, passed))
 }

@@ -5,11 +5,10 @@ ghost use Rattle.tables.specs.filling.Entries.{entries};
 ghost use Rattle.tracing.specs.Trace.{request};
 ghost use Rattle.tracing.specs.Reasons.{step_allowed, step_requested, step_asked, step_in, step_call, step_answer_of};
 
-use crate::StepAnswer;
+use crate::Told;
 use crate::reasons::reason_for;
-use crate::requests::refuse;
 use crate::steps::take_step;
-use tables::{Check, DomainRead, ExpanderNumber, PhyId, Setting};
+use tables::{ExpanderNumber, PhyId, Refusal, Setting};
 
 // Whether cause 15 does not hold: there is such an expander, and the arrival phy is 255 or attached.
 fn may_arrive(rows: &[u64], i: ExpanderNumber, arrival: PhyId) -> bool
@@ -32,23 +31,23 @@ fn check_step(
     i: ExpanderNumber,
     arrival: PhyId,
     s: u64,
-) -> Check
+) -> Result<(), Refusal>
     ensures { check_answer (domain_in rows.now) result ≡ step_requested (request i.0 arrival.0 s) (record { words = words; bits = bits }) (domain_in rows.now) }
 {
     if !may_arrive(rows, i, arrival) {
-        return refuse(15);
+        return Err(tables::refused(15));
     }
     let needed = tables::needed_words(rows);
     if words < needed {
-        return refuse(16);
+        return Err(tables::refused(16));
     }
     if bits < tables::bytes_for(needed) {
-        return refuse(18);
+        return Err(tables::refused(18));
     }
     if s == 0 {
-        return refuse(17);
+        return Err(tables::refused(17));
     }
-    Check::Passed
+    Ok(())
 }
 
 // One expander's step over rows: why it is refused, or the step and its reason. `first` has who has which address.
@@ -60,17 +59,15 @@ fn step_rows(
     i: ExpanderNumber,
     arrival: PhyId,
     s: u64,
-) -> StepAnswer
+) -> Result<Told, Refusal>
     requires { IndexedFirst (domain_in rows.now) first.now }
     ensures { result ≡ step_answer_of (step_asked (domain_in rows.now) (entries words.now bits.now) (request i.0 arrival.0 s)) }
 {
-    match check_step(rows, words.len(), bits.len(), i, arrival, s) {
-        Check::Refused(r) => StepAnswer::Refused(r),
-        Check::Passed => StepAnswer::Told(
-            reason_for(rows, words, bits, i, arrival, s),
-            take_step(rows, first, words, bits, i, arrival, s),
-        ),
-    }
+    check_step(rows, words.len(), bits.len(), i, arrival, s)?;
+    Ok(Told {
+        reason: reason_for(rows, words, bits, i, arrival, s),
+        step: take_step(rows, first, words, bits, i, arrival, s),
+    })
 }
 
 // Causes 7 to 12, 23 and 14 of a domain in rows, then its step. A chain may have `chain` expanders. `first` and `low` have
@@ -85,14 +82,11 @@ fn judged_step(
     arrival: PhyId,
     s: u64,
     chain: u8,
-) -> StepAnswer
+) -> Result<Told, Refusal>
     ensures { result ≡ step_answer_of (step_in chain (length first.old) (length low.old) (domain_in rows.now) (entries words.now bits.now) (request i.0 arrival.0 s)) }
 {
-    let verdict = tables::judge_rows(rows, first, low, chain);
-    match verdict {
-        Check::Refused(r) => StepAnswer::Refused(r),
-        Check::Passed => step_rows(rows, first, words, bits, i, arrival, s),
-    }
+    tables::judge_rows(rows, first, low, chain)?;
+    step_rows(rows, first, words, bits, i, arrival, s)
 }
 
 // The call, with room for the rows of the file's domain and for who has which address.
@@ -107,19 +101,14 @@ fn step_in(
     i: ExpanderNumber,
     arrival: PhyId,
     s: u64,
-) -> StepAnswer
+) -> Result<Told, Refusal>
     requires { FileRoom setting file.now rows.old first.old low.old }
     ensures { result ≡ step_answer_of (step_call setting file.now (entries words.now bits.now) (request i.0 arrival.0 s)) }
 {
-    let read = tables::read_domain(setting, file, rows);
-    match read {
-        DomainRead::Refused(r) => StepAnswer::Refused(r),
-        DomainRead::Expanders(n) => {
-            let e = tables::ROW_WORDS * (n as usize);
-            let chain = setting.chain;
-            judged_step(&rows[..e], first, low, words, bits, i, arrival, s, chain)
-        }
-    }
+    let n = tables::read_domain(setting, file, rows)?;
+    let e = tables::ROW_WORDS * (n as usize);
+    let chain = setting.chain;
+    judged_step(&rows[..e], first, low, words, bits, i, arrival, s, chain)
 }
 
 // What expander i does with a request for address s that arrived at this phy, and why: causes 22, 1 to 12, 23, 14, 15, 16, 18
@@ -132,7 +121,7 @@ pub fn explain_step(
     i: ExpanderNumber,
     arrival: PhyId,
     s: u64,
-) -> StepAnswer
+) -> Result<Told, Refusal>
     ensures { result ≡ step_answer_of (step_call setting file.now (entries words.now bits.now) (request i.0 arrival.0 s)) }
 {
     let mut rows = [0u64; tables::ROWS_OF_64];

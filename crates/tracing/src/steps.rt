@@ -12,13 +12,6 @@ use crate::stretches::lists;
 use crate::{Outcome, Step};
 use tables::{ExpanderNumber, Phy, PhyId, words_before};
 
-// The phy that a step picks, if any.
-#[derive(Clone, Copy)]
-pub(crate) enum Pick {
-    At(PhyId),
-    Nowhere,
-}
-
 // Whether it is a subtractive phy attached to an expander.
 fn is_subtracting(f: Phy) -> bool
     ensures { result ≡ (to_expander f && is_subtractive f) }
@@ -53,18 +46,16 @@ fn is_listing(
 }
 
 // (ii): the lowest attached phy that bears the address.
-pub(crate) fn pick_bearing(rows: &[u64], i: ExpanderNumber, s: u64) -> Pick
+pub(crate) fn pick_bearing(rows: &[u64], i: ExpanderNumber, s: u64) -> Option<PhyId>
     ensures { pick_answer result ≡ bearing_pick (domain_in rows.now) i.0 s }
 {
     let n = tables::phy_count(rows, i);
-    let mut p: u8 = 0;
-    while p < n {
+    for p in 0..n {
         if tables::phy_bears(s, tables::phy_at(rows, i, PhyId(p))) {
-            return Pick::At(PhyId(p));
+            return Some(PhyId(p));
         }
-        p += 1;
     }
-    Pick::Nowhere
+    None
 }
 
 // (iii): of the table phys attached to an expander, the lowest that has the address in its own stretch.
@@ -74,35 +65,31 @@ pub(crate) fn pick_listing(
     bits: &[u8],
     i: ExpanderNumber,
     s: u64,
-) -> Pick
+) -> Option<PhyId>
     ensures { pick_answer result ≡ listing_pick (domain_in rows.now) (counted (entries words.now bits.now)) i.0 s }
 {
     let n = tables::phy_count(rows, i);
     let mut at = words_before(rows, i);
-    let mut p: u8 = 0;
-    while p < n {
+    for p in 0..n {
         if is_listing(rows, words, bits, i, PhyId(p), at, s) {
-            return Pick::At(PhyId(p));
+            return Some(PhyId(p));
         }
         at += tables::size_at(rows, i, PhyId(p)) as usize;
-        p += 1;
     }
-    Pick::Nowhere
+    None
 }
 
 // (iv): the lowest subtractive phy attached to an expander.
-pub(crate) fn pick_subtracting(rows: &[u64], i: ExpanderNumber) -> Pick
+pub(crate) fn pick_subtracting(rows: &[u64], i: ExpanderNumber) -> Option<PhyId>
     ensures { pick_answer result ≡ subtracting_pick (domain_in rows.now) i.0 }
 {
     let n = tables::phy_count(rows, i);
-    let mut p: u8 = 0;
-    while p < n {
+    for p in 0..n {
         if is_subtracting(tables::phy_at(rows, i, PhyId(p))) {
-            return Pick::At(PhyId(p));
+            return Some(PhyId(p));
         }
-        p += 1;
     }
-    Pick::Nowhere
+    None
 }
 
 // The address at the arrival phy; 0 where that is 255.
@@ -144,8 +131,8 @@ fn subtractive_step(rows: &[u64], first: &[u16], i: ExpanderNumber, came: u64) -
     ensures { result ≡ step_of (subtractive_step (domain_in rows.now) i.0 came) }
 {
     match pick_subtracting(rows, i) {
-        Pick::At(p) => move_unless(rows, first, i, p, came, Outcome::NoDestination),
-        Pick::Nowhere => Step::Ended(Outcome::NoDestination, PhyId(255)),
+        Some(p) => move_unless(rows, first, i, p, came, Outcome::NoDestination),
+        None => Step::Ended(Outcome::NoDestination, PhyId(255)),
     }
 }
 
@@ -163,8 +150,8 @@ fn table_step(
     ensures { result ≡ step_of (table_step (domain_in rows.now) (counted (entries words.now bits.now)) i.0 came s) }
 {
     match pick_listing(rows, words, bits, i, s) {
-        Pick::At(p) => move_unless(rows, first, i, p, came, Outcome::BadDestination),
-        Pick::Nowhere => subtractive_step(rows, first, i, came),
+        Some(p) => move_unless(rows, first, i, p, came, Outcome::BadDestination),
+        None => subtractive_step(rows, first, i, came),
     }
 }
 
@@ -197,8 +184,8 @@ fn direct_step(
     ensures { result ≡ step_of (direct_step (domain_in rows.now) (counted (entries words.now bits.now)) i.0 came s) }
 {
     match pick_bearing(rows, i, s) {
-        Pick::At(p) => arrive_unless(rows, first, i, p, came),
-        Pick::Nowhere => table_step(rows, first, words, bits, i, came, s),
+        Some(p) => arrive_unless(rows, first, i, p, came),
+        None => table_step(rows, first, words, bits, i, came, s),
     }
 }
 

@@ -28,17 +28,14 @@ fn is_entry(words: &[u64], bits: &[u8], k: usize, s: u64) -> bool
 fn lists_from(words: &[u64], bits: &[u8], at: usize, n: usize, s: u64) -> bool
     ensures { result ≡ is_in s (take n (drop at (counted (entries words.now bits.now)))) }
 {
-    let mut k = at;
-    let mut left = n;
-    while left > 0 {
+    for j in 0..n {
+        let k = at + j;
         if words.len() <= k {
             return false;
         }
         if is_entry(words, bits, k, s) {
             return true;
         }
-        k += 1;
-        left -= 1;
     }
     false
 }
@@ -48,12 +45,10 @@ fn eight_lack(words: &[u64], k: usize, s: u64) -> bool
     requires { k + 8 ≤ length words.now }
     ensures { result ≡ not (is_in s (take 8 (drop k words.now))) }
 {
-    let mut j: usize = 0;
-    while j < 8 {
+    for j in 0..8 {
         if words[k + j] == s {
             return false;
         }
-        j += 1;
     }
     true
 }
@@ -98,10 +93,8 @@ pub(crate) fn stretch_start(rows: &[u64], i: ExpanderNumber, p: PhyId) -> usize
     ensures { (result ≡ offset (domain_in rows.now) i.0 p.0) × (result < 2 ^ 32) }
 {
     let mut at = words_before(rows, i);
-    let mut q: u8 = 0;
-    while q < p.0 {
+    for q in 0..p.0 {
         at += tables::size_at(rows, i, PhyId(q)) as usize;
-        q += 1;
     }
     at
 }
@@ -111,8 +104,7 @@ pub(crate) fn index_of(words: &[u64], bits: &[u8], at: usize, n: u16, s: u64) ->
     requires { at < 2 ^ 32 }
     ensures { result ≡ index_of s (take n (drop at (counted (entries words.now bits.now)))) }
 {
-    let mut k: u16 = 0;
-    while k < n {
+    for k in 0..n {
         let here = at + (k as usize);
         if words.len() <= here {
             return k;
@@ -120,7 +112,6 @@ pub(crate) fn index_of(words: &[u64], bits: &[u8], at: usize, n: u16, s: u64) ->
         if is_entry(words, bits, here, s) {
             return k;
         }
-        k += 1;
     }
     n
 }

@@ -41,18 +41,15 @@ pub(crate) fn walk(
     let n = tables::expander_count(rows);
     let mut i = start;
     let mut q = arrival;
-    let mut k: u8 = 0;
-    while k < n {
+    for k in 0..n {
         passed[k as usize] = i.0;
-        k += 1;
-        let t = take_step(rows, first, words, bits, i, q, s);
-        match t {
-            Step::Ended(o, p) => return ended(o, i, p, k),
+        match take_step(rows, first, words, bits, i, q, s) {
+            Step::Ended(o, p) => return ended(o, i, p, k + 1),
             Step::Onward(j, f) => {
                 i = j;
                 q = f;
             }
         }
     }
-    ended(Outcome::NoDestination, i, PhyId(255), k)
+    ended(Outcome::NoDestination, i, PhyId(255), n)
 }

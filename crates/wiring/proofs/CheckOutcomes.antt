@@ -1,21 +1,19 @@
 -- The outcomes of the checks in order, and of the wiring call.
 use Prim.Native.Nat.{ℕ, ◌*◌, ◌/◌, ◌%◌, ◌≤◌, ◌<◌}
-use mathlib.Core.Path.{◌≡◌, refl, sym, ◌∙◌, ap}
+use mathlib.Core.Path.{◌≡◌, refl}
 use mathlib.Core.Bool.{true, false, ◌&&◌}
 use mathlib.Core.List.{List, ◌++◌}
-use lib.ListN.{length, drop}
+use lib.ListN.{length}
 use lib.Dec.{leb, leb→le}
 use borrow.Author.Tests.{le-leb, lt-leb}
 use Rattle.frames.specs.Refusals.{Result, refused, good, then, refusal}
 use Rattle.frames.specs.declared.Refusal.{Refusal}
 use Rattle.files.specs.declared.Setting.{Setting}
-use Rattle.wiring.specs.declared.Wiring.{Wiring}
-use Rattle.wiring.specs.declared.Wiring.TheVariants.{Refused, Bits}
 use Rattle.files.specs.Lists.{up_to}
 use Rattle.files.specs.Domain.{Domain}
 use Rattle.wiring.specs.phys.PhyCauses.{wired_domain}
 use Rattle.wiring.specs.graph.Graph.{strip, loopfree}
-use Rattle.wiring.specs.graph.Neighbours.{neighbours, neighbour_word, neighbour_words, bits_in, words_for, wiring_call, WiringDone}
+use Rattle.wiring.specs.graph.Neighbours.{neighbours, neighbour_word, neighbour_words, words_for, wiring_call, WiringDone}
 use Rattle.files.specs.File.{domain_read}
 use Rattle.wiring.specs.graph.LinkCauses.{unlooped, joined_in, linked_domain, checked_domain}
 use Rattle.wiring.specs.graph.LongChains.{chains_within, unlong}
@@ -24,15 +22,12 @@ use Rattle.wiring.specs.phys.Checks.{checked_in}
 use Rattle.wiring.specs.graph.Rounds.{NeighbourWordsHeld}
 use Rattle.files.proofs.ListMembers.{tests, is_false}
 use Rattle.files.proofs.CallResults.{unless-good}
-use Rattle.wiring.proofs.graph.NeighbourWords.{length-words, each-held}
+use Rattle.wiring.proofs.graph.NeighbourWords.{each-held}
 
 -- the neighbour words at the front of lent words
 pub words-held : (d : Domain) (words rest : List ℕ) → words ≡ neighbour_words d ++ rest → NeighbourWordsHeld d words
 unfolding neighbour_words
 words-held d words rest e = each-held (neighbour_word d) (length d) words rest e
-
-pub wiring-refused : (room : ℕ) (before : List ℕ) (r : Refusal) (x : Result Domain) → x ≡ refused r → WiringDone (then x (words_for room)) (Refused r) before before
-wiring-refused room before r x e = rw e (record { answers = refl; words = refl })
 
 module _ (chain : ℕ) (d : Domain) where
   -- causes 11, 12 and 23
@@ -80,24 +75,12 @@ module _ (chain : ℕ) (d : Domain) where
       let t = (unless-good (leb (slots_before (length d)) (length first) && leb (128 * length d) (length low)) _ _ x e).0 in
       record { slots = leb→le (slots_before (length d)) (length first) (search tests); phys = leb→le (128 * length d) (length low) (search tests) }
 
--- the wiring call past causes 1 to 6
-module _ (d : Domain) where
-  module _ (room : ℕ) (before : List ℕ) where
-    pub wiring-short : (x : Result Domain) (r : Refusal) → x ≡ good d → room < length d → r ≡ refusal 16 0 0 → WiringDone (then x (words_for room)) (Refused r) before before
-    wiring-short x r e h q = rw (e, lt-leb (length d) room h) (record { answers = ap refused q; words = refl })
-
-    pub wiring-done : (x : Result Domain) (n : ℕ) (after : List ℕ) → x ≡ good d → length d ≤ room → n ≡ bits_in (neighbour_words d)
-        → after ≡ neighbour_words d ++ drop (length d) before → WiringDone (then x (words_for room)) (Bits n) before after
-    wiring-done x n after e h q w =
-        rw (e, le-leb (length d) room h)
-        (record { answers = ap good q; words = w ∙ ap (λ (m : ℕ). neighbour_words d ++ drop m before) (sym (length-words d)) })
-
 -- the wiring call on a file
-pub wire-refused : (setting : Setting) (file before : List ℕ) (r : Refusal) → domain_read setting file ≡ refused r → WiringDone (wiring_call setting file (length before)) (Refused r) before before
+pub wire-refused : (setting : Setting) (file before : List ℕ) (r : Refusal) → domain_read setting file ≡ refused r → WiringDone (wiring_call setting file (length before)) (refused r) before before
 unfolding wiring_call
 wire-refused setting file before r e = rw e (record { answers = refl; words = refl })
 
-pub wire-done : (setting : Setting) (file before after : List ℕ) (d : Domain) (answer : Wiring) → domain_read setting file ≡ good d
+pub wire-done : (setting : Setting) (file before after : List ℕ) (d : Domain) (answer : Result ℕ) → domain_read setting file ≡ good d
     → WiringDone (then (wired_domain d) (words_for (length before))) answer before after → WiringDone (wiring_call setting file (length before)) answer before after
 unfolding wiring_call
 wire-done setting file before after d answer e w = rw e w

@@ -7,15 +7,14 @@ use mathlib.Core.List.{List, [], ◌∷◌}
 use native.Mathlib.Omega.{arith}
 use lib.ListN.{length}
 use lib.Dec.{leb, leb→le, le→leb}
-use Rattle.frames.specs.Refusals.{good, then, refusal}
+use Rattle.frames.specs.Refusals.{Result, good, then, refusal}
 use Rattle.frames.specs.RefusesExactly.{RefusesExactly}
 pub use Rattle.frames.proofs.FrameRefusals.{Numbered, numbered-unless, numbered-then, exactly}
 use Rattle.files.specs.declared.Setting.{Setting}
-use Rattle.wiring.specs.declared.Wiring.{Wiring}
 use Rattle.files.specs.Domain.{Domain}
 use Rattle.files.specs.File.{domain_read}
 use Rattle.wiring.specs.phys.PhyCauses.{Place, unanswered, claimed, clashing, fixed, first_in, first_of, wired_domain, wired}
-use Rattle.wiring.specs.graph.Neighbours.{neighbour_words, bits_in, words_for, wiring_call, wiring_answer, bits_set, WiringDone}
+use Rattle.wiring.specs.graph.Neighbours.{neighbour_words, bits_in, words_for, wiring_call, bits_set, WiringDone}
 use Rattle.wiring.specs.WiringCauses.{NoWiringCause, wiring_number}
 use Rattle.files.proofs.ListMembers.{by-test}
 use Rattle.files.proofs.CallResults.{unless-good, good-unless, then-good, good-then}
@@ -38,11 +37,11 @@ wired-numbered P h d =
     (λ c. first-numbered P 10 (fixed d) _ d (h 10 (omega arith) (omega arith)))))
 
 -- the wiring call answers exactly when none of its causes holds, and refuses with no other number
-pub wiring-exactly : (setting : Setting) (file before after : List ℕ) (answer : Wiring) → WiringDone (wiring_call setting file (length before)) answer before after
-    → RefusesExactly (wiring_answer answer) (NoWiringCause setting file (length before)) wiring_number
+pub wiring-exactly : (setting : Setting) (file before after : List ℕ) (answer : Result ℕ) → WiringDone (wiring_call setting file (length before)) answer before after
+    → RefusesExactly answer (NoWiringCause setting file (length before)) wiring_number
 unfolding wiring_call
 wiring-exactly setting file before after answer w =
-    exactly wiring_number (wiring_answer answer) _ (NoWiringCause setting file (length before)) w.answers numbered from to
+    exactly wiring_number answer _ (NoWiringCause setting file (length before)) w.answers numbered from to
   where
     room : ℕ
     room = length before

@@ -9,6 +9,10 @@ pub use Rattle.frames.specs.declared.General.{General}
 pub use Rattle.frames.specs.declared.LongGeneral.{LongGeneral}
 pub use Rattle.frames.specs.declared.Discover.{Discover}
 pub use Rattle.frames.specs.declared.Route.{Route}
-pub use Rattle.frames.specs.ReportGeneral.{general_read, general_answer, GeneralSas2, short, long, general_read_sas2, sas2_answer}
-pub use Rattle.frames.specs.Discovery.{Discovered, vacant, fields, discover_read, discover_answer}
-pub use Rattle.frames.specs.ConfigureRoute.{route_written, write_answer, buffer_after, route_read, route_answer}
+pub use Rattle.frames.specs.ReportGeneral.{general_read, general_read_sas2}
+pub use Rattle.frames.specs.declared.GeneralSas2.{GeneralSas2}
+pub use Rattle.frames.specs.declared.GeneralSas2.TheVariants.{Short as short, Long as long}
+pub use Rattle.frames.specs.Discovery.{discover_read}
+pub use Rattle.frames.specs.declared.Discovered.{Discovered}
+pub use Rattle.frames.specs.declared.Discovered.TheVariants.{Vacant as vacant, Fields as fields}
+pub use Rattle.frames.specs.ConfigureRoute.{route_written, write_answer, buffer_after, route_read}

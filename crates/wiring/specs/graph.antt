@@ -6,3 +6,4 @@ pub mod CableSets
 pub mod LinkCauses
 pub mod Devices
 pub mod LongChains
+pub mod RoundCauses

@@ -2,3 +2,4 @@
 pub mod PhyCauses
 pub mod Checks
 pub mod Clashes
+pub mod CauseNumbers

@@ -1,2 +1,3 @@
 // Who has an address.
 pub(crate) mod addresses;
+pub mod indexed_rows;

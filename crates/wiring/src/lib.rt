@@ -4,28 +4,26 @@
 pub mod graph;
 pub mod index;
 pub mod phys;
-mod refusals;
 mod wiring_call;
 
 pub use graph::domain_checks::check_domain;
 pub use index::addresses::{attached_expander, lowest_phy, number_of};
-pub use refusals::check_refused;
+pub use index::indexed_rows::IndexedRows;
 pub use wiring_call::wire;
 
 // What the layers above use of files.
 pub use files::{
-    DomainRead, ExpanderRead, ExpanderUnit, Phy, PhyFields, Setting, attached_phy, clear,
-    configurable_bit, expander_address, expander_count, head_word, is_in_range, is_ranged,
-    is_within, phy_address, phy_at, phy_attribute, phy_count, phy_in_row, phy_type, phy_word,
-    read_domain, route_indexes, set_phy, stated_count, test_unit, widest,
+    ExpanderUnit, Parsed, Phy, PhyFields, Setting, attached_phy, clear, configurable_bit,
+    expander_address, expander_count, head_word, is_in_range, is_ranged, is_within, phy_address,
+    phy_at, phy_attribute, phy_count, phy_in_row, phy_type, phy_word, read_domain, route_indexes,
+    set_phy, stated_count, test_unit, widest,
 };
 
 // What the layers above use of frames.
 pub use frames::{
-    Discover, DiscoverRead, ExpanderNumber, General, GeneralRead, GeneralReadSas2, LongGeneral,
-    PhyId, Refusal, Route, RouteIndex, RouteRead, RouteWrite, address_at, bit_at, byte_at,
-    bytes_for, mark_zeros, put_address, put_route, read_discover, read_general, read_general_sas2,
-    read_route, refusal_at, refused, with_bit,
+    Discover, Discovered, ExpanderNumber, General, GeneralSas2, LongGeneral, PhyId, Refusal, Route,
+    RouteIndex, address_at, bit_at, byte_at, bytes_for, mark_zeros, put_address, put_route,
+    read_discover, read_general, read_general_sas2, read_route, refusal_at, refused, with_bit,
 };
 
 // How many slots of the index of addresses are expanders'.
@@ -51,17 +49,3 @@ pub const PHYS_OF_8: usize = 8 * PHY_SLOTS;
 
 // How many phys there are at most.
 pub const PHYS_OF_64: usize = 64 * PHY_SLOTS;
-
-// What testing a domain for some causes answers.
-#[derive(Clone, Copy)]
-pub enum Check {
-    Refused(Refusal),
-    Passed,
-}
-
-// What the wiring call answers: how many bits are set in all.
-#[derive(Clone, Copy)]
-pub enum Wiring {
-    Refused(Refusal),
-    Bits(u64),
-}

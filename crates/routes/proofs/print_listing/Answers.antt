@@ -9,7 +9,7 @@ use native.Mathlib.Omega.{arith}
 use Rattle.routes.proofs.print_listing.Goals as goal
 
 pub slice_bounds-rows-end : goal.slice_bounds-rows-end
-slice_bounds-rows-end c = opened-fits _ _ _ _ _ _ (λ d q. let g = read-good _ _ d q in omega (arith, g.few, g.range.expanders.1, length-replicate {A = ℕ} most_row_words 0)) c.read_domain-read.ensures c.in-Expanders.is c.read_domain-read.auto.rows
+slice_bounds-rows-end c = opened-fits _ _ _ _ _ _ (λ d q. let g = read-good _ _ d q in omega (arith, g.few, g.range.expanders.1, length-replicate {A = ℕ} most_row_words 0)) c.read_domain.ensures c.in-Ok.is c.read_domain.auto.rows
 
 pub slice_bounds-print_rows-end : goal.slice_bounds-print_rows-end
-slice_bounds-print_rows-end c = sym (length-take-le _ c.read_domain-read.new.rows (opened-fits _ _ _ _ _ _ (λ d q. let g = read-good _ _ d q in omega (arith, g.few, g.range.expanders.1, length-replicate {A = ℕ} most_row_words 0)) c.read_domain-read.ensures c.in-Expanders.is c.read_domain-read.auto.rows))
+slice_bounds-print_rows-end c = sym (length-take-le _ c.read_domain.new.rows (opened-fits _ _ _ _ _ _ (λ d q. let g = read-good _ _ d q in omega (arith, g.few, g.range.expanders.1, length-replicate {A = ℕ} most_row_words 0)) c.read_domain.ensures c.in-Ok.is c.read_domain.auto.rows))

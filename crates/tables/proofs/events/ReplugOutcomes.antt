@@ -13,8 +13,6 @@ use Rattle.wiring.specs.FrameDefinitions.{bytes_for, Refusal, Result, refused, g
 use Rattle.files.specs.declared.Phy.{Phy}
 use Rattle.files.specs.declared.Phy.TheVariants.{Vacant, Present}
 use Rattle.files.specs.Domain.{Domain, expander_at, phy_at, address_of, to_expander, number_of}
-use Rattle.wiring.specs.declared.Check.{Check}
-use Rattle.wiring.specs.declared.Check.TheVariants.{Refused}
 use Rattle.wiring.specs.phys.Checks.{check_answer, checked_in}
 use Rattle.files.specs.Rows.{phy_in, phy_in_row, domain_in, row_words}
 use Rattle.wiring.specs.index.AddressIndex.{slot_of}
@@ -29,13 +27,12 @@ use Rattle.tables.specs.JudgingCall.{tables_for}
 use Rattle.tables.specs.filling.Entries.{Entries, Room, room_of, Enough}
 use Rattle.tables.specs.lists.GrowingLists.{places_at}
 use Rattle.tables.specs.levels.Levels.{each_once, downstream_of_phys}
-use Rattle.tables.specs.lists.PreparedLists.{OwnListsHeld, DownstreamListsHeld, downstream_once, queue, order_of, own_words_of_order, own_overlong, AttachedExpandersKnown, Fillable, own_list_words, downstream_bytes}
+use Rattle.tables.specs.lists.PreparedLists.{OwnListsHeld, DownstreamListsHeld, downstream_once, queue, order_of, own_words_of_order, own_overlong, AttachedExpandersKnown, Fillable, OrderRoom, own_list_words, downstream_bytes}
 use Rattle.tables.proofs.CallOutcomes.{fillable-by, own_checked}
 use Rattle.wiring.proofs.index.SlotDevices.{short_in}
-use Rattle.tables.specs.declared.Replugged.{Replugged}
-use Rattle.tables.specs.declared.Replugged.TheVariants.{Refused as NotReplugged}
+use Rattle.tables.specs.declared.Moved.{Moved}
 use Rattle.tables.specs.events.TouchedTables.{moved_by}
-use Rattle.tables.specs.events.ReplugCall.{pluggable, replug, replugged, claimed_with, retested, fitted, admitted, replug_call, rows_after, own_touched, own_refilled, replug_answer, ReplugDone, ReplugReady, ReplugRun, OwnListsHeldBut}
+use Rattle.tables.specs.events.ReplugCall.{pluggable, replug, replugged, claimed_with, retested, fitted, admitted, replug_call, rows_after, own_touched, own_refilled, ReplugDone, RetestReady, ReplugRun, OwnListsHeldBut}
 use Rattle.tables.proofs.events.LevelsAfterEvent.{phy-there, size_same, number_same, route_indexes_same, by-phy, attribute-same, downstream-same, first_level_same, own_other, needed-same, unattached, replug-unattached}
 
 -- a phy held in two words is held as it is once a drive is plugged into it or pulled from it
@@ -171,17 +168,13 @@ module _ (ws : List ℕ) (e p a : ℕ) (f : T (pluggable (phy_at (domain_in ws) 
         cell = λ i l. subst (λ x. take (suc (length x)) (drop (downstream_bytes * i) bytes) ≡ length x ∷ x) (sym (once-same (domain_in ws) e p a f i)) (h.cell i (subst (λ n. i < n) (size_same (domain_in ws) e p a f) l));
       })
 
-  -- what was prepared for the domain as lent is prepared for it, too, once e's own list is written anew
-  pub ready_then : (n : ℕ) → n ≡ length (own_words (domain_in ws) e) → (first lists lists' bytes order : List ℕ)
-      → ReplugReady (domain_in ws) e (length (own_words (domain_in ws) e)) first lists bytes order → OwnListsHeld d₂ lists' → ReplugReady d₂ e n first lists' bytes order
-  ready_then n was first lists lists' bytes order h owns =
+  -- it can be tested as the domain as lent can, once e's own list is written anew
+  pub ready_then : (n : ℕ) → n ≡ length (own_words (domain_in ws) e) → (order : List ℕ)
+      → OrderRoom (domain_in ws) order → Fillable (domain_in ws) → RetestReady d₂ e n order
+  ready_then n was order room fills =
       record {
-        fars = fars-then first h.fars;
-        owns = owns;
-        downstream = below_then bytes h.downstream;
-        room = omega (arith, size-then, h.room);
-        few = h.few;
-        fills = λ k. subst Fillable (sym is) (fills-replugged (domain_in ws) e p a f (h.fills (omega arith)) (omega (arith, was, subst (λ x. length (own_words x e) ≤ n) is k)));
+        room = record { enough = omega (arith, size-then, room.enough); few = room.few };
+        fills = λ k. subst Fillable (sym is) (fills-replugged (domain_in ws) e p a f fills (omega (arith, was, subst (λ x. length (own_words x e) ≤ n) is k)));
       }
 
   pub enough-then : (room : Room) → Enough (needed (domain_in ws)) room → Enough (needed d₂) room
@@ -196,13 +189,13 @@ module _ (d : Domain) (e p words bits : ℕ) where
   abbrev admission : Result Domain
   admission = unless (pluggable (phy_at d e p)) (refusal 20 0 0) (tables_for (record { words = words; bits = bits }) d)
 
-  pub admit_20 : (b : Bool) → b ≡ pluggable (phy_at d e p) → not b ≡ true → (r : Check) → r ≡ Refused (refusal 20 0 0) → check_answer d r ≡ admission
+  pub admit_20 : (b : Bool) → b ≡ pluggable (phy_at d e p) → not b ≡ true → (r : Result Unit) → r ≡ refused (refusal 20 0 0) → check_answer d r ≡ admission
   admit_20 b f n r a = rw (a, sym f ∙ flip b _ n) refl
 
-  pub admit_16 : (b : Bool) → b ≡ pluggable (phy_at d e p) → not b ≡ false → words < needed d → (r : Check) → r ≡ Refused (refusal 16 0 0) → check_answer d r ≡ admission
+  pub admit_16 : (b : Bool) → b ≡ pluggable (phy_at d e p) → not b ≡ false → words < needed d → (r : Result Unit) → r ≡ refused (refusal 16 0 0) → check_answer d r ≡ admission
   admit_16 b f n h r a = rw (a, sym f ∙ flip b _ n, lt-leb (needed d) words h) refl
 
-  pub admit_18 : (b : Bool) → b ≡ pluggable (phy_at d e p) → not b ≡ false → needed d ≤ words → bits < bytes_for (needed d) → (r : Check) → r ≡ Refused (refusal 18 0 0) → check_answer d r ≡ admission
+  pub admit_18 : (b : Bool) → b ≡ pluggable (phy_at d e p) → not b ≡ false → needed d ≤ words → bits < bytes_for (needed d) → (r : Result Unit) → r ≡ refused (refusal 18 0 0) → check_answer d r ≡ admission
   admit_18 b f n g h r a = rw (a, sym f ∙ flip b _ n, le-leb (needed d) words g, lt-leb (bytes_for (needed d)) bits h) refl
 
   pub admit-all : (b : Bool) → b ≡ pluggable (phy_at d e p) → not b ≡ false → needed d ≤ words → bytes_for (needed d) ≤ bits → good d ≡ admission
@@ -217,14 +210,14 @@ retested-fills e s d x j =
     fillable-by d x b.2
 
 -- refused, and done
-pub replug-refused : (o : Result Domain) (e : ℕ) (r : Refusal) (before : Entries) → o ≡ refused r → ReplugDone o e (NotReplugged r) before before
+pub replug-refused : (o : Result Domain) (e : ℕ) (r : Refusal) (before : Entries) → o ≡ refused r → ReplugDone o e (refused r) before before
 replug-refused o e r before q = rw q (record { left = refl; answers = refl })
 
-pub replug-done : (o : Result Domain) (e : ℕ) (d : Domain) (answer : Replugged) (before after : Entries) → o ≡ good d → after ≡ own_refilled d e before
-    → replug_answer answer ≡ good (moved_by d (own_touched d e) before after) → ReplugDone o e answer before after
+pub replug-done : (o : Result Domain) (e : ℕ) (d : Domain) (answer : Result Moved) (before after : Entries) → o ≡ good d → after ≡ own_refilled d e before
+    → answer ≡ good (moved_by d (own_touched d e) before after) → ReplugDone o e answer before after
 replug-done o e d answer before after q l m = rw q (record { left = l; answers = m })
 
-pub replug_as : (o x : Result Domain) (e : ℕ) (answer : Replugged) (before after : Entries) → o ≡ x → ReplugDone x e answer before after → ReplugDone o e answer before after
+pub replug_as : (o x : Result Domain) (e : ℕ) (answer : Result Moved) (before after : Entries) → o ≡ x → ReplugDone x e answer before after → ReplugDone o e answer before after
 replug_as o x e answer before after q h = rw q h
 
 -- the outcomes past causes 7 to 12 and 23, as 14 and the tests after it come out
@@ -279,10 +272,10 @@ module _ (ws : List ℕ) (e p a : ℕ) (before : Entries) where
   abbrev lent : Domain
   lent = domain_in ws
 
-  pub run-refused : (r : Refusal) → (fitted (room_of before) e p lent ≡ refused r) × (run (room_of before) e p a lent ≡ refused r) → ReplugRun ws ws e p a (NotReplugged r) before before
+  pub run-refused : (r : Refusal) → (fitted (room_of before) e p lent ≡ refused r) × (run (room_of before) e p a lent ≡ refused r) → ReplugRun ws ws e p a (refused r) before before
   run-refused r q = record { rows = rows_stay _ r ws e p _ q.0; done = replug-refused _ e r before q.1 }
 
-  pub run-done : (y : Domain) (ws' : List ℕ) (answer : Replugged) (after : Entries)
+  pub run-done : (y : Domain) (ws' : List ℕ) (answer : Result Moved) (after : Entries)
       → (fitted (room_of before) e p lent ≡ good y) × (run (room_of before) e p a lent ≡ retested e a (replugged lent e p a)) → ws' ≡ with_words ws e p (replug a (phy_at lent e p))
       → ReplugDone (retested e a (replugged lent e p a)) e answer before after → ReplugRun ws ws' e p a answer before after
   run-done y ws' answer after q s t = record { rows = rows-set _ y ws ws' e p _ q.0 s; done = replug_as _ _ e answer before after q.1 t }
@@ -295,7 +288,7 @@ module _ (ws : List ℕ) (e p a : ℕ) (before : Entries) where
   past (refused r) j = (r, λ q h. rw j refl)
   past (good x) j = (refusal 20 0 0, λ q h. rw (j, vacant q h) refl)
 
-  pub run_past : (ws' : List ℕ) (answer : Replugged) (after : Entries) → 128 ≤ p → ReplugRun ws ws' e 128 a answer before after → ReplugRun ws ws' e p a answer before after
+  pub run_past : (ws' : List ℕ) (answer : Result Moved) (after : Entries) → 128 ≤ p → ReplugRun ws ws' e 128 a answer before after → ReplugRun ws ws' e p a answer before after
   run_past ws' answer after h k =
       let s = past (first_of 14 (own_overlong lent) lent) refl in
       let there : fitted (room_of before) e 128 lent ≡ refused s.0 = s.1 128 (omega arith) in

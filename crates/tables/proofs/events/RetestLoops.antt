@@ -14,8 +14,6 @@ use lib.Seq.{take-suc, get_or-take, drop-set-lt, drop-drop, length-take-le}
 use lib.Dec.{eqb, ltb}
 use Rattle.frames.proofs.PackedRows.{drop_past}
 use Rattle.wiring.specs.FrameDefinitions.{Result, refused, good, then}
-use Rattle.wiring.specs.declared.Check.{Check}
-use Rattle.wiring.specs.declared.Check.TheVariants.{Refused, Passed}
 use Rattle.files.specs.declared.Phy.{Phy}
 use Rattle.files.specs.declared.Phy.TheVariants.{Vacant}
 use Rattle.files.specs.Lists.{any}
@@ -68,9 +66,9 @@ module _ (k : ℕ) (d : Domain) (i : ℕ) where
       by-test (g φ) (λ t. rw (here, t) refl)
       (λ t. rw (here, t) (first_any f g φs (p + 1) (λ q. let z : p + 1 + q ≡ p + suc q = omega arith in ap (f i) z ∙ e (suc q))))
 
-  found-is : (a : Check) → is_found a ≡ failed (check_answer d a)
-  found-is (Refused r) = refl
-  found-is Passed = refl
+  found-is : (a : Result Unit) → is_found a ≡ failed (check_answer d a)
+  found-is (refused r) = refl
+  found-is (good tt) = refl
 
 -- before the first expander
 pub taken_start : (s : ℕ) (d : Domain) {t : Bool} → t ≡ ltb (number_of d s) (length d) → t ≡ is_taken d 0 s
@@ -87,12 +85,12 @@ module _ (s : ℕ) (d : Domain) (i : ℕ) where
   unfolding claimed_with
   claim_none t = first-none 8 d i (claimed_with s d) (λ q. rw t (and_no (to_end (phy_at d i q)) (eqb (address_of (phy_at d i q)) s))) (length (expander_at d i).phys) 0
 
-  found-end : (a : Check) → check_answer d a ≡ first_in 8 (ends_at s d) (places_at d i) d → is_found a ≡ end_at s (expander_at d i)
+  found-end : (a : Result Unit) → check_answer d a ≡ first_in 8 (ends_at s d) (places_at d i) d → is_found a ≡ end_at s (expander_at d i)
   unfolding end_at ends_at
   found-end a e =
       found-is 8 d i a ∙ ap (failed 8 d i) e ∙ first_any 8 d i (ends_at s d) (is_end s) (expander_at d i).phys 0 (λ q. rw (zero-add q) refl)
 
-  pub taken_next : (t f : Bool) (a : Check) → t ≡ is_taken d i s → f ≡ is_found a → check_answer d a ≡ first_in 8 (ends_at s d) (places_at d i) d → i < length d
+  pub taken_next : (t f : Bool) (a : Result Unit) → t ≡ is_taken d i s → f ≡ is_found a → check_answer d a ≡ first_in 8 (ends_at s d) (places_at d i) d → i < length d
       → (t || f) ≡ is_taken d (i + 1) s
   unfolding any
   taken_next t f a p q e h =
@@ -105,17 +103,17 @@ module _ (s : ℕ) (d : Domain) (i : ℕ) where
 
   -- one turn
   module _ {v : Result Domain} (inv : first_in 8 (claimed_with s d) (places_from i (drop i d)) d ≡ v) where
-    pub claim_stop : (t f : Bool) (a : Check) → t ≡ is_taken d i s → f ≡ is_found a → check_answer d a ≡ first_in 8 (ends_at s d) (places_at d i) d → i < length d
+    pub claim_stop : (t f : Bool) (a : Result Unit) → t ≡ is_taken d i s → f ≡ is_found a → check_answer d a ≡ first_in 8 (ends_at s d) (places_at d i) d → i < length d
         → (t && f) ≡ true → check_answer d a ≡ v
-    claim_stop true f (Refused r) p q e h z = from_next 8 (claimed_with s d) d i inv {r = Refused r} (e ∙ sym (claim_all (sym p))) refl h
-    claim_stop true f Passed p q e h z = absurd (was_true false (sym q ∙ z))
+    claim_stop true f (refused r) p q e h z = from_next 8 (claimed_with s d) d i inv {r = refused r} (e ∙ sym (claim_all (sym p))) refl h
+    claim_stop true f (good tt) p q e h z = absurd (was_true false (sym q ∙ z))
     claim_stop false f a p q e h z = absurd (was_true false z)
 
-    pub claim_go : (t f : Bool) (a : Check) → t ≡ is_taken d i s → f ≡ is_found a → check_answer d a ≡ first_in 8 (ends_at s d) (places_at d i) d → i < length d
+    pub claim_go : (t f : Bool) (a : Result Unit) → t ≡ is_taken d i s → f ≡ is_found a → check_answer d a ≡ first_in 8 (ends_at s d) (places_at d i) d → i < length d
         → (t && f) ≡ false → first_in 8 (claimed_with s d) (places_from (i + 1) (drop (i + 1) d)) d ≡ v
-    claim_go true f (Refused r) p q e h z = absurd (was_true false (sym z ∙ q))
-    claim_go true f Passed p q e h z = from_next 8 (claimed_with s d) d i inv {r = Passed} (e ∙ sym (claim_all (sym p))) refl h
-    claim_go false f a p q e h z = from_next 8 (claimed_with s d) d i inv {r = Passed} (sym (claim_none (sym p))) refl h
+    claim_go true f (refused r) p q e h z = absurd (was_true false (sym z ∙ q))
+    claim_go true f (good tt) p q e h z = from_next 8 (claimed_with s d) d i inv {r = (good tt)} (e ∙ sym (claim_all (sym p))) refl h
+    claim_go false f a p q e h z = from_next 8 (claimed_with s d) d i inv {r = (good tt)} (sym (claim_none (sym p))) refl h
 
 -- 9 at one phy
 clash-none : (φ : Phy) → attached φ ≡ false → (l : List Phy) → any (clash φ) l ≡ false

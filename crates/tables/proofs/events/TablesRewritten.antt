@@ -1,10 +1,9 @@
 -- The touched tables written afresh, one after the other: one table, a place after others, and all places.
 use Prim.Native.Nat.{ℕ, zero, suc, ◌+◌, ◌*◌, ◌-◌, ◌≤◌, ◌<◌}
 use mathlib.Core.Path.{◌≡◌, refl, sym, ◌∙◌, ap, ap₂, subst}
-use mathlib.Core.Bool.{◌&&◌, Bool, true, false, cond, not}
+use mathlib.Core.Bool.{◌&&◌, Bool, true, false, cond}
 use mathlib.Core.List.{List, [], ◌∷◌, ◌++◌, append-nil, append_assoc}
 use native.Mathlib.Omega.{arith}
-use borrow.Author.Tests.{not-true}
 use native.Mathlib.Nat.{add-zero, zero-add}
 use native.Mathlib.Numerals.{add-one}
 use lib.ListN.{length, get_or, take, drop, length-append, length-drop, length-map, take-append-drop}
@@ -15,7 +14,6 @@ use Rattle.frames.proofs.PackedBits.{length-bits_of}
 use Rattle.frames.proofs.PackedRows.{Bytes, packed-back}
 use Rattle.frames.proofs.ValuesPut.{sets_mid}
 use Rattle.files.specs.declared.Phy.{Phy}
-use Rattle.wiring.specs.FrameDefinitions.{Result, good}
 use Rattle.files.specs.Lists.{any, keep, is_in}
 use Rattle.files.specs.Domain.{Domain, Expander, no_expander, expander_at, phy_at, is_table, to_expander}
 use Rattle.wiring.specs.phys.PhyCauses.{Place, place, phy_places, places_from, places}
@@ -26,10 +24,10 @@ use Rattle.tables.specs.filling.Entries.{Entries, entries, room_of, Room}
 use Rattle.tables.specs.filling.WordsChanged.{changed}
 use Rattle.tables.specs.lists.GrowingLists.{places_at}
 use Rattle.tables.specs.lists.PreparedLists.{order_of, own_words_of_order, filled_to}
-use Rattle.tables.specs.events.TouchedTables.{Moved, moved_by}
-use Rattle.tables.specs.events.ReplugCall.{own_touched, own_table_at, own_refilled, replug_answer}
+use Rattle.tables.specs.declared.Moved.{Moved}
+use Rattle.tables.specs.events.TouchedTables.{moved_by}
+use Rattle.tables.specs.events.ReplugCall.{own_touched, own_table_at, own_refilled}
 use Rattle.tables.specs.events.TablesRewritten.{renewed_at, table_link, Passed, TallyBounds, Rewritten}
-use Rattle.tables.specs.declared.Replugged.TheVariants.{Counts}
 use Rattle.tables.specs.declared.events.refilling.Tally.{Tally}
 use Rattle.tables.proofs.filling.FilledTable.{length-filled}
 use Rattle.tables.proofs.levels.LevelOrders.{order-none}
@@ -68,8 +66,8 @@ module _ (ws : List ℕ) (at to : ℕ) (h : at ≤ to) (i : to ≤ length ws) (r
       let b : take (to - at) (drop at after) ≡ r = ap (take (to - at)) a ∙ take_at r (drop (to - at) (drop at ws)) (to - at) new-length in
       e ∙ ap (λ (x : List ℕ). sets (bits_of bits) at (zero_bits x)) (b ∙ new_is)
 
-abbrev answer : ℕ → ℕ → Result Moved
-answer t w = good (record { table_count = t; word_count = w })
+abbrev answer : ℕ → ℕ → Moved
+answer t w = record { table_count = t; word_count = w }
 
 -- only tables are touched, and a touched table is as wide as its place
 module _ (d : Domain) (e : ℕ) where
@@ -206,7 +204,7 @@ module _ (d : Domain) (e : ℕ) where
         let l : length (keep (own_touched d e) qs) ≡ length (keep (own_touched d e) (places d)) = ap (λ (x : List Place). length (keep (own_touched d e) x)) all in
         omega (arith, u.counted, ap length k)
 
-    pub all-answered : s.tables ≡ 0 → s.words ≡ 0 → replug_answer (Counts r.tables r.words) ≡ good (moved_by d (own_touched d e) (entries ws bs) (entries ws' bs'))
+    pub all-answered : s.tables ≡ 0 → s.words ≡ 0 → answer r.tables r.words ≡ moved_by d (own_touched d e) (entries ws bs) (entries ws' bs')
     all-answered y x = ap₂ answer (all-counted y) (omega (arith, u.differs))
 
 -- one phy more, and one expander more
@@ -281,10 +279,10 @@ module _ (d : Domain) (e : ℕ) where
       subst (λ (l : List Place). Rewritten d e l s r a c) m (rewritten_then d e (phy_places i 0 p) (place i p ∷ []) s t r a b c u v h k)
 
   -- a phy without levels is passed over
-  pub phys_skip : (i p : ℕ) (s t r : Tally) (a b : Entries) → Rewritten d e (phy_places i 0 p) s t a b → {x : Bool} → x ≡ table_link (phy_at d i p) → not x ≡ true → Passed d (place i p) t r
+  pub phys_skip : (i p : ℕ) (s t r : Tally) (a b : Entries) → Rewritten d e (phy_places i 0 p) s t a b → {x : Bool} → x ≡ table_link (phy_at d i p) → x ≡ false → Passed d (place i p) t r
       → s.at + sizes d (phy_places i 0 p) ≤ length a.words → s.at + sizes d (phy_places i 0 p) ≤ 8 * length a.bits → Rewritten d e (phy_places i 0 (p + 1)) s r a b
   phys_skip i p s t r a b u {x} q k w h l =
-      phys-turn i p s t r a b b u (rewritten_old d e (place i p) t r b (not_linked d e (place i p) (sym q ∙ not-true x k)) w.next w.tables w.words) h l
+      phys-turn i p s t r a b b u (rewritten_old d e (place i p) t r b (not_linked d e (place i p) (sym q ∙ k)) w.next w.tables w.words) h l
 
   pub phys-end : (i p : ℕ) (s r : Tally) (a b : Entries) → Rewritten d e (phy_places i 0 p) s r a b → p ≡ length (expander_at d i).phys → Rewritten d e (places_at d i) s r a b
   phys-end i p s r a b u q = subst (λ (n : ℕ). Rewritten d e (phy_places i 0 n) s r a b) q u

@@ -26,7 +26,7 @@ zeros-after l m n q =
     ∙ ap (λ (y : List ℕ). l ++ y) (take_at (replicate m o) (replicate (length l) o) m (length-replicate m o))
 
 -- the own lists of its order, and zeros after them
-module _ (d : Domain) (x p : ℕ) {lists order : List ℕ} {room : ℕ} (f : FilledFrom d x p lists order room) where
+module _ (d : Domain) (x p : ℕ) {order : List ℕ} {room : ℕ} (f : FilledFrom d x p order room) where
   pub from-order : flat_map (own_words d) order ≡ own_words_of_order d x p
   unfolding own_words_of_order
   from-order = ap (flat_map (own_words d)) f.ordered

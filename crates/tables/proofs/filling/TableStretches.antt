@@ -21,7 +21,6 @@ use Rattle.wiring.proofs.phys.WiredPhys.{in_places}
 use Rattle.tables.specs.filling.Tables.{level_list, table, tables, size, sizes, needed, offset_in, offset, stretch}
 use Rattle.tables.specs.filling.Entries.{Entries, room_of, Enough, put_before}
 use Rattle.tables.specs.JudgingCall.{judged_tables, table_call, TablesDone, IndexForIndex}
-use Rattle.tables.specs.declared.TablesGiven.TheVariants.{Counts}
 use Rattle.tables.proofs.filling.TableLengths.{table-length, table-entry, words_at, tables_at, tables-at, words-length, tables-length}
 use Rattle.tables.proofs.AcceptedDomains.{table-call}
 use Rattle.tables.proofs.TableRefusals.{tables-of}
@@ -133,13 +132,13 @@ index-tables d before fits h =
     }
 
 -- a table call that answers counts leaves each table in its own stretch, index for index: on a domain, and on a file
-pub index_for_index : (chain : ℕ) (d : Domain) (before after : Entries) (c w : ℕ) → TablesDone (judged_tables chain d (room_of before)) (Counts c w) before after
+pub index_for_index : (chain : ℕ) (d : Domain) (before after : Entries) (c w : ℕ) → TablesDone (judged_tables chain d (room_of before)) (good (record { table_count = c; word_count = w })) before after
     → IndexForIndex d before after
 index_for_index chain d before after c w t =
     let o = tables-of chain d c w before after t in
     subst (IndexForIndex d before) (sym o.left) (index-tables d before o.routable.fits o.enough)
 
 pub index_for_index-file : (setting : Setting) (file : List ℕ) (d : Domain) (before after : Entries) (c w : ℕ) → domain_read setting file ≡ good d
-    → TablesDone (table_call setting file (room_of before)) (Counts c w) before after → IndexForIndex d before after
+    → TablesDone (table_call setting file (room_of before)) (good (record { table_count = c; word_count = w })) before after → IndexForIndex d before after
 index_for_index-file setting file d before after c w e t =
-    index_for_index setting.chain d before after c w (subst (λ x. TablesDone x (Counts c w) before after) (table-call setting file d e (room_of before)) t)
+    index_for_index setting.chain d before after c w (subst (λ x. TablesDone x (good (record { table_count = c; word_count = w })) before after) (table-call setting file d e (room_of before)) t)

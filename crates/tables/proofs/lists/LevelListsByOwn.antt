@@ -20,9 +20,9 @@ use Rattle.wiring.proofs.phys.WiredPhys.{Wired}
 use Rattle.files.proofs.ReadDomain.{read-good}
 use Rattle.wiring.proofs.WiredAndLinked.{wired-same, wired_iff, linked_iff, linked-same}
 use Rattle.wiring.proofs.CheckOutcomes.{checked_room}
-use Rattle.tables.specs.declared.TablesGiven.{TablesGiven}
 use Rattle.tables.specs.filling.Tables.{level_list, table, table_places, tables}
 use Rattle.tables.specs.filling.Entries.{Entries, room_of, put_before}
+use Rattle.tables.specs.declared.Counted.{Counted}
 use Rattle.tables.specs.JudgingCall.{overlong, judged_domain, tables_for, judged_tables, table_call, tables_after, TablesDone}
 use Rattle.tables.specs.lists.OwnLists.{own_words, own_words_of_levels}
 use Rattle.tables.specs.lists.PreparedLists.{own_words_of_order, own_overlong, filled_to, own_tables_of, own_tables, judged_in, own_after, OwnDone}
@@ -98,7 +98,7 @@ tables-same d s = go (table_places d)
     go (q ∷ qs) = rw (s q.expander q.phy, go qs)
 
 -- the table call on a domain that is read, by own lists
-pub read_done : (most : Setting) (d : Domain) → Read most d → (chain : ℕ) (before after : Entries) (x : Result Domain) (answer : TablesGiven) → x ≡ judged_domain chain d
+pub read_done : (most : Setting) (d : Domain) → Read most d → (chain : ℕ) (before after : Entries) (x : Result Domain) (answer : Result Counted) → x ≡ judged_domain chain d
     → OwnDone (then x (tables_for (room_of before))) answer before after → TablesDone (judged_tables chain d (room_of before)) answer before after
 read_done most d g chain before after x answer q o =
     let w = subst (λ y. OwnDone (then y (tables_for (room_of before))) answer before after) q o in
@@ -112,7 +112,7 @@ read_done most d g chain before after x answer q o =
         ap (λ (l : List ℕ). put_before l before) (subst (λ b. own_tables b ≡ tables b) e (tables-same d (judged-same most d g chain (j ∙ ap good (sym e)))))
 
 -- and on a file
-pub call-done : (setting : Setting) (file : List ℕ) (before after : Entries) (d : Domain) (x : Result Domain) (answer : TablesGiven) → domain_read setting file ≡ good d → x ≡ judged_domain setting.chain d
+pub call-done : (setting : Setting) (file : List ℕ) (before after : Entries) (d : Domain) (x : Result Domain) (answer : Result Counted) → domain_read setting file ≡ good d → x ≡ judged_domain setting.chain d
     → OwnDone (then x (tables_for (room_of before))) answer before after → TablesDone (table_call setting file (room_of before)) answer before after
 call-done setting file before after d x answer e q o =
     subst (λ y. TablesDone y answer before after) (sym (table-call setting file d e (room_of before)))

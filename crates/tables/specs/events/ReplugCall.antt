@@ -14,10 +14,9 @@ use Rattle.tables.specs.filling.Entries.{Entries, Room, room_of, Enough}
 use Rattle.tables.specs.lists.GrowingLists.{places_at}
 use Rattle.tables.specs.lists.OwnLists.{own_words}
 use Rattle.tables.specs.JudgingCall.{tables_for}
-use Rattle.tables.specs.lists.PreparedLists.{OwnListsHeld, DownstreamListsHeld, order_of, own_words_of_order, own_overlong, filled_to, Fillable, AttachedExpandersKnown, judged_in, own_list_words, most_downstream, order_bytes}
-use Rattle.tables.specs.events.TouchedTables.{refilled_by, Moved, moved_by}
-use Rattle.tables.specs.declared.Replugged.{Replugged}
-use Rattle.tables.specs.declared.Replugged.TheVariants.{Refused, Counts}
+use Rattle.tables.specs.lists.PreparedLists.{OwnListsHeld, DownstreamListsHeld, order_of, own_words_of_order, own_overlong, filled_to, Fillable, AttachedExpandersKnown, judged_in, own_list_words, OrderRoom}
+use Rattle.tables.specs.events.TouchedTables.{refilled_by, moved_by}
+use Rattle.tables.specs.declared.Moved.{Moved}
 use Rattle.tables.specs.filling.Tables.{needed}
 
 -- 20 does not hold: the phy exists, is not vacant and is not attached to an expander
@@ -88,36 +87,34 @@ abbrev pub refilled_after : Result Domain → ℕ → Entries → Entries
 refilled_after (refused r) e before = before
 refilled_after (good d) e before = own_refilled d e before
 
--- what the answer says: tables touched, and words changed
-abbrev pub replug_answer : Replugged → Result Moved
-replug_answer (Refused r) = refused r
-replug_answer (Counts t w) = good (record { table_count = t; word_count = w })
-
 -- all that a call with this outcome promises of the entries: those after, and the answer
-pub record ReplugDone (outcome : Result Domain) (e : ℕ) (answer : Replugged) (before after : Entries) : Type 0 where
+pub record ReplugDone (outcome : Result Domain) (e : ℕ) (answer : Result Moved) (before after : Entries) : Type 0 where
   pub left : after ≡ refilled_after outcome e before
-  pub answers : replug_answer answer ≡ then outcome (λ d. good (moved_by d (own_touched d e) before after))
+  pub answers : answer ≡ then outcome (λ d. good (moved_by d (own_touched d e) before after))
 
 -- the own lists of all expanders but expander e, as OwnHeld has them
 pub record OwnListsHeldBut (d : Domain) (e : ℕ) (words : List ℕ) : Type 0 where
   pub enough : own_list_words * length d ≤ length words
   pub cell : (i : ℕ) → i < length d → i ≢ e → take (suc (length (own_words d i))) (drop (own_list_words * i) words) ≡ length (own_words d i) ∷ own_words d i
 
--- all that is prepared where a drive is plugged or pulled at expander e: own lists, the expanders downstream of each, and room for the levels of one phy. Tables
--- can be filled as long as e's own list has at most n words
-pub record ReplugReady (d : Domain) (e n : ℕ) (first lists bytes order : List ℕ) : Type 0 where
+-- testing a domain again where a drive was plugged or pulled at expander e: room for one order, and its tables can be filled as long as
+-- e's own list has at most n words
+pub record RetestReady (d : Domain) (e n : ℕ) (order : List ℕ) : Type 0 where
+  pub room : OrderRoom d order
+  pub fills : length (own_words d e) ≤ n → Fillable d
+
+-- all that is prepared where a drive is plugged or pulled at phy p of expander e: which expanders phys are attached to, own lists, the expanders
+-- downstream of each, and room for one order; and it can be plugged or pulled there, with room for the tables, which can be filled
+pub record ReplugPrepared (d : Domain) (e p : ℕ) (first lists bytes numbers : List ℕ) (room : Room) : Type 0 where
   pub fars : AttachedExpandersKnown d first
   pub owns : OwnListsHeld d lists
   pub downstream : DownstreamListsHeld d bytes
-  pub room : most_downstream * length d < length order
-  pub few : length order ≤ order_bytes
-  pub fills : length (own_words d e) ≤ n → Fillable d
-
--- and a drive that can be plugged or pulled at phy p, with room for the tables
-abbrev pub ReplugAdmitted : Domain → ℕ → ℕ → List ℕ → List ℕ → List ℕ → List ℕ → Room → Type 0
-ReplugAdmitted d e p first lists bytes order room = ReplugReady d e (length (own_words d e)) first lists bytes order × (T (pluggable (phy_at d e p)) × Enough (needed d) room)
+  pub order : OrderRoom d numbers
+  pub fills : Fillable d
+  pub takes : T (pluggable (phy_at d e p))
+  pub enough : Enough (needed d) room
 
 -- rows and entries before and after address a is plugged into phy p of expander e, or its drive pulled, of a domain past causes 7 to 12 and 23, and the answer
-pub record ReplugRun (ws ws' : List ℕ) (e p a : ℕ) (answer : Replugged) (before after : Entries) : Type 0 where
+pub record ReplugRun (ws ws' : List ℕ) (e p a : ℕ) (answer : Result Moved) (before after : Entries) : Type 0 where
   pub rows : ws' ≡ rows_after (fitted (room_of before) e p (domain_in ws)) ws e p (replug a (phy_at (domain_in ws) e p))
   pub done : ReplugDone (then (fitted (room_of before) e p (domain_in ws)) (λ _. retested e a (replugged (domain_in ws) e p a))) e answer before after

@@ -1,7 +1,7 @@
 -- What the functions that write touched tables afresh promise: the numbers from a place on renewed, how far they went, and what they counted.
 use Rattle.std.specs.Prelude.{ℕ, ◌+◌, ◌*◌, ◌≤◌, ◌<◌, ◌^◌, ◌≡◌, Bool, ◌&&◌, List, ◌++◌, length, take, drop}
 pub use Rattle.frames.specs.Bits.{with_bit}
-use Rattle.wiring.specs.FrameDefinitions.{bits_of, zero_bits, good}
+use Rattle.wiring.specs.FrameDefinitions.{bits_of, zero_bits}
 use Rattle.files.specs.Lists.{keep}
 use Rattle.files.specs.declared.Phy.{Phy}
 use Rattle.files.specs.Domain.{Domain, is_table, to_expander, phy_at}
@@ -10,11 +10,11 @@ use Rattle.tables.specs.filling.Tables.{size, sizes, needed}
 use Rattle.tables.specs.filling.Entries.{Entries, room_of, Room, Enough}
 use Rattle.tables.specs.filling.WordsChanged.{changed}
 use Rattle.tables.specs.events.TouchedTables.{renewed, moved_by}
-use Rattle.tables.specs.events.ReplugCall.{own_touched, own_table_at, own_refilled, replug_answer}
+use Rattle.tables.specs.events.ReplugCall.{own_touched, own_table_at, own_refilled}
 use Rattle.tables.specs.declared.events.refilling.Tally.{Tally}
+use Rattle.tables.specs.declared.Moved.{Moved}
 use Rattle.tables.specs.lists.GrowingLists.{places_at}
-use Rattle.tables.specs.lists.PreparedLists.{AttachedExpandersKnown, OwnListsHeld, DownstreamListsHeld, most_downstream, order_of, Fillable}
-use Rattle.tables.specs.declared.Replugged.{Replugged}
+use Rattle.tables.specs.lists.PreparedLists.{most_downstream, order_of, Fillable}
 
 -- numbers renewed from a place on, where the tables at these places stand one after the other
 unfoldable pub renewed_at : Domain → (Place → Bool) → (Place → List ℕ) → List Place → ℕ → List ℕ → List ℕ
@@ -47,23 +47,22 @@ pub record Rewritten (d : Domain) (e : ℕ) (qs : List Place) (s r : Tally) (bef
   pub counted : r.tables ≡ s.tables + length (keep (own_touched d e) qs)
   pub differs : r.words ≡ s.words + changed before.words after.words
 
--- going through the table of phy p of expander i: own lists, its order, and words and bits for it
-abbrev pub RefillReady : Domain → List ℕ → List ℕ → ℕ → ℕ → Tally → List ℕ → List ℕ → Type 0
-RefillReady d lists order i p s words bits =
-    OwnListsHeld d lists × ((order ≡ order_of d (phy_at d i p)) × (Fillable d × (((s.tables < 2 ^ 32) × (s.words ≤ s.at))
-    × ((s.at + size d (place i p) ≤ length words) × (s.at + size d (place i p) ≤ 8 * length bits)))))
+-- going through the table of phy p of expander i: its order, no list is too long, and words and bits for it
+abbrev pub RefillReady : Domain → List ℕ → ℕ → ℕ → Tally → List ℕ → List ℕ → Type 0
+RefillReady d order i p s words bits =
+    (order ≡ order_of d (phy_at d i p)) × (Fillable d × (((s.tables < 2 ^ 32) × (s.words ≤ s.at))
+    × ((s.at + size d (place i p) ≤ length words) × (s.at + size d (place i p) ≤ 8 * length bits))))
 
--- through the tables of expander i
-abbrev pub RefillsReady : Domain → List ℕ → List ℕ → List ℕ → List ℕ → ℕ → Tally → List ℕ → List ℕ → Type 0
-RefillsReady d first lists downstream order i s words bits =
-    AttachedExpandersKnown d first × (OwnListsHeld d lists × (DownstreamListsHeld d downstream × ((most_downstream * length d < length order) × (Fillable d × (((s.tables ≤ 16384) × (s.words ≤ s.at))
-    × ((s.at + sizes d (places_at d i) ≤ length words) × (s.at + sizes d (places_at d i) ≤ 8 * length bits)))))))
+-- through the tables of expander i, with room for one order
+abbrev pub RefillsReady : Domain → List ℕ → ℕ → Tally → List ℕ → List ℕ → Type 0
+RefillsReady d order i s words bits =
+    (most_downstream * length d < length order) × (Fillable d × (((s.tables ≤ 16384) × (s.words ≤ s.at))
+    × ((s.at + sizes d (places_at d i) ≤ length words) × (s.at + sizes d (places_at d i) ≤ 8 * length bits))))
 
 -- through all tables
-abbrev pub RefillAllReady : Domain → List ℕ → List ℕ → List ℕ → List ℕ → Room → Type 0
-RefillAllReady d first lists downstream order room =
-    AttachedExpandersKnown d first × (OwnListsHeld d lists × (DownstreamListsHeld d downstream × ((most_downstream * length d < length order) × (Fillable d × Enough (needed d) room))))
+abbrev pub RefillAllReady : Domain → List ℕ → Room → Type 0
+RefillAllReady d order room = (most_downstream * length d < length order) × (Fillable d × Enough (needed d) room)
 
 -- the touched tables are written afresh, and the answer counts them and the words changed
-abbrev pub RefilledAll : Domain → ℕ → Replugged → Entries → Entries → Type 0
-RefilledAll d e r before after = (after ≡ own_refilled d e before) × (replug_answer r ≡ good (moved_by d (own_touched d e) before after))
+abbrev pub RefilledAll : Domain → ℕ → Moved → Entries → Entries → Type 0
+RefilledAll d e r before after = (after ≡ own_refilled d e before) × (r ≡ moved_by d (own_touched d e) before after)

@@ -8,6 +8,7 @@ use Rattle.tables.specs.levels.Levels.{levels}
 use Rattle.tables.specs.filling.Tables.{table, table_places, size}
 use Rattle.tables.specs.filling.Entries.{Entries, entries}
 use Rattle.tables.specs.filling.WordsChanged.{changed}
+use Rattle.tables.specs.declared.Moved.{Moved}
 
 -- "touched": expander e is in one of the levels of the phy at this place
 unfoldable pub touched : Domain → ℕ → Place → Bool
@@ -34,10 +35,6 @@ abbrev pub refilled : Domain → ℕ → Entries → Entries
 refilled d e before = refilled_by d (touched d e) (table_at d) before
 
 -- how many tables are touched, and how many words changed
-pub record Moved : Type 0 where
-  pub table_count : ℕ
-  pub word_count : ℕ
-
 abbrev pub moved_by : Domain → (Place → Bool) → Entries → Entries → Moved
 moved_by d test before after = record { table_count = length (keep test (table_places d)); word_count = changed before.words after.words }
 

@@ -5,14 +5,16 @@ use mathlib.Core.List.{List, [], ◌∷◌, ◌++◌, flat_map}
 use Rattle.wiring.specs.FrameDefinitions.{Result, refused, good, then}
 use Rattle.files.specs.declared.Phy.{Phy}
 use Rattle.files.specs.Domain.{Domain, expander_at, phy_at, address_of, is_table, is_direct, attached, to_expander, number_of}
+use Rattle.files.specs.Settings.{most_expanders}
 use Rattle.wiring.specs.phys.PhyCauses.{Place, places, first_of, place}
 use Rattle.wiring.specs.phys.Checks.{checked_in}
-use Rattle.wiring.specs.index.AddressIndex.{attached_expander, lowest_phy, Indexed}
+use Rattle.wiring.specs.index.AddressIndex.{attached_expander, lowest_phy}
 use Rattle.tables.specs.levels.Levels.{each_once, down, downstream_of_phys, downstream}
 use Rattle.tables.specs.filling.Entries.{Entries, put_before}
 use Rattle.tables.specs.lists.GrowingLists.{with_tables, places_at, Grown}
-use Rattle.tables.specs.JudgingCall.{tables_answer, counts_in}
-use Rattle.tables.specs.declared.TablesGiven.{TablesGiven}
+use Rattle.tables.specs.JudgingCall.{counts_in}
+use Rattle.tables.specs.declared.Counted.{Counted}
+use Rattle.tables.specs.declared.levels.order.KeptOrder.{KeptOrder}
 use Rattle.tables.specs.lists.OwnLists.{own_words}
 use Rattle.tables.specs.filling.Tables.{size, sizes, needed}
 
@@ -99,48 +101,48 @@ own_tables d = own_tables_of d (places d)
 abbrev pub Fillable : Domain → Type 0
 Fillable d = (i p : ℕ) → T (is_table (phy_at d i p)) → length (own_words_of_order d i p) ≤ (expander_at d i).route_indexes
 
--- all that the table of phy p of expander x is filled from: own lists, its order, and room for its list
-pub record FilledFrom (d : Domain) (x p : ℕ) (lists order : List ℕ) (room : ℕ) : Type 0 where
-  pub held : OwnListsHeld d lists
+-- what the table of phy p of expander x is filled from besides own lists: its order, and room for its list
+pub record FilledFrom (d : Domain) (x p : ℕ) (order : List ℕ) (room : ℕ) : Type 0 where
   pub ordered : order ≡ order_of d (phy_at d x p)
   pub fits : length (own_words_of_order d x p) ≤ room
 
--- room for own lists, for the expanders downstream of each, and for the order of one phy
-pub record FillRoom (d : Domain) (words bytes numbers : List ℕ) : Type 0 where
-  pub lists : own_list_words * length d ≤ length words
-  pub downstream : downstream_bytes * length d ≤ length bytes
-  pub order : most_downstream * length d < length numbers
+-- room, no more than the most expanders need, for the lists of those downstream of each of n expanders, and for the order of one phy
+pub record LevelRoomFor (n bytes numbers : ℕ) : Type 0 where
+  pub downstream : downstream_bytes * n ≤ bytes
+  pub order : most_downstream * n < numbers
+  pub no_more : (bytes ≤ downstream_bytes * most_expanders) × (numbers ≤ order_bytes)
 
--- writing the table of phy p of expander i, a table phy, from `at` on rests on these: own lists, the phy's order, and room
-abbrev pub TableReady : Domain → List ℕ → List ℕ → ℕ → ℕ → List ℕ → ℕ → Type 0
-TableReady d lists order i p words at =
-    OwnListsHeld d lists × ((order ≡ order_of d (phy_at d i p)) × ((is_table (phy_at d i p) ≡ true) × (Fillable d × (at + size d (place i p) ≤ length words))))
+-- and for their own lists
+pub record FillRoomFor (n words bytes numbers : ℕ) : Type 0 where
+  pub lists : own_list_words * n ≤ words
+  pub no_more : words ≤ own_list_words * most_expanders
+  pub levels : LevelRoomFor n bytes numbers
 
--- writing all tables: who has which address, and room
-abbrev pub AllReady : Domain → List ℕ → List ℕ → List ℕ → Type 0
-AllReady d first low words = Indexed d first low × (Fillable d × (needed d ≤ length words))
+-- room for the order of one phy, no more than the most expanders need
+pub record OrderRoom (d : Domain) (order : List ℕ) : Type 0 where
+  pub enough : most_downstream * length d < length order
+  pub few : length order ≤ order_bytes
+
+-- writing the table of phy p of expander i, a table phy, from `at` on rests on these besides own lists: the phy's order, and room
+abbrev pub TableReady : Domain → List ℕ → ℕ → ℕ → List ℕ → ℕ → Type 0
+TableReady d order i p words at = (order ≡ order_of d (phy_at d i p)) × ((is_table (phy_at d i p) ≡ true) × (Fillable d × (at + size d (place i p) ≤ length words)))
+
+-- writing all tables: no list is too long, and room
+abbrev pub AllReady : Domain → List ℕ → Type 0
+AllReady d words = Fillable d × (needed d ≤ length words)
 
 -- the entries tell which expander each phy is attached to that is attached to one
 abbrev pub AttachedExpandersKnown : Domain → List ℕ → Type 0
 AttachedExpandersKnown d first = (i p : ℕ) → T (to_expander (phy_at d i p)) → attached_expander d first i p ≡ number_of d (address_of (phy_at d i p))
 
--- φ is phy p of expander i, and which expanders the phys are attached to is known
-pub record PhyIndexed (d : Domain) (first : List ℕ) (i p : ℕ) (φ : Phy) : Type 0 where
-  pub index : AttachedExpandersKnown d first
-  pub phy : φ ≡ phy_at d i p
+-- the order of φ, phy p of expander i, with room for its numbers, where that of another phy of i stands there
+abbrev pub OrderAfter : Domain → List ℕ → ℕ → ℕ → Phy → KeptOrder → Type 0
+OrderAfter d order i p φ kept =
+    ((φ ≡ phy_at d i p) × (kept.fields ≡ phy_at d i kept.phy.0)) × ((most_downstream * length d < length order) × Grown order order kept.count (order_of d kept.fields))
 
--- the order of one phy: what is downstream of each expander, and room for the numbers
-abbrev pub OrderReady : Domain → List ℕ → List ℕ → Type 0
-OrderReady d downstream order = DownstreamListsHeld d downstream × (most_downstream * length d < length order)
-
--- what an order needs, where the first n numbers are the order of φ
-abbrev pub OrderKept : Domain → List ℕ → List ℕ → ℕ → Phy → Type 0
-OrderKept d downstream order n φ = DownstreamListsHeld d downstream × ((most_downstream * length d < length order) × Grown order order n (order_of d φ))
-
--- writing the tables of expander i from `at` on: which expanders its phys are attached to, own lists, what is downstream of each, and room
-abbrev pub TablesReady : Domain → List ℕ → List ℕ → List ℕ → List ℕ → ℕ → List ℕ → ℕ → Type 0
-TablesReady d first lists downstream order i words at =
-    AttachedExpandersKnown d first × (OwnListsHeld d lists × (DownstreamListsHeld d downstream × ((most_downstream * length d < length order) × (Fillable d × (at + sizes d (places_at d i) ≤ length words)))))
+-- writing the tables of expander i from `at` on: room for one order, no list is too long, and room for the tables
+abbrev pub TablesReady : Domain → List ℕ → ℕ → List ℕ → ℕ → Type 0
+TablesReady d order i words at = (most_downstream * length d < length order) × (Fillable d × (at + sizes d (places_at d i) ≤ length words))
 
 -- φ, phy p of expander i, gives its word to the own list, by the lowest phy with its address
 abbrev pub owns_by : List ℕ → ℕ → ℕ → Phy → Bool
@@ -156,38 +158,16 @@ own_after (refused r) before = before
 own_after (good d) before = put_before (own_tables d) before
 
 -- all that giving tables by own lists promises: the answer, and the entries after
-pub record OwnDone (outcome : Result Domain) (answer : TablesGiven) (before after : Entries) : Type 0 where
-  pub answers : tables_answer answer ≡ then outcome counts_in
+pub record OwnDone (outcome : Result Domain) (answer : Result Counted) (before after : Entries) : Type 0 where
+  pub answers : answer ≡ then outcome counts_in
   pub left : after ≡ own_after outcome before
 
--- testing 14: which expanders phys are attached to, the lengths of own lists, what is downstream of each, and room for one order
-abbrev pub OverlongReady : Domain → List ℕ → List ℕ → List ℕ → List ℕ → Type 0
-OverlongReady d first counts downstream order =
-    AttachedExpandersKnown d first × (OwnListCounts d counts × (DownstreamListsHeld d downstream × ((most_downstream * length d < length order) × (length order ≤ order_bytes))))
-
--- testing 14 with own lists in place of their lengths
-abbrev pub OverlongByLists : Domain → List ℕ → List ℕ → List ℕ → List ℕ → Type 0
-OverlongByLists d first lists downstream order =
-    AttachedExpandersKnown d first × (OwnListsHeld d lists × (DownstreamListsHeld d downstream × ((most_downstream * length d < length order) × (length order ≤ order_bytes))))
-
--- testing 14 at φ, phy p of expander i: q, where it is lower, is on one link with it, and 14 holds at no lower phy
-abbrev pub OverlongPhyReady : Domain → List ℕ → List ℕ → List ℕ → List ℕ → ℕ → ℕ → ℕ → Phy → Type 0
-OverlongPhyReady d first counts downstream order i p q φ =
-    AttachedExpandersKnown d first × (OwnListCounts d counts × (DownstreamListsHeld d downstream × (((most_downstream * length d < length order) × (length order ≤ order_bytes))
-    × ((φ ≡ phy_at d i p) × (LowerOnLink d i p q × ((k : ℕ) → k < p → own_overlong d i k ≡ false))))))
-
--- testing 14, with room for what is downstream of each and for one order
-abbrev pub OverlongRoom : Domain → List ℕ → List ℕ → List ℕ → List ℕ → Type 0
-OverlongRoom d first low downstream order =
-    Indexed d first low × ((downstream_bytes * length d ≤ length downstream) × ((most_downstream * length d < length order) × (length order ≤ order_bytes)))
-
--- writing all tables, with room for what is prepared
-abbrev pub AllRoom : Domain → List ℕ → List ℕ → List ℕ → List ℕ → List ℕ → List ℕ → Type 0
-AllRoom d first low lists downstream order words = Indexed d first low × (FillRoom d lists downstream order × (Fillable d × (needed d ≤ length words)))
-
--- the order of φ, phy p of expander i, after that of ψ, its phy q
-abbrev pub OrderAfter : Domain → List ℕ → List ℕ → List ℕ → ℕ → ℕ → Phy → ℕ → Phy → ℕ → Type 0
-OrderAfter d first downstream order i p φ q ψ n = (PhyIndexed d first i p φ × (ψ ≡ phy_at d i q)) × OrderKept d downstream order n ψ
+-- testing 14 at φ, phy p of expander i: room for one order; q, where it is lower, is on one link with it; and 14 holds at no lower phy
+pub record OverlongTestable (d : Domain) (order : List ℕ) (i p q : ℕ) (φ : Phy) : Type 0 where
+  pub room : OrderRoom d order
+  pub phy : φ ≡ phy_at d i p
+  pub link : LowerOnLink d i p q
+  pub none : (k : ℕ) → k < p → own_overlong d i k ≡ false
 
 -- how many words the tables of expander i have
 abbrev pub words_at : Domain → ℕ → ℕ

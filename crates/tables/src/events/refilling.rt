@@ -12,9 +12,11 @@ ghost use Rattle.tables.specs.lists.PreparedLists.{own_words_of_order, filled_to
 ghost use Rattle.tables.specs.filling.WordsChanged.{changed};
 ghost use Rattle.tables.specs.events.TablesRewritten.{table_link, Passed, TallyBounds, Rewritten, RefillReady, RefillsReady, RefillAllReady, RefilledAll};
 
-use crate::Replugged;
+use crate::Moved;
 use crate::filling::{table_filling, table_sizes};
+use crate::levels::order::KeptOrder;
 use crate::levels::{downstream, order};
+use crate::lists::prepared_rows::PreparedRows;
 use wiring::{ExpanderNumber, Phy, PhyId};
 
 // How far the tables gone through reach, how many of them were touched, and how many words changed.
@@ -50,10 +52,8 @@ fn mark_each(part: &[u64], bits: &mut [u8], at: usize)
     requires { (at + length part.now ≤ 8 * length bits.old) × (at + length part.now < 2 ^ 64) }
     ensures { bits_of bits.new ≡ sets (bits_of bits.old) at (zero_bits part.now) }
 {
-    let mut k: usize = 0;
-    while k < part.len() {
+    for k in 0..part.len() {
         set_bit(bits, at + k, zero_bit(part[k]));
-        k += 1;
     }
 }
 
@@ -84,8 +84,7 @@ fn mark_from(part: &[u64], bits: &mut [u8], at: usize)
 
 // Writes the table of phy p of expander i from word `at` to word `to`, and its bits; the answer is how many words changed.
 fn renew_table(
-    rows: &[u64],
-    lists: &[u64],
+    d: &PreparedRows,
     order: &[u8],
     i: ExpanderNumber,
     p: PhyId,
@@ -94,21 +93,20 @@ fn renew_table(
     at: usize,
     to: usize,
 ) -> usize
-    requires { FilledFrom (domain_in rows.now) i.0 p.0 lists.now order.now (to - at)
+    requires { FilledFrom (domain_in d.now.levels.attached.rows.now) i.0 p.0 order.now (to - at)
         × ((at ≤ to) × ((to ≤ length words.old) × (to ≤ 8 * length bits.old))) }
-    ensures { (words.new ≡ sets words.old at (filled_to (to - at) (own_words_of_order (domain_in rows.now) i.0 p.0)))
-        × ((bits_of bits.new ≡ sets (bits_of bits.old) at (zero_bits (filled_to (to - at) (own_words_of_order (domain_in rows.now) i.0 p.0))))
+    ensures { (words.new ≡ sets words.old at (filled_to (to - at) (own_words_of_order (domain_in d.now.levels.attached.rows.now) i.0 p.0)))
+        × ((bits_of bits.new ≡ sets (bits_of bits.old) at (zero_bits (filled_to (to - at) (own_words_of_order (domain_in d.now.levels.attached.rows.now) i.0 p.0))))
         × ((result ≡ changed words.old words.new) × (result ≤ to - at))) }
 {
-    let n = table_filling::fill_table(rows, lists, order, i, p, &mut words[at..to]);
+    let n = table_filling::fill_table(d, order, i, p, &mut words[at..to]);
     mark_from(&words[at..to], bits, at);
     n
 }
 
 // Writes a table afresh where expander e is in its order; elsewhere it is passed over. The answer is the tally after it.
 fn refill_table(
-    rows: &[u64],
-    lists: &[u64],
+    d: &PreparedRows,
     order: &[u8],
     e: ExpanderNumber,
     i: ExpanderNumber,
@@ -117,11 +115,11 @@ fn refill_table(
     bits: &mut [u8],
     s: Tally,
 ) -> Tally
-    requires { RefillReady (domain_in rows.now) lists.now order.now i.0 p.0 s words.old bits.old }
-    ensures { Rewritten (domain_in rows.now) e.0 (place i.0 p.0 ∷ []) s result
+    requires { RefillReady (domain_in d.now.levels.attached.rows.now) order.now i.0 p.0 s words.old bits.old }
+    ensures { Rewritten (domain_in d.now.levels.attached.rows.now) e.0 (place i.0 p.0 ∷ []) s result
         (entries words.old bits.old) (entries words.new bits.new) × TallyBounds 1 s result }
 {
-    let to = s.at + table_sizes::size_at(rows, i, p) as usize;
+    let to = s.at + table_sizes::size_at(d.levels.attached.rows, i, p) as usize;
     if !downstream::has_number(order, e) {
         return Tally {
             at: to,
@@ -129,7 +127,7 @@ fn refill_table(
             words: s.words,
         };
     }
-    let n = renew_table(rows, lists, order, i, p, words, bits, s.at, to);
+    let n = renew_table(d, order, i, p, words, bits, s.at, to);
     Tally {
         at: to,
         tables: s.tables + 1,
@@ -161,10 +159,7 @@ fn pass_over(rows: &[u64], i: ExpanderNumber, p: PhyId, f: Phy, s: Tally) -> Tal
 
 // Goes so through the tables of expander i. `order` is room for the levels of one phy.
 fn refill_at(
-    rows: &[u64],
-    first: &[u16],
-    lists: &[u64],
-    downstream: &[u8],
+    d: &PreparedRows,
     order: &mut [u8],
     e: ExpanderNumber,
     i: ExpanderNumber,
@@ -172,67 +167,52 @@ fn refill_at(
     bits: &mut [u8],
     s: Tally,
 ) -> Tally
-    requires { RefillsReady (domain_in rows.now) first.now lists.now downstream.now order.old i.0 s words.old bits.old }
-    ensures { Rewritten (domain_in rows.now) e.0 (places_at (domain_in rows.now) i.0) s result
+    requires { RefillsReady (domain_in d.now.levels.attached.rows.now) order.old i.0 s words.old bits.old }
+    ensures { Rewritten (domain_in d.now.levels.attached.rows.now) e.0 (places_at (domain_in d.now.levels.attached.rows.now) i.0) s result
         (entries words.old bits.old) (entries words.new bits.new) × TallyBounds 128 s result }
 {
+    let rows = d.levels.attached.rows;
     let n = wiring::phy_count(rows, i);
     let mut t = s;
-    let mut q = PhyId(255);
-    let mut g = Phy::Vacant(0);
-    let mut m: usize = 0;
-    let mut p: u8 = 0;
-    while p < n {
+    let mut kept = KeptOrder {
+        phy: PhyId(255),
+        fields: Phy::Vacant(0),
+        count: 0,
+    };
+    for p in 0..n {
         let f = wiring::phy_in_row(rows, i, PhyId(p));
-        if !is_table_link(f) {
+        if is_table_link(f) {
+            kept = order::order_for(&d.levels, kept, i, PhyId(p), f, order);
+            t = refill_table(d, &order[..kept.count], e, i, PhyId(p), words, bits, t);
+        } else {
             t = pass_over(rows, i, PhyId(p), f, t);
-            p += 1;
-            continue;
         }
-        m = order::order_for(rows, first, downstream, q, g, m, i, PhyId(p), f, order);
-        q = PhyId(p);
-        g = f;
-        t = refill_table(rows, lists, &order[..m], e, i, PhyId(p), words, bits, t);
-        p += 1;
     }
     t
 }
 
 // Writes afresh the tables with expander e in the order of their phy, words and bits, and counts them and the words changed.
 pub(crate) fn refill_all(
-    rows: &[u64],
-    first: &[u16],
-    lists: &[u64],
-    downstream: &[u8],
+    d: &PreparedRows,
     order: &mut [u8],
     e: ExpanderNumber,
     words: &mut [u64],
     bits: &mut [u8],
-) -> Replugged
-    requires { RefillAllReady (domain_in rows.now) first.now lists.now downstream.now order.old (room_of (entries words.old bits.old)) }
-    ensures { RefilledAll (domain_in rows.now) e.0 result (entries words.old bits.old) (entries words.new bits.new) }
+) -> Moved
+    requires { RefillAllReady (domain_in d.now.levels.attached.rows.now) order.old (room_of (entries words.old bits.old)) }
+    ensures { RefilledAll (domain_in d.now.levels.attached.rows.now) e.0 result (entries words.old bits.old) (entries words.new bits.new) }
 {
-    let n = wiring::expander_count(rows);
+    let n = wiring::expander_count(d.levels.attached.rows);
     let mut s = Tally {
         at: 0,
         tables: 0,
         words: 0,
     };
-    let mut i: u8 = 0;
-    while i < n {
-        s = refill_at(
-            rows,
-            first,
-            lists,
-            downstream,
-            order,
-            e,
-            ExpanderNumber(i),
-            words,
-            bits,
-            s,
-        );
-        i += 1;
+    for i in 0..n {
+        s = refill_at(d, order, e, ExpanderNumber(i), words, bits, s);
     }
-    Replugged::Counts(s.tables as u32, s.words as u32)
+    Moved {
+        table_count: s.tables as u32,
+        word_count: s.words as u32,
+    }
 }

@@ -8,15 +8,26 @@ ghost use Rattle.files.specs.PhyReplaced.{with_words};
 ghost use Rattle.wiring.specs.index.AddressIndex.{Indexed, IndexLeft};
 ghost use Rattle.tables.specs.filling.Entries.{entries, room_of};
 ghost use Rattle.tables.specs.filling.Tables.{needed};
-ghost use Rattle.tables.specs.lists.PreparedLists.{FillRoom, order_bytes};
-ghost use Rattle.tables.specs.events.ReplugCall.{pluggable, replug, replugged, retested, admitted, replug_call, rows_after, ReplugDone, ReplugRun, admitting, ReplugAdmitted};
+ghost use Rattle.tables.specs.lists.PreparedLists.{FillRoomFor};
+ghost use Rattle.tables.specs.events.ReplugCall.{pluggable, replug, replugged, retested, admitted, replug_call, rows_after, ReplugDone, ReplugRun, admitting, ReplugPrepared};
 
-use crate::Replugged;
+use crate::Moved;
 use crate::events::{refilling, retesting};
 use crate::filling::all_tables;
+use crate::levels::attached_rows::AttachedRows;
 use crate::levels::downstream;
+use crate::levels::downstream_rows::DownstreamRows;
 use crate::lists::own_lists;
-use wiring::{Check, ExpanderNumber, Phy, PhyFields, PhyId};
+use crate::lists::prepared_rows::PreparedRows;
+use wiring::{ExpanderNumber, IndexedRows, Phy, PhyFields, PhyId, Refusal};
+
+// A drive plugged into a phy, or pulled from it where its address is zero.
+#[derive(Clone, Copy)]
+struct Plug {
+    expander: ExpanderNumber,
+    phy: PhyId,
+    address: u64,
+}
 
 // Whether a drive can be plugged into the phy or pulled from it: 20 does not hold.
 fn is_pluggable(f: Phy) -> bool
@@ -54,53 +65,65 @@ fn replug_phy(a: u64, f: Phy) -> Phy
 }
 
 // 20 at phy p of expander e, then 16 and 18, where so many words and bytes are lent.
-fn admit(rows: &[u64], words: usize, bits: usize, e: ExpanderNumber, p: PhyId) -> Check
+fn admit(
+    rows: &[u64],
+    words: usize,
+    bits: usize,
+    e: ExpanderNumber,
+    p: PhyId,
+) -> Result<(), Refusal>
     ensures { check_answer (domain_in rows.now) result ≡ admitting (record { words = words; bits = bits }) e.0 p.0 (domain_in rows.now) }
 {
     if !is_pluggable(wiring::phy_at(rows, e, p)) {
-        return wiring::check_refused(20, ExpanderNumber(0), PhyId(0));
+        return Err(wiring::refused(20));
     }
     let needed = all_tables::needed_words(rows);
     if words < needed {
-        return wiring::check_refused(16, ExpanderNumber(0), PhyId(0));
+        return Err(wiring::refused(16));
     }
     if bits < wiring::bytes_for(needed) {
-        return wiring::check_refused(18, ExpanderNumber(0), PhyId(0));
+        return Err(wiring::refused(18));
     }
-    Check::Passed
+    Ok(())
 }
 
 // Replaces the phy in rows, tests what can hold of the edited domain, and writes the touched tables afresh; with own lists and the
 // expanders downstream of each as they are before, and room for the levels of one phy.
-fn replug_prepared(
+fn replug_prepared<'a>(
     rows: &mut [u64],
-    first: &[u16],
-    low: &[u8],
+    first: &'a [u16],
+    low: &'a [u8],
     lists: &mut [u64],
-    downstream: &[u8],
+    downstream: &'a [u8],
     order: &mut [u8],
     words: &mut [u64],
     bits: &mut [u8],
-    e: ExpanderNumber,
-    p: PhyId,
-    a: u64,
-) -> Replugged
-    requires { ReplugAdmitted (domain_in rows.old) e.0 p.0 first.now lists.old downstream.now order.old (room_of (entries words.old bits.old)) }
-    ensures { (rows.new ≡ with_words rows.old e.0 p.0 (replug a (phy_at (domain_in rows.old) e.0 p.0)))
-        × ReplugDone (retested e.0 a (replugged (domain_in rows.old) e.0 p.0 a)) e.0 result
+    x: Plug,
+) -> Result<Moved, Refusal>
+    requires { ReplugPrepared (domain_in rows.old) x.expander.0 x.phy.0 first.now lists.old downstream.now order.old (room_of (entries words.old bits.old)) }
+    ensures { (rows.new ≡ with_words rows.old x.expander.0 x.phy.0 (replug x.address (phy_at (domain_in rows.old) x.expander.0 x.phy.0)))
+        × ReplugDone (retested x.expander.0 x.address (replugged (domain_in rows.old) x.expander.0 x.phy.0 x.address)) x.expander.0 result
         (entries words.old bits.old) (entries words.new bits.new) }
 {
-    let n = own_lists::own_length(rows, lists, e);
-    let f = wiring::phy_at(rows, e, p);
-    wiring::set_phy(rows, e, p, replug_phy(a, f));
-    retesting::renew_own(rows, e, lists);
-    let verdict = retesting::retest(rows, first, low, lists, downstream, order, e, a, n);
-    match verdict {
-        Check::Refused(r) => Replugged::Refused(r),
-        Check::Passed => refilling::refill_all(
-            rows, first, lists, downstream, order, e, words, bits,
-        ),
-    }
+    let n = own_lists::own_length(rows, lists, x.expander);
+    let f = wiring::phy_at(rows, x.expander, x.phy);
+    wiring::set_phy(rows, x.expander, x.phy, replug_phy(x.address, f));
+    retesting::renew_own(rows, x.expander, lists);
+    let attached = AttachedRows {
+        rows: &*rows,
+        first: first,
+        low: low,
+    };
+    let levels = DownstreamRows {
+        attached: attached,
+        downstream: downstream,
+    };
+    let prepared = PreparedRows {
+        levels: levels,
+        lists: &*lists,
+    };
+    retesting::retest(&prepared, order, x.expander, x.address, n)?;
+    Ok(refilling::refill_all(&prepared, order, x.expander, words, bits))
 }
 
 // Tests 14, 20, 16 and 18 and replugs a drive, with room for own lists, for the expanders downstream of each, and for the levels of one phy.
@@ -113,49 +136,54 @@ fn replug_in(
     order: &mut [u8],
     words: &mut [u64],
     bits: &mut [u8],
-    e: ExpanderNumber,
-    p: PhyId,
-    a: u64,
-) -> Replugged
-    requires { Indexed (domain_in rows.old) first.now low.now × (FillRoom (domain_in rows.old) lists.old downstream.old order.old × (length order.old ≤ order_bytes)) }
-    ensures { ReplugRun rows.old rows.new e.0 p.0 a result
+    x: Plug,
+) -> Result<Moved, Refusal>
+    requires { Indexed (domain_in rows.old) first.now low.now × FillRoomFor (length (domain_in rows.old)) (length lists.old) (length downstream.old) (length order.old) }
+    ensures { ReplugRun rows.old rows.new x.expander.0 x.phy.0 x.address result
         (entries words.old bits.old) (entries words.new bits.new) }
 {
-    own_lists::put_owns(rows, low, lists);
-    downstream::put_downstream(rows, first, low, downstream);
-    let fit = retesting::first_overlong_by(rows, first, low, lists, downstream, order);
-    match fit {
-        Check::Refused(r) => Replugged::Refused(r),
-        Check::Passed => {
-            let admission = admit(rows, words.len(), bits.len(), e, p);
-            match admission {
-                Check::Refused(r) => Replugged::Refused(r),
-                Check::Passed => replug_prepared(
-                    rows, first, low, lists, downstream, order, words, bits, e, p, a,
-                ),
-            }
-        }
-    }
+    let d = IndexedRows {
+        rows: &*rows,
+        first: first,
+        low: low,
+    };
+    own_lists::put_owns(&d, lists);
+    let attached = AttachedRows {
+        rows: &*rows,
+        first: first,
+        low: low,
+    };
+    downstream::put_downstream(&attached, downstream);
+    let levels = DownstreamRows {
+        attached: attached,
+        downstream: &*downstream,
+    };
+    let prepared = PreparedRows {
+        levels: levels,
+        lists: &*lists,
+    };
+    retesting::first_overlong_by(&prepared, order)?;
+    admit(rows, words.len(), bits.len(), x.expander, x.phy)?;
+    replug_prepared(rows, first, low, lists, downstream, order, words, bits, x)
 }
 
-// Replugs a drive in a domain past causes 7 to 12 and 23, with room for at most 8 expanders.
-fn replug_few(
+// Replugs a drive in a domain past causes 7 to 12 and 23, with room of this size: words for own lists, and bytes for the
+// expanders downstream of each and for the levels of one phy.
+fn replug_with<const LISTS: usize, const DOWNSTREAM: usize, const ORDER: usize>(
     rows: &mut [u64],
     first: &[u16],
     low: &[u8],
     words: &mut [u64],
     bits: &mut [u8],
-    e: ExpanderNumber,
-    p: PhyId,
-    a: u64,
-) -> Replugged
-    requires { (length (domain_in rows.old) ≤ 8) × Indexed (domain_in rows.old) first.now low.now }
-    ensures { ReplugRun rows.old rows.new e.0 p.0 a result
+    x: Plug,
+) -> Result<Moved, Refusal>
+    requires { Indexed (domain_in rows.old) first.now low.now × FillRoomFor (length (domain_in rows.old)) LISTS DOWNSTREAM ORDER }
+    ensures { ReplugRun rows.old rows.new x.expander.0 x.phy.0 x.address result
         (entries words.old bits.old) (entries words.new bits.new) }
 {
-    let mut lists = [0u64; crate::OWN_LISTS_OF_8];
-    let mut downstream = [0u8; crate::DOWNSTREAM_OF_8];
-    let mut order = [0u8; crate::ORDER_OF_8];
+    let mut lists = [0u64; LISTS];
+    let mut downstream = [0u8; DOWNSTREAM];
+    let mut order = [0u8; ORDER];
     replug_in(
         rows,
         first,
@@ -165,42 +193,7 @@ fn replug_few(
         &mut order[..],
         words,
         bits,
-        e,
-        p,
-        a,
-    )
-}
-
-// Replugs a drive in such a domain, with room for the most expanders.
-fn replug_many(
-    rows: &mut [u64],
-    first: &[u16],
-    low: &[u8],
-    words: &mut [u64],
-    bits: &mut [u8],
-    e: ExpanderNumber,
-    p: PhyId,
-    a: u64,
-) -> Replugged
-    requires { Indexed (domain_in rows.old) first.now low.now }
-    ensures { ReplugRun rows.old rows.new e.0 p.0 a result
-        (entries words.old bits.old) (entries words.new bits.new) }
-{
-    let mut lists = [0u64; crate::OWN_LISTS_OF_64];
-    let mut downstream = [0u8; crate::DOWNSTREAM_OF_64];
-    let mut order = [0u8; crate::ORDER_OF_64];
-    replug_in(
-        rows,
-        first,
-        low,
-        &mut lists[..],
-        &mut downstream[..],
-        &mut order[..],
-        words,
-        bits,
-        e,
-        p,
-        a,
+        x,
     )
 }
 
@@ -212,21 +205,30 @@ fn replug_checked(
     low: &[u8],
     words: &mut [u64],
     bits: &mut [u8],
-    e: ExpanderNumber,
-    p: PhyId,
-    a: u64,
-) -> Replugged
+    x: Plug,
+) -> Result<Moved, Refusal>
     requires { Indexed (domain_in rows.old) first.now low.now }
-    ensures { ReplugRun rows.old rows.new e.0 p.0 a result
+    ensures { ReplugRun rows.old rows.new x.expander.0 x.phy.0 x.address result
         (entries words.old bits.old) (entries words.new bits.new) }
 {
-    if p.0 > 128 {
-        return replug_checked(rows, first, low, words, bits, e, PhyId(128), a);
+    if x.phy.0 > 128 {
+        let past = Plug {
+            expander: x.expander,
+            phy: PhyId(128),
+            address: x.address,
+        };
+        return replug_checked(rows, first, low, words, bits, past);
     }
     if wiring::expander_count(rows) <= 8 {
-        return replug_few(rows, first, low, words, bits, e, p, a);
+        return replug_with::<
+            { crate::OWN_LISTS_OF_8 },
+            { crate::DOWNSTREAM_OF_8 },
+            { crate::ORDER_OF_8 },
+        >(rows, first, low, words, bits, x);
     }
-    replug_many(rows, first, low, words, bits, e, p, a)
+    replug_with::<{ crate::OWN_LISTS_OF_64 }, { crate::DOWNSTREAM_OF_64 }, { crate::ORDER_OF_64 }>(
+        rows, first, low, words, bits, x,
+    )
 }
 
 // A drive of address a plugged into phy p of expander e, or pulled from it where a is zero, over rows: causes 7 to 12, 23
@@ -243,7 +245,7 @@ pub fn replug_rows(
     e: ExpanderNumber,
     p: PhyId,
     a: u64,
-) -> Replugged
+) -> Result<Moved, Refusal>
     ensures rows_after { rows.new
         ≡ rows_after (admitted chain (length first.old) (length low.old) (room_of (entries words.old bits.old)) e.0 p.0 (domain_in rows.old))
         rows.old e.0 p.0 (replug a (phy_at (domain_in rows.old) e.0 p.0)) }
@@ -251,9 +253,11 @@ pub fn replug_rows(
         e.0 result (entries words.old bits.old) (entries words.new bits.new) }
     ensures index_left { IndexLeft (domain_in rows.old) first.old low.old first.new low.new }
 {
-    let checked = wiring::check_domain(rows, first, low, chain);
-    match checked {
-        Check::Refused(r) => Replugged::Refused(r),
-        Check::Passed => replug_checked(rows, first, low, words, bits, e, p, a),
-    }
+    wiring::check_domain(rows, first, low, chain)?;
+    let x = Plug {
+        expander: e,
+        phy: p,
+        address: a,
+    };
+    replug_checked(rows, first, low, words, bits, x)
 }

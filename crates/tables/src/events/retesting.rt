@@ -8,12 +8,14 @@ ghost use Rattle.wiring.specs.phys.Checks.{check_answer, FirstOfAll, FirstOfExpa
 ghost use Rattle.files.specs.Rows.{domain_in};
 ghost use Rattle.tables.specs.lists.GrowingLists.{Grown};
 ghost use Rattle.tables.specs.lists.OwnLists.{lower, owns, own_words};
-ghost use Rattle.tables.specs.lists.PreparedLists.{OwnListsHeld, OwnListCounts, own_overlong, OverlongByLists};
-ghost use Rattle.tables.specs.events.ReplugCall.{claimed_with, retested, OwnListsHeldBut, ReplugReady};
+ghost use Rattle.tables.specs.lists.PreparedLists.{OwnListsHeld, OwnListCounts, own_overlong, OrderRoom};
+ghost use Rattle.tables.specs.events.ReplugCall.{claimed_with, retested, OwnListsHeldBut, RetestReady};
 ghost use Rattle.tables.specs.events.EndDeviceTests.{is_end, ends_at, is_found};
 
+use crate::lists::counted_rows::CountedRows;
+use crate::lists::prepared_rows::PreparedRows;
 use crate::lists::{overlong, own_lists};
-use wiring::{Check, ExpanderNumber, Phy, PhyId};
+use wiring::{ExpanderNumber, Phy, PhyId, Refusal};
 
 // Whether an expander has address s.
 fn is_expander(rows: &[u64], s: u64) -> bool
@@ -33,49 +35,45 @@ fn is_end(s: u64, f: Phy) -> bool
 }
 
 // The lowest phy of expander i that is attached to an end device with address s, as a refusal with number 8.
-fn first_end(rows: &[u64], i: ExpanderNumber, s: u64) -> Check
+fn first_end(rows: &[u64], i: ExpanderNumber, s: u64) -> Result<(), Refusal>
     ensures { FirstOfExpander (domain_in rows.now) result 8 (ends_at s) i.0 }
 {
     let n = wiring::phy_count(rows, i);
-    let mut p: u8 = 0;
-    while p < n {
+    for p in 0..n {
         let f = wiring::phy_in_row(rows, i, PhyId(p));
         if is_end(s, f) {
-            return wiring::check_refused(8, i, PhyId(p));
+            return Err(wiring::refusal_at(8, i, PhyId(p)));
         }
-        p += 1;
     }
-    Check::Passed
+    Ok(())
 }
 
 // Whether the search found a phy.
-fn is_found(answer: Check) -> bool
+fn is_found(answer: Result<(), Refusal>) -> bool
     ensures { result ≡ is_found answer }
 {
     match answer {
-        Check::Refused(_) => true,
-        Check::Passed => false,
+        Err(_) => true,
+        Ok(()) => false,
     }
 }
 
 // Cause 8 of address s alone: the lowest phy that is attached to an end device with it, where an expander has
 // it (`taken`), or an end device at an earlier expander.
-pub(crate) fn first_claim(rows: &[u64], s: u64) -> Check
+pub(crate) fn first_claim(rows: &[u64], s: u64) -> Result<(), Refusal>
     ensures { FirstOfAll (domain_in rows.now) result 8 (claimed_with s) }
 {
     let n = wiring::expander_count(rows);
     let mut taken = is_expander(rows, s);
-    let mut i: u8 = 0;
-    while i < n {
+    for i in 0..n {
         let end = first_end(rows, ExpanderNumber(i), s);
         let found = is_found(end);
         if taken & found {
             return end;
         }
         taken = taken | found;
-        i += 1;
     }
-    Check::Passed
+    Ok(())
 }
 
 // Whether two phys of one expander clash: both attached, with the same address and other attributes, or both
@@ -107,30 +105,26 @@ fn has_clash(rows: &[u64], i: ExpanderNumber, p: PhyId) -> bool
     if wiring::phy_type(f) == 0 {
         return false;
     }
-    let mut q: u8 = 0;
-    while q < p.0 {
+    for q in 0..p.0 {
         let g = wiring::phy_in_row(rows, i, PhyId(q));
         if is_clash(f, g) {
             return true;
         }
-        q += 1;
     }
     false
 }
 
 // Cause 9 at expander e alone: its lowest phy that clashes with a lower one.
-pub(crate) fn first_clash(rows: &[u64], e: ExpanderNumber) -> Check
+pub(crate) fn first_clash(rows: &[u64], e: ExpanderNumber) -> Result<(), Refusal>
     ensures { FirstOfExpander (domain_in rows.now) result 9 clashing e.0 }
 {
     let n = wiring::phy_count(rows, e);
-    let mut p: u8 = 0;
-    while p < n {
+    for p in 0..n {
         if has_clash(rows, e, PhyId(p)) {
-            return wiring::check_refused(9, e, PhyId(p));
+            return Err(wiring::refusal_at(9, e, PhyId(p)));
         }
-        p += 1;
     }
-    Check::Passed
+    Ok(())
 }
 
 // Whether an attached phy of expander i below p bears address s.
@@ -138,9 +132,7 @@ fn is_borne(rows: &[u64], i: ExpanderNumber, p: PhyId, s: u64) -> bool
     requires { p.0 < length (expander_at (domain_in rows.now) i.0).phys }
     ensures { result ≡ any (bears s) (lower (expander_at (domain_in rows.now) i.0).phys p.0) }
 {
-    let mut q = p.0;
-    while q > 0 {
-        q -= 1;
+    for q in (0..p.0).rev() {
         if own_lists::phy_bears(s, wiring::phy_in_row(rows, i, PhyId(q))) {
             return true;
         }
@@ -173,12 +165,10 @@ fn collect_words(rows: &[u64], i: ExpanderNumber, part: &mut [u64]) -> usize
 {
     let n = wiring::phy_count(rows, i);
     let mut m: usize = 0;
-    let mut p: u8 = 0;
-    while p < n {
+    for p in 0..n {
         let f = wiring::phy_in_row(rows, i, PhyId(p));
         let mine = gives_word(rows, i, PhyId(p), f);
         m = own_lists::put_word(part, m, mine, f);
-        p += 1;
     }
     m
 }
@@ -197,80 +187,60 @@ pub(crate) fn renew_own(rows: &[u64], e: ExpanderNumber, lists: &mut [u64])
 }
 
 // Writes the length of each expander's own list.
-fn put_lengths(rows: &[u64], lists: &[u64], counts: &mut [u8])
-    requires { OwnListsHeld (domain_in rows.now) lists.now × (length (domain_in rows.now) ≤ length counts.old) }
-    ensures { OwnListCounts (domain_in rows.now) counts.new }
+fn put_lengths(d: &PreparedRows, counts: &mut [u8])
+    requires { length (domain_in d.now.levels.attached.rows.now) ≤ length counts.old }
+    ensures { OwnListCounts (domain_in d.now.levels.attached.rows.now) counts.new }
 {
-    let n = wiring::expander_count(rows);
-    let mut i: u8 = 0;
-    while i < n {
-        counts[i as usize] = lists[crate::OWN_LIST_WORDS * (i as usize)] as u8;
-        i += 1;
+    let n = wiring::expander_count(d.levels.attached.rows);
+    for i in 0..n {
+        counts[i as usize] = d.lists[crate::OWN_LIST_WORDS * (i as usize)] as u8;
     }
 }
 
 // Cause 14 by own lists, with room for the levels of one phy.
-pub(crate) fn first_overlong_by(
-    rows: &[u64],
-    first: &[u16],
-    low: &[u8],
-    lists: &[u64],
-    downstream: &[u8],
-    order: &mut [u8],
-) -> Check
-    requires { OverlongByLists (domain_in rows.now) first.now lists.now downstream.now order.old }
-    ensures { FirstOfAll (domain_in rows.now) result 14 own_overlong }
+pub(crate) fn first_overlong_by(d: &PreparedRows, order: &mut [u8]) -> Result<(), Refusal>
+    requires { OrderRoom (domain_in d.now.levels.attached.rows.now) order.old }
+    ensures { FirstOfAll (domain_in d.now.levels.attached.rows.now) result 14 own_overlong }
 {
     let mut counts = [0u8; 64];
-    put_lengths(rows, lists, &mut counts[..]);
-    overlong::overlong_each(rows, first, low, &counts[..], downstream, order)
+    put_lengths(d, &mut counts[..]);
+    let levels = d.levels;
+    let counted = CountedRows {
+        levels: levels,
+        counts: &counts[..],
+    };
+    overlong::overlong_each(&counted, order)
 }
 
 // Cause 14 of a domain whose lists have at most R words as long as expander e's own list has at most n.
 fn overlong_past(
-    rows: &[u64],
-    first: &[u16],
-    low: &[u8],
-    lists: &[u64],
-    downstream: &[u8],
+    d: &PreparedRows,
     order: &mut [u8],
     e: ExpanderNumber,
     n: usize,
-) -> Check
-    requires { ReplugReady (domain_in rows.now) e.0 n first.now lists.now downstream.now order.old }
-    ensures { FirstOfAll (domain_in rows.now) result 14 own_overlong }
+) -> Result<(), Refusal>
+    requires { RetestReady (domain_in d.now.levels.attached.rows.now) e.0 n order.old }
+    ensures { FirstOfAll (domain_in d.now.levels.attached.rows.now) result 14 own_overlong }
 {
-    if own_lists::own_length(rows, lists, e) <= n {
-        return Check::Passed;
+    if own_lists::own_length(d.levels.attached.rows, d.lists, e) <= n {
+        return Ok(());
     }
-    first_overlong_by(rows, first, low, lists, downstream, order)
+    first_overlong_by(d, order)
 }
 
 // The causes that can hold where one phy of expander e of an accepted domain has been given address s: 8 of s, 9 at
 // e, and 14, in order. Before, the own list of e had n words.
 pub(crate) fn retest(
-    rows: &[u64],
-    first: &[u16],
-    low: &[u8],
-    lists: &[u64],
-    downstream: &[u8],
+    d: &PreparedRows,
     order: &mut [u8],
     e: ExpanderNumber,
     s: u64,
     n: usize,
-) -> Check
-    requires { ReplugReady (domain_in rows.now) e.0 n first.now lists.now downstream.now order.old }
-    ensures { check_answer (domain_in rows.now) result ≡ retested e.0 s (domain_in rows.now) }
+) -> Result<(), Refusal>
+    requires { RetestReady (domain_in d.now.levels.attached.rows.now) e.0 n order.old }
+    ensures { check_answer (domain_in d.now.levels.attached.rows.now) result ≡ retested e.0 s (domain_in d.now.levels.attached.rows.now) }
 {
-    let claimed = first_claim(rows, s);
-    match claimed {
-        Check::Refused(r) => Check::Refused(r),
-        Check::Passed => {
-            let clashing = first_clash(rows, e);
-            match clashing {
-                Check::Refused(r) => Check::Refused(r),
-                Check::Passed => overlong_past(rows, first, low, lists, downstream, order, e, n),
-            }
-        }
-    }
+    first_claim(d.levels.attached.rows, s)?;
+    first_clash(d.levels.attached.rows, e)?;
+    overlong_past(d, order, e, n)
 }

@@ -5,9 +5,10 @@ ghost use mathlib.Core.List.{◌++◌, flat_map};
 ghost use Rattle.files.specs.Rows.{domain_in};
 ghost use Rattle.tables.specs.lists.OwnLists.{own_words};
 ghost use Rattle.tables.specs.lists.GrowingLists.{Grown};
-ghost use Rattle.tables.specs.lists.PreparedLists.{OwnListsHeld, own_words_of_order, filled_to, FilledFrom};
+ghost use Rattle.tables.specs.lists.PreparedLists.{own_words_of_order, filled_to, FilledFrom};
 ghost use Rattle.tables.specs.filling.WordsChanged.{changed, copied, Replaced};
 
+use crate::lists::prepared_rows::PreparedRows;
 use wiring::{ExpanderNumber, PhyId};
 
 // How many words of a part are written, and how many of them changed.
@@ -35,43 +36,39 @@ fn copy_words(words: &[u64], part: &mut [u64], s: Copied) -> Copied
 {
     let mut to = s.at;
     let mut sum = s.words;
-    let mut k: usize = 0;
-    while k < words.len() {
+    for k in 0..words.len() {
         sum += differ(part[to], words[k]);
         part[to] = words[k];
         to += 1;
-        k += 1;
     }
     Copied { at: to, words: sum }
 }
 
 // Copies expander i's own list there.
-fn copy_own(rows: &[u64], lists: &[u64], i: ExpanderNumber, part: &mut [u64], s: Copied) -> Copied
-    requires { OwnListsHeld (domain_in rows.now) lists.now × ((s.words ≤ s.at) × (s.at + length (own_words (domain_in rows.now) i.0) ≤ length part.old)) }
-    ensures { Grown part.old part.new result.at (take s.at part.old ++ own_words (domain_in rows.now) i.0)
+fn copy_own(d: &PreparedRows, i: ExpanderNumber, part: &mut [u64], s: Copied) -> Copied
+    requires { (s.words ≤ s.at) × (s.at + length (own_words (domain_in d.now.levels.attached.rows.now) i.0) ≤ length part.old) }
+    ensures { Grown part.old part.new result.at (take s.at part.old ++ own_words (domain_in d.now.levels.attached.rows.now) i.0)
         × Replaced s result part.old part.new }
 {
-    if i.0 >= wiring::expander_count(rows) {
+    if i.0 >= wiring::expander_count(d.levels.attached.rows) {
         return s;
     }
     let a = crate::OWN_LIST_WORDS * (i.0 as usize);
     let from = a + 1;
-    let to = from + lists[a] as usize;
-    copy_words(&lists[from..to], part, s)
+    let to = from + d.lists[a] as usize;
+    copy_words(&d.lists[from..to], part, s)
 }
 
 // Copies the own lists of these expanders, one after the other, from the front on.
-fn copy_lists(rows: &[u64], lists: &[u64], order: &[u8], part: &mut [u64]) -> Copied
-    requires { OwnListsHeld (domain_in rows.now) lists.now × (length (flat_map (own_words (domain_in rows.now)) order.now) ≤ length part.old) }
-    ensures { Grown part.old part.new result.at (flat_map (own_words (domain_in rows.now)) order.now)
+fn copy_lists(d: &PreparedRows, order: &[u8], part: &mut [u64]) -> Copied
+    requires { length (flat_map (own_words (domain_in d.now.levels.attached.rows.now)) order.now) ≤ length part.old }
+    ensures { Grown part.old part.new result.at (flat_map (own_words (domain_in d.now.levels.attached.rows.now)) order.now)
         × Replaced (copied 0 0) result part.old part.new }
 {
     let mut s = Copied { at: 0, words: 0 };
-    let mut k: usize = 0;
-    while k < order.len() {
+    for k in 0..order.len() {
         let i = ExpanderNumber(order[k]);
-        s = copy_own(rows, lists, i, part, s);
-        k += 1;
+        s = copy_own(d, i, part, s);
     }
     s
 }
@@ -83,29 +80,26 @@ fn clear_from(part: &mut [u64], s: Copied) -> usize
         × ((result ≡ s.words + changed part.old part.new) × (result + s.at ≤ s.words + length part.old)) }
 {
     let mut sum = s.words;
-    let mut i = s.at;
-    while i < part.len() {
+    for i in s.at..part.len() {
         sum += differ(part[i], 0);
         part[i] = 0;
-        i += 1;
     }
     sum
 }
 
-// The table of phy p of expander x, in words of its own: the own lists of its order, and zeros after them. `lists`
-// has the own lists, `order` the expanders of the phy's levels. The answer is how many words changed.
+// The table of phy p of expander x, in words of its own: the own lists of its order, and zeros after them. `order` has the
+// expanders of the phy's levels. The answer is how many words changed.
 pub(crate) fn fill_table(
-    rows: &[u64],
-    lists: &[u64],
+    d: &PreparedRows,
     order: &[u8],
     x: ExpanderNumber,
     p: PhyId,
     part: &mut [u64],
 ) -> usize
-    requires { FilledFrom (domain_in rows.now) x.0 p.0 lists.now order.now (length part.old) }
-    ensures { (part.new ≡ filled_to (length part.old) (own_words_of_order (domain_in rows.now) x.0 p.0))
+    requires { FilledFrom (domain_in d.now.levels.attached.rows.now) x.0 p.0 order.now (length part.old) }
+    ensures { (part.new ≡ filled_to (length part.old) (own_words_of_order (domain_in d.now.levels.attached.rows.now) x.0 p.0))
         × ((result ≡ changed part.old part.new) × (result ≤ length part.old)) }
 {
-    let s = copy_lists(rows, lists, order, part);
+    let s = copy_lists(d, order, part);
     clear_from(part, s)
 }

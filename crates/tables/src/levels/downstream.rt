@@ -7,8 +7,9 @@ ghost use Rattle.files.specs.Domain.{phy_at};
 ghost use Rattle.files.specs.Rows.{domain_in};
 ghost use Rattle.tables.specs.levels.Levels.{downstream_of_phys};
 ghost use Rattle.tables.specs.lists.GrowingLists.{Grown, Added};
-ghost use Rattle.tables.specs.lists.PreparedLists.{AttachedExpandersKnown, downstream_once, DownstreamListsHeld, downstream_bytes, most_downstream};
+ghost use Rattle.tables.specs.lists.PreparedLists.{downstream_once, DownstreamListsHeld, downstream_bytes, most_downstream};
 
+use crate::levels::attached_rows::AttachedRows;
 use crate::levels::wide_links;
 use wiring::{ExpanderNumber, Phy, PhyId};
 
@@ -17,12 +18,10 @@ pub(crate) fn has_number(l: &[u8], j: ExpanderNumber) -> bool
     ensures { result ≡ is_in j.0 l.now }
 {
     let mut found = false;
-    let mut i: usize = 0;
-    while i < l.len() {
+    for i in 0..l.len() {
         if l[i] == j.0 {
             found = true;
         }
-        i += 1;
     }
     found
 }
@@ -45,65 +44,52 @@ fn add_number(part: &mut [u8], m: usize, j: ExpanderNumber) -> usize
 
 // Adds the expander attached to f, phy p of expander i, where the levels go on there.
 fn add_phy(
-    rows: &[u64],
-    first: &[u16],
+    d: &AttachedRows,
     i: ExpanderNumber,
     p: PhyId,
     f: Phy,
     part: &mut [u8],
     m: usize,
 ) -> usize
-    requires { AttachedExpandersKnown (domain_in rows.now) first.now × ((f ≡ phy_at (domain_in rows.now) i.0 p.0) × (m ≤ length part.old)) }
-    ensures { Added part.old part.new m result (downstream_of_phys (domain_in rows.now) (f ∷ [])) }
+    requires { (f ≡ phy_at (domain_in d.now.rows.now) i.0 p.0) × (m ≤ length part.old) }
+    ensures { Added part.old part.new m result (downstream_of_phys (domain_in d.now.rows.now) (f ∷ [])) }
 {
-    if !wide_links::is_down(rows, first, i, p, f) {
+    if !wide_links::is_down(d, i, p, f) {
         return m;
     }
-    add_number(part, m, wiring::attached_expander(rows, first, i, p))
+    add_number(part, m, wiring::attached_expander(d.rows, d.first, i, p))
 }
 
 // Writes the list of expander i, and yields its length. Of the phys of one link the lowest is enough.
-fn collect_downstream(
-    rows: &[u64],
-    first: &[u16],
-    low: &[u8],
-    i: ExpanderNumber,
-    part: &mut [u8],
-) -> usize
-    requires { AttachedExpandersKnown (domain_in rows.now) first.now × (length part.old ≡ most_downstream) }
-    ensures { Grown part.old part.new result (downstream_once (domain_in rows.now) i.0) }
+fn collect_downstream(d: &AttachedRows, i: ExpanderNumber, part: &mut [u8]) -> usize
+    requires { length part.old ≡ most_downstream }
+    ensures { Grown part.old part.new result (downstream_once (domain_in d.now.rows.now) i.0) }
 {
-    let n = wiring::phy_count(rows, i);
+    let n = wiring::phy_count(d.rows, i);
     let mut m: usize = 0;
-    let mut p: u8 = 0;
-    while p < n {
-        let f = wiring::phy_in_row(rows, i, PhyId(p));
-        let q = wide_links::lower_phy(rows, first, low, i, PhyId(p), f);
+    for p in 0..n {
+        let f = wiring::phy_in_row(d.rows, i, PhyId(p));
+        let q = wide_links::lower_phy(d, i, PhyId(p), f);
         if q.0 >= p {
-            m = add_phy(rows, first, i, PhyId(p), f, part, m);
+            m = add_phy(d, i, PhyId(p), f, part, m);
         }
-        p += 1;
     }
     m
 }
 
 // Writes the list of each expander.
-pub(crate) fn put_downstream(rows: &[u64], first: &[u16], low: &[u8], downstream: &mut [u8])
-    requires { AttachedExpandersKnown (domain_in rows.now) first.now × (downstream_bytes * length (domain_in rows.now) ≤ length downstream.old) }
-    ensures { DownstreamListsHeld (domain_in rows.now) downstream.new }
+pub(crate) fn put_downstream(d: &AttachedRows, downstream: &mut [u8])
+    requires { downstream_bytes * length (domain_in d.now.rows.now) ≤ length downstream.old }
+    ensures { DownstreamListsHeld (domain_in d.now.rows.now) downstream.new }
 {
-    let n = wiring::expander_count(rows);
-    let mut i: u8 = 0;
-    while i < n {
+    let n = wiring::expander_count(d.rows);
+    for i in 0..n {
         let a = crate::DOWNSTREAM_BYTES * (i as usize);
         let m = collect_downstream(
-            rows,
-            first,
-            low,
+            d,
             ExpanderNumber(i),
             &mut downstream[a + 1..a + crate::DOWNSTREAM_BYTES],
         );
         downstream[a] = m as u8;
-        i += 1;
     }
 }

@@ -7,9 +7,9 @@ ghost use Rattle.tables.specs.filling.Tables.{word};
 ghost use Rattle.tables.specs.lists.OwnLists.{own_words};
 ghost use Rattle.tables.specs.lists.GrowingLists.{Grown};
 ghost use Rattle.tables.specs.lists.PreparedLists.{OwnListsHeld, OwnListCounts, owns_by, own_list_words};
-ghost use Rattle.wiring.specs.index.AddressIndex.{IndexedLow};
 
-use wiring::{ExpanderNumber, Phy, PhyId};
+use crate::lists::counted_rows::CountedRows;
+use wiring::{ExpanderNumber, IndexedRows, Phy, PhyId};
 
 // Whether it is an attached phy that bears the address.
 pub fn phy_bears(s: u64, f: Phy) -> bool
@@ -46,7 +46,7 @@ fn is_own(low: &[u8], i: ExpanderNumber, p: PhyId, f: Phy) -> bool
     if wiring::phy_type(f) == 0 {
         return false;
     }
-    wiring::lowest_phy(low, i, p).0 == p.0
+    wiring::lowest_phy(low, i, p) == p
 }
 
 // Writes a phy's word after the first m of `part`, where it belongs to the own list (`mine`), and yields
@@ -63,39 +63,34 @@ pub(crate) fn put_word(part: &mut [u64], m: usize, mine: bool, f: Phy) -> usize
 }
 
 // Writes the own list of expander i, and yields its length: at most 128.
-fn collect_own(rows: &[u64], low: &[u8], i: ExpanderNumber, part: &mut [u64]) -> usize
-    requires { IndexedLow (domain_in rows.now) low.now × (128 ≤ length part.old) }
-    ensures { Grown part.old part.new result (own_words (domain_in rows.now) i.0) }
+fn collect_own(d: &IndexedRows, i: ExpanderNumber, part: &mut [u64]) -> usize
+    requires { 128 ≤ length part.old }
+    ensures { Grown part.old part.new result (own_words (domain_in d.now.rows.now) i.0) }
 {
-    let n = wiring::phy_count(rows, i);
+    let n = wiring::phy_count(d.rows, i);
     let mut m: usize = 0;
-    let mut p: u8 = 0;
-    while p < n {
-        let f = wiring::phy_in_row(rows, i, PhyId(p));
-        let mine = is_own(low, i, PhyId(p), f);
+    for p in 0..n {
+        let f = wiring::phy_in_row(d.rows, i, PhyId(p));
+        let mine = is_own(d.low, i, PhyId(p), f);
         m = put_word(part, m, mine, f);
-        p += 1;
     }
     m
 }
 
 // Writes the own lists of all expanders, each with its length before it, one every 129 words.
-pub(crate) fn put_owns(rows: &[u64], low: &[u8], words: &mut [u64])
-    requires { IndexedLow (domain_in rows.now) low.now × (own_list_words * length (domain_in rows.now) ≤ length words.old) }
-    ensures { OwnListsHeld (domain_in rows.now) words.new }
+pub(crate) fn put_owns(d: &IndexedRows, words: &mut [u64])
+    requires { own_list_words * length (domain_in d.now.rows.now) ≤ length words.old }
+    ensures { OwnListsHeld (domain_in d.now.rows.now) words.new }
 {
-    let n = wiring::expander_count(rows);
-    let mut i: u8 = 0;
-    while i < n {
+    let n = wiring::expander_count(d.rows);
+    for i in 0..n {
         let a = crate::OWN_LIST_WORDS * (i as usize);
         let m = collect_own(
-            rows,
-            low,
+            d,
             ExpanderNumber(i),
             &mut words[a + 1..a + crate::OWN_LIST_WORDS],
         );
         words[a] = m as u64;
-        i += 1;
     }
 }
 
@@ -111,44 +106,38 @@ fn counted(m: u8, mine: bool) -> u8
 }
 
 // The length of the own list of expander i, which is made as `collect_own` makes it.
-fn count_own(rows: &[u64], low: &[u8], i: ExpanderNumber) -> u8
-    requires { IndexedLow (domain_in rows.now) low.now }
-    ensures { result ≡ length (own_words (domain_in rows.now) i.0) }
+fn count_own(d: &IndexedRows, i: ExpanderNumber) -> u8
+    ensures { result ≡ length (own_words (domain_in d.now.rows.now) i.0) }
 {
-    let n = wiring::phy_count(rows, i);
+    let n = wiring::phy_count(d.rows, i);
     let mut m: u8 = 0;
-    let mut p: u8 = 0;
-    while p < n {
-        let f = wiring::phy_in_row(rows, i, PhyId(p));
-        let mine = is_own(low, i, PhyId(p), f);
+    for p in 0..n {
+        let f = wiring::phy_in_row(d.rows, i, PhyId(p));
+        let mine = is_own(d.low, i, PhyId(p), f);
         m = counted(m, mine);
-        p += 1;
     }
     m
 }
 
 // Writes the length of each expander's own list.
-pub(crate) fn put_counts(rows: &[u64], low: &[u8], counts: &mut [u8])
-    requires { IndexedLow (domain_in rows.now) low.now × (length (domain_in rows.now) ≤ length counts.old) }
-    ensures { OwnListCounts (domain_in rows.now) counts.new }
+pub(crate) fn put_counts(d: &IndexedRows, counts: &mut [u8])
+    requires { length (domain_in d.now.rows.now) ≤ length counts.old }
+    ensures { OwnListCounts (domain_in d.now.rows.now) counts.new }
 {
-    let n = wiring::expander_count(rows);
-    let mut i: u8 = 0;
-    while i < n {
-        counts[i as usize] = count_own(rows, low, ExpanderNumber(i));
-        i += 1;
+    let n = wiring::expander_count(d.rows);
+    for i in 0..n {
+        counts[i as usize] = count_own(d, ExpanderNumber(i));
     }
 }
 
 // How long expander i's own list is.
-pub(crate) fn own_count(rows: &[u64], counts: &[u8], i: ExpanderNumber) -> usize
-    requires { OwnListCounts (domain_in rows.now) counts.now }
-    ensures { (result ≡ length (own_words (domain_in rows.now) i.0)) × (result ≤ 128) }
+pub(crate) fn own_count(d: &CountedRows, i: ExpanderNumber) -> usize
+    ensures { (result ≡ length (own_words (domain_in d.now.levels.attached.rows.now) i.0)) × (result ≤ 128) }
 {
-    if i.0 >= wiring::expander_count(rows) {
+    if i.0 >= wiring::expander_count(d.levels.attached.rows) {
         return 0;
     }
-    counts[i.0 as usize] as usize
+    d.counts[i.0 as usize] as usize
 }
 
 // The length of expander i's own list; 0 where there is no such expander.

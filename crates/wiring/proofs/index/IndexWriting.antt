@@ -13,7 +13,7 @@ use borrow.Author.Tests.{lt-ltb, le-ltb, eq-eqb, ne_eqb}
 use Rattle.files.specs.declared.Phy.{Phy}
 use Rattle.files.specs.Domain.{Domain, expander_at, phy_at, type_of, address_of, attached, to_end, to_expander, number_of}
 use Rattle.wiring.specs.index.SearchTree.{WalkTo}
-use Rattle.wiring.specs.index.AddressIndex.{slots_before, slot_of, slot_phy, slot_address, listed_from, address_from, TreeFrom, LowestFrom, number_in, tells, LowestBelow, found, nobody, LowestDevice, LowestPhy, LowestDevices, Searchable, Addable, AddedTo, FirstsTo, LowsBefore, LowsTo, Indexed, most_slots, phy_tree_cells}
+use Rattle.wiring.specs.index.AddressIndex.{slots_before, slot_of, slot_phy, slot_address, listed_from, address_from, TreeFrom, LowestFrom, number_in, tells, LowestBelow, found, nobody, LowestDevice, LowestPhy, LowestDevices, Searchable, Addable, AddedTo, FirstsTo, LowsBefore, LowsTo, most_slots, phy_tree_cells}
 use Rattle.files.proofs.ListMembers.{eq→eqb}
 use Rattle.files.proofs.RowsAsDomain.{domain-few}
 use Rattle.files.specs.Rows.{domain_in}
@@ -375,12 +375,3 @@ module _ (ws : List ℕ) where
 
   pub no_lows : (low : List ℕ) → 128 * length d ≤ length low → LowsBefore d 0 low
   no_lows low h = record { phys = h; lows = λ k l. absurd (omega arith) }
-
-  pub all_indexed : (i size : ℕ) (cells first low : List ℕ) → length d ≤ i → i ≤ length d → FirstsTo d (slots_before i) size cells first → LowsBefore d i low
-      → Indexed d first low
-  all_indexed i size cells first low h l a b =
-      let e : i ≡ length d = omega arith in
-      record {
-        firsts = record { slots = a.slots; each = rw e at a.firsts };
-        lows = record { phys = b.phys; each = rw e at b.lows };
-      }

@@ -8,7 +8,6 @@ use native.Mathlib.Nat.{sub-zero}
 use native.Mathlib.Numerals.{add-one}
 use lib.ListN.{length, get_or, drop, drop_of_length-le}
 use Rattle.frames.specs.Refusals.{Result, refused, good, then, refusal}
-use Rattle.wiring.specs.declared.Check.{Check}
 use Rattle.files.specs.Lists.{any}
 use Rattle.files.specs.Domain.{Domain, no_expander, expander_at}
 use Rattle.wiring.specs.phys.PhyCauses.{Place, phy_places, places_from, first_in, first_of, wired_domain}
@@ -38,7 +37,7 @@ module _ {A : Type 0} (f : A → Bool) (e : A) (xs : List A) (p : ℕ) {v : Bool
   any-end h = sym (ap (any f) (drop_of_length-le xs h)) ∙ inv
 
 -- what a search answered, once its answer is known
-pub told : (d : Domain) {r a : Check} {v : Result Domain} → check_answer d r ≡ v → r ≡ a → v ≡ check_answer d a
+pub told : (d : Domain) {r a : Result Unit} {v : Result Domain} → check_answer d r ≡ v → r ≡ a → v ≡ check_answer d a
 told d e q = sym e ∙ ap (check_answer d) q
 
 module _ (k : ℕ) (test : ℕ → ℕ → Bool) (d : Domain) where
@@ -71,7 +70,7 @@ module _ (k : ℕ) (test : ℕ → ℕ → Bool) (d : Domain) where
 
   -- the phys of the expanders from i on
   module _ (i : ℕ) {v : Result Domain} (inv : first_in k test (places_from i (drop i d)) d ≡ v) where
-    pub from_next : {r a : Check} → check_answer d r ≡ first_in k test (phy_places i 0 (length (expander_at d i).phys)) d → r ≡ a → i < length d
+    pub from_next : {r a : Result Unit} → check_answer d r ≡ first_in k test (phy_places i 0 (length (expander_at d i).phys)) d → r ≡ a → i < length d
         → then (check_answer d a) (λ _. first_in k test (places_from (i + 1) (drop (i + 1) d)) d) ≡ v
     unfolding places_from
     from_next h q l =

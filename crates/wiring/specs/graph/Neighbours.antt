@@ -1,10 +1,8 @@
 -- Neighbours, and the wiring call: one 64-bit word for each expander.
 use Rattle.std.specs.Prelude.{ℕ, ◌+◌, ◌^◌, ◌≡◌, Bool, ◌||◌, ◌&&◌, List, [], ◌∷◌, map, length, eqb, leb}
 use Rattle.std.specs.Int.Count.{ones}
-use Rattle.frames.specs.Refusals.{Result, refused, good, unless, then, refusal, new_after}
+use Rattle.frames.specs.Refusals.{Result, good, unless, then, refusal, new_after}
 use Rattle.files.specs.declared.Setting.{Setting}
-use Rattle.wiring.specs.declared.Wiring.{Wiring}
-use Rattle.wiring.specs.declared.Wiring.TheVariants.{Refused, Bits}
 use Rattle.files.specs.Lists.{up_to, any, keep}
 use Rattle.files.specs.Domain.{Domain, expander_at, address_of, to_expander}
 use Rattle.wiring.specs.phys.PhyCauses.{wired}
@@ -43,15 +41,11 @@ words_for room d = unless (leb (length d) room) (refusal 16 0 0) (good (neighbou
 unfoldable pub wiring_call : Setting → List ℕ → ℕ → Result (List ℕ)
 wiring_call setting file room = then (wired setting file) (words_for room)
 
--- what the wiring call answers in document 01's terms: how many bits are set in all
-abbrev pub wiring_answer : Wiring → Result ℕ
-wiring_answer (Refused r) = refused r
-wiring_answer (Bits n) = good n
-
+-- what the wiring call answers: how many bits are set in all
 abbrev pub bits_set : List ℕ → Result ℕ
 bits_set ws = good (bits_in ws)
 
 -- all that a wiring call with this outcome promises: the answer, and the lent words after
-pub record WiringDone (outcome : Result (List ℕ)) (answer : Wiring) (before after : List ℕ) : Type 0 where
-  pub answers : wiring_answer answer ≡ then outcome bits_set
+pub record WiringDone (outcome : Result (List ℕ)) (answer : Result ℕ) (before after : List ℕ) : Type 0 where
+  pub answers : answer ≡ then outcome bits_set
   pub words : after ≡ new_after outcome before

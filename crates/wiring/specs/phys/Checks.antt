@@ -1,28 +1,26 @@
 -- Causes by number, the answers of checks, and tests of one phy.
-use Rattle.std.specs.Prelude.{ℕ, ◌*◌, ◌≤◌, ◌<◌, ◌≡◌, Bool, false, cond, ◌&&◌, List, length, eqb, leb}
+use Rattle.std.specs.Prelude.{ℕ, min, ◌*◌, ◌≤◌, ◌<◌, ◌≡◌, Bool, false, cond, ◌&&◌, List, length, eqb, leb}
 use Rattle.frames.specs.Refusals.{Result, refused, good, unless, refusal}
 use Rattle.files.specs.declared.Setting.{Setting}
-use Rattle.wiring.specs.declared.Check.{Check}
-use Rattle.wiring.specs.declared.Check.TheVariants.{Refused, Passed}
 use Rattle.files.specs.Domain.{Domain, expander_at}
 use Rattle.wiring.specs.phys.PhyCauses.{unanswered, claimed, clashing, fixed, phy_places, first_in, first_of}
 use Rattle.wiring.specs.graph.LinkCauses.{checked_domain}
-use Rattle.wiring.specs.index.AddressIndex.{slots_before, IndexRoom}
+use Rattle.wiring.specs.index.AddressIndex.{slots_before, most_slots, most_domain_phys, IndexRoom}
 use Rattle.files.specs.File.{domain_read}
-use Rattle.files.specs.Rows.{row_words}
-use Rattle.files.specs.Settings.{most_phys}
+use Rattle.files.specs.Rows.{row_words, most_row_words}
+use Rattle.files.specs.Settings.{most_phys, most_expanders}
 
 -- what the answer says in document 01's terms: the domain itself where it passed
-abbrev pub check_answer : Domain → Check → Result Domain
-check_answer d (Refused r) = refused r
-check_answer d Passed = good d
+abbrev pub check_answer : Domain → Result Unit → Result Domain
+check_answer d (refused r) = refused r
+check_answer d (good passed) = good d
 
 -- the answer of a search through the whole domain: number k, at the lowest phy at which the test holds
-abbrev pub FirstOfAll : Domain → Check → ℕ → (Domain → ℕ → ℕ → Bool) → Type 0
+abbrev pub FirstOfAll : Domain → Result Unit → ℕ → (Domain → ℕ → ℕ → Bool) → Type 0
 FirstOfAll d r k test = check_answer d r ≡ first_of k (test d) d
 
 -- through the phys of expander i
-abbrev pub FirstOfExpander : Domain → Check → ℕ → (Domain → ℕ → ℕ → Bool) → ℕ → Type 0
+abbrev pub FirstOfExpander : Domain → Result Unit → ℕ → (Domain → ℕ → ℕ → Bool) → ℕ → Type 0
 FirstOfExpander d r k test i = check_answer d r ≡ first_in k (test d) (phy_places i 0 (length (expander_at d i).phys)) d
 
 -- the causes that stand at one phy, by number
@@ -50,3 +48,10 @@ checked_in chain first low d = unless (leb (slots_before (length d)) first && le
 pub record FileRoom (setting : Setting) (file words first low : List ℕ) : Type 0 where
   pub rows : (d : Domain) → domain_read setting file ≡ good d → row_words * length d ≤ length words
   pub index : (d : Domain) → domain_read setting file ≡ good d → IndexRoom d first low
+
+-- room, no more than the most expanders need, for the rows of a file that states so many expanders, and for the entries of their slots and phys
+pub record RoomFor (stated words first low : ℕ) : Type 0 where
+  pub rows : row_words * min most_expanders stated ≤ words
+  pub slots : slots_before (min most_expanders stated) ≤ first
+  pub phys : most_phys * min most_expanders stated ≤ low
+  pub no_more : (words ≤ most_row_words) × ((first ≤ most_slots) × (low ≤ most_domain_phys))

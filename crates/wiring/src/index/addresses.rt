@@ -107,11 +107,9 @@ fn put_low(rows: &[u64], i: ExpanderNumber, low: &mut [u8])
 {
     let n = files::phy_count(rows, i);
     let mut cells = [0u16; PHY_TREE];
-    let mut p: u8 = 0;
-    while p < n {
+    for p in 0..n {
         let f = files::phy_in_row(rows, i, PhyId(p));
         add_low(rows, &mut cells[..], i, PhyId(p), f, low);
-        p += 1;
     }
 }
 
@@ -121,12 +119,10 @@ fn put_expanders(rows: &[u64], cells: &mut [u16], size: usize, first: &mut [u16]
     ensures { FirstsTo (domain_in rows.now) 64 size cells.new first.new × EntriesKeptBut (tells (domain_in rows.now)) first.old first.new }
 {
     let n = files::expander_count(rows);
-    let mut j: u8 = 0;
-    while j < n {
+    for j in 0..n {
         let t = j as usize;
         let s = files::expander_address(rows, ExpanderNumber(j));
         first[t] = add(rows, 0, cells, size, t, s) as u16;
-        j += 1;
     }
 }
 
@@ -174,11 +170,9 @@ fn put_first(rows: &[u64], cells: &mut [u16], size: usize, i: ExpanderNumber, fi
     ensures { FirstsTo (domain_in rows.now) (slots_before (i.0 + 1)) size cells.new first.new × EntriesKeptBut (tells (domain_in rows.now)) first.old first.new }
 {
     let n = files::phy_count(rows, i);
-    let mut p: u8 = 0;
-    while p < n {
+    for p in 0..n {
         let f = files::phy_in_row(rows, i, PhyId(p));
         add_first(rows, cells, size, i, PhyId(p), f, first);
-        p += 1;
     }
 }
 
@@ -189,11 +183,9 @@ fn put_all(rows: &[u64], cells: &mut [u16], size: usize, first: &mut [u16], low:
 {
     put_expanders(rows, cells, size, first);
     let n = files::expander_count(rows);
-    let mut i: u8 = 0;
-    while i < n {
+    for i in 0..n {
         put_first(rows, cells, size, ExpanderNumber(i), first);
         put_low(rows, ExpanderNumber(i), low);
-        i += 1;
     }
 }
 
@@ -267,12 +259,10 @@ pub fn number_of(rows: &[u64], s: u64) -> u8
     ensures { result ≡ number_of (domain_in rows.now) s }
 {
     let n = files::expander_count(rows);
-    let mut i: u8 = 0;
-    while i < n {
+    for i in 0..n {
         if files::expander_address(rows, ExpanderNumber(i)) == s {
             return i;
         }
-        i += 1;
     }
     n
 }

@@ -1,16 +1,16 @@
 // Causes 7 to 10 at one phy, the lowest phy at which one of them holds, and causes 7 to 10 in order.
 ghost use Rattle.std.specs.Prelude.{◌≡◌, ◌<◌, length};
 ghost use Rattle.files.specs.Domain.{expander_at};
-ghost use Rattle.wiring.specs.index.AddressIndex.{IndexedFirst, Indexed};
 ghost use Rattle.files.specs.Rows.{domain_in};
 ghost use Rattle.wiring.specs.phys.PhyCauses.{names, unanswered, claimed, fixed, wired_domain};
 ghost use Rattle.wiring.specs.phys.Checks.{check_answer, cause_of, first_at, Testable, FirstOfAll};
+ghost use Rattle.wiring.specs.phys.CauseNumbers.{phy_cause};
 
 use crate::index::addresses;
+use crate::index::indexed_rows::IndexedRows;
 use crate::phys::clashes;
-use crate::{Check, refusals};
 use files::Phy;
-use frames::{ExpanderNumber, PhyId};
+use frames::{ExpanderNumber, PhyId, Refusal};
 
 // Whether f names phy p of the expander with this address.
 fn is_naming(s: u64, p: PhyId, f: Phy) -> bool
@@ -22,36 +22,36 @@ fn is_naming(s: u64, p: PhyId, f: Phy) -> bool
     if files::phy_address(f) != s {
         return false;
     }
-    files::attached_phy(f).0 == p.0
+    files::attached_phy(f) == p
 }
 
 // Whether cause 7 holds: type 2 or 3 on a direct phy, or far end missing or not naming this phy back.
-fn is_unanswered(rows: &[u64], first: &[u16], i: ExpanderNumber, p: PhyId) -> bool
-    requires { IndexedFirst (domain_in rows.now) first.now × (p.0 < length (expander_at (domain_in rows.now) i.0).phys) }
-    ensures { result ≡ unanswered (domain_in rows.now) i.0 p.0 }
+fn is_unanswered(d: &IndexedRows, i: ExpanderNumber, p: PhyId) -> bool
+    requires { p.0 < length (expander_at (domain_in d.now.rows.now) i.0).phys }
+    ensures { result ≡ unanswered (domain_in d.now.rows.now) i.0 p.0 }
 {
-    let f = files::phy_in_row(rows, i, p);
+    let f = files::phy_in_row(d.rows, i, p);
     if files::phy_type(f) < 2 {
         return false;
     }
     if files::phy_attribute(f) == 0 {
         return true;
     }
-    let j = addresses::attached_expander(rows, first, i, p);
-    let g = files::phy_at(rows, j, files::attached_phy(f));
-    !is_naming(files::expander_address(rows, i), p, g)
+    let j = addresses::attached_expander(d.rows, d.first, i, p);
+    let g = files::phy_at(d.rows, j, files::attached_phy(f));
+    !is_naming(files::expander_address(d.rows, i), p, g)
 }
 
 // Whether cause 8 holds: type 1 bearing an expander's address, or that of an end device at an earlier expander.
-fn is_claimed(rows: &[u64], first: &[u16], i: ExpanderNumber, p: PhyId) -> bool
-    requires { IndexedFirst (domain_in rows.now) first.now × (p.0 < length (expander_at (domain_in rows.now) i.0).phys) }
-    ensures { result ≡ claimed (domain_in rows.now) i.0 p.0 }
+fn is_claimed(d: &IndexedRows, i: ExpanderNumber, p: PhyId) -> bool
+    requires { p.0 < length (expander_at (domain_in d.now.rows.now) i.0).phys }
+    ensures { result ≡ claimed (domain_in d.now.rows.now) i.0 p.0 }
 {
-    if files::phy_type(files::phy_in_row(rows, i, p)) != 1 {
+    if files::phy_type(files::phy_in_row(d.rows, i, p)) != 1 {
         return false;
     }
     let from = crate::EXPANDER_SLOTS + crate::PHY_SLOTS * (i.0 as usize);
-    (first[from + p.0 as usize] as usize) < from
+    (d.first[from + p.0 as usize] as usize) < from
 }
 
 // Whether cause 10 holds: non-vacant table phy, configurable bit 0.
@@ -65,83 +65,70 @@ fn is_fixed(rows: &[u64], i: ExpanderNumber, p: PhyId) -> bool
     files::configurable_bit(rows, i) == 0
 }
 
-// Whether cause k holds at phy p of expander i, where it does not hold at a lower phy of it.
-fn cause_holds(rows: &[u64], first: &[u16], low: &[u8], k: u8, i: ExpanderNumber, p: PhyId) -> bool
-    requires { Indexed (domain_in rows.now) first.now low.now × Testable k (domain_in rows.now) i.0 p.0 }
-    ensures { result ≡ cause_of k (domain_in rows.now) i.0 p.0 }
-{
-    if k == 7 {
-        return is_unanswered(rows, first, i, p);
-    }
-    if k == 8 {
-        return is_claimed(rows, first, i, p);
-    }
-    if k == 9 {
-        return clashes::is_clashing(rows, low, i, p);
-    }
-    if k == 10 {
-        return is_fixed(rows, i, p);
-    }
-    false
+// The causes that stand at one phy.
+#[derive(Clone, Copy)]
+pub(crate) enum PhyCause {
+    Unanswered,
+    Claimed,
+    Clashing,
+    Fixed,
 }
 
-// The lowest phy of expander i at which cause k holds.
-fn first_phy(rows: &[u64], first: &[u16], low: &[u8], k: u8, i: ExpanderNumber) -> Check
-    requires { Indexed (domain_in rows.now) first.now low.now }
-    ensures { check_answer (domain_in rows.now) result ≡ first_at k (domain_in rows.now) i.0 }
+// The number of a cause.
+fn number_of(cause: PhyCause) -> u8
+    ensures { result ≡ phy_cause cause }
 {
-    let n = files::phy_count(rows, i);
-    let mut p: u8 = 0;
-    while p < n {
-        if cause_holds(rows, first, low, k, i, PhyId(p)) {
-            return refusals::check_refused(k, i, PhyId(p));
-        }
-        p += 1;
+    match cause {
+        PhyCause::Unanswered => 7,
+        PhyCause::Claimed => 8,
+        PhyCause::Clashing => 9,
+        PhyCause::Fixed => 10,
     }
-    Check::Passed
 }
 
-// The lowest phy, by expander and then phy, at which cause k holds: 7 to 10.
-pub(crate) fn first_of(rows: &[u64], first: &[u16], low: &[u8], k: u8) -> Check
-    requires { Indexed (domain_in rows.now) first.now low.now }
-    ensures { FirstOfAll (domain_in rows.now) result k (cause_of k) }
+// Whether a cause holds at phy p of expander i, where it does not hold at a lower phy of it.
+fn cause_holds(d: &IndexedRows, cause: PhyCause, i: ExpanderNumber, p: PhyId) -> bool
+    requires { Testable (phy_cause cause) (domain_in d.now.rows.now) i.0 p.0 }
+    ensures { result ≡ cause_of (phy_cause cause) (domain_in d.now.rows.now) i.0 p.0 }
 {
-    let n = files::expander_count(rows);
-    let mut i: u8 = 0;
-    while i < n {
-        let f = first_phy(rows, first, low, k, ExpanderNumber(i));
-        match f {
-            Check::Refused(r) => {
-                return Check::Refused(r);
-            }
-            Check::Passed => {
-                i += 1;
-            }
+    match cause {
+        PhyCause::Unanswered => is_unanswered(d, i, p),
+        PhyCause::Claimed => is_claimed(d, i, p),
+        PhyCause::Clashing => clashes::is_clashing(d, i, p),
+        PhyCause::Fixed => is_fixed(d.rows, i, p),
+    }
+}
+
+// The lowest phy of expander i at which a cause holds.
+fn first_phy(d: &IndexedRows, cause: PhyCause, i: ExpanderNumber) -> Result<(), Refusal>
+    ensures { check_answer (domain_in d.now.rows.now) result ≡ first_at (phy_cause cause) (domain_in d.now.rows.now) i.0 }
+{
+    let n = files::phy_count(d.rows, i);
+    for p in 0..n {
+        if cause_holds(d, cause, i, PhyId(p)) {
+            return Err(frames::refusal_at(number_of(cause), i, PhyId(p)));
         }
     }
-    Check::Passed
+    Ok(())
+}
+
+// The lowest phy, by expander and then phy, at which a cause holds.
+pub(crate) fn first_of(d: &IndexedRows, cause: PhyCause) -> Result<(), Refusal>
+    ensures { FirstOfAll (domain_in d.now.rows.now) result (phy_cause cause) (cause_of (phy_cause cause)) }
+{
+    let n = files::expander_count(d.rows);
+    for i in 0..n {
+        first_phy(d, cause, ExpanderNumber(i))?;
+    }
+    Ok(())
 }
 
 // Causes 7 to 10 in order, each over all rows.
-pub(crate) fn check_wiring(rows: &[u64], first: &[u16], low: &[u8]) -> Check
-    requires { Indexed (domain_in rows.now) first.now low.now }
-    ensures { check_answer (domain_in rows.now) result ≡ wired_domain (domain_in rows.now) }
+pub(crate) fn check_wiring(d: &IndexedRows) -> Result<(), Refusal>
+    ensures { check_answer (domain_in d.now.rows.now) result ≡ wired_domain (domain_in d.now.rows.now) }
 {
-    let unanswered = first_of(rows, first, low, 7);
-    match unanswered {
-        Check::Refused(r) => Check::Refused(r),
-        Check::Passed => {
-            let claimed = first_of(rows, first, low, 8);
-            match claimed {
-                Check::Refused(r) => Check::Refused(r),
-                Check::Passed => {
-                    let clashing = first_of(rows, first, low, 9);
-                    match clashing {
-                        Check::Refused(r) => Check::Refused(r),
-                        Check::Passed => first_of(rows, first, low, 10),
-                    }
-                }
-            }
-        }
-    }
+    first_of(d, PhyCause::Unanswered)?;
+    first_of(d, PhyCause::Claimed)?;
+    first_of(d, PhyCause::Clashing)?;
+    first_of(d, PhyCause::Fixed)
 }

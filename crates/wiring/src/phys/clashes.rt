@@ -7,9 +7,9 @@ ghost use Rattle.files.specs.Rows.{domain_in};
 ghost use Rattle.wiring.specs.phys.PhyCauses.{clashing};
 ghost use Rattle.wiring.specs.phys.Checks.{Testable};
 ghost use Rattle.wiring.specs.phys.Clashes.{subtractive, leads_elsewhere};
-ghost use Rattle.wiring.specs.index.AddressIndex.{IndexedLow};
 
 use crate::index::addresses;
+use crate::index::indexed_rows::IndexedRows;
 use files::Phy;
 use frames::{ExpanderNumber, PhyId};
 
@@ -29,9 +29,7 @@ fn has_other_way(rows: &[u64], i: ExpanderNumber, p: PhyId, s: u64) -> bool
     requires { Testable 9 (domain_in rows.now) i.0 p.0 }
     ensures { result ≡ any (leads_elsewhere s) (take p.0 (expander_at (domain_in rows.now) i.0).phys) }
 {
-    let mut q = p.0;
-    while q > 0 {
-        q -= 1;
+    for q in (0..p.0).rev() {
         let f = files::phy_in_row(rows, i, PhyId(q));
         if is_subtractive(f) {
             return files::phy_address(f) != s;
@@ -42,21 +40,21 @@ fn has_other_way(rows: &[u64], i: ExpanderNumber, p: PhyId, s: u64) -> bool
 
 // Whether cause 9 holds at phy p of expander i, where it does not hold at a lower phy of it. `low` has the lowest phy with its
 // address.
-pub(crate) fn is_clashing(rows: &[u64], low: &[u8], i: ExpanderNumber, p: PhyId) -> bool
-    requires { IndexedLow (domain_in rows.now) low.now × Testable 9 (domain_in rows.now) i.0 p.0 }
-    ensures { result ≡ clashing (domain_in rows.now) i.0 p.0 }
+pub(crate) fn is_clashing(d: &IndexedRows, i: ExpanderNumber, p: PhyId) -> bool
+    requires { Testable 9 (domain_in d.now.rows.now) i.0 p.0 }
+    ensures { result ≡ clashing (domain_in d.now.rows.now) i.0 p.0 }
 {
-    let f = files::phy_in_row(rows, i, p);
+    let f = files::phy_in_row(d.rows, i, p);
     let a = files::phy_attribute(f);
     if files::phy_type(f) == 0 {
         return false;
     }
-    let q = addresses::lowest_phy(low, i, p);
-    if files::phy_attribute(files::phy_in_row(rows, i, q)) != a {
+    let q = addresses::lowest_phy(d.low, i, p);
+    if files::phy_attribute(files::phy_in_row(d.rows, i, q)) != a {
         return true;
     }
     if a != 1 {
         return false;
     }
-    has_other_way(rows, i, p, files::phy_address(f))
+    has_other_way(d.rows, i, p, files::phy_address(f))
 }

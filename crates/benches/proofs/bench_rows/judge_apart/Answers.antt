@@ -3,12 +3,12 @@ use native.Mathlib.Omega.{arith}
 use lib.ListN.{length}
 use Rattle.files.specs.Rows.{domain_in}
 use Rattle.benches.proofs.SameAddress.{apart-refused, apart-judged}
-use Rattle.wiring.specs.declared.Check.TheVariants.{Refused}
 use mathlib.Core.Path.{ap}
+use Rattle.frames.specs.Refusals.{refused}
 use Rattle.benches.proofs.bench_rows.judge_apart.Goals as goal
 
 pub returns-then-k-expander_count : goal.returns-then-k-expander_count
-returns-then-k-expander_count c = let a = c.args in apart-refused a.chain (length a.who.now) (length a.low.now) (domain_in a.rows.now) _ _ c.first_repeated-k.ensures (omega (arith, c.expander_count.ensures.0)) (ap Refused c.refusal_at.ensures)
+returns-then-k-expander_count c = let a = c.args in apart-refused a.chain (length a.who.now) (length a.low.now) (domain_in a.rows.now) _ _ c.first_repeated-k.ensures (omega (arith, c.expander_count.ensures.0)) (ap refused c.refusal_at.ensures)
 
 pub returns : goal.returns
 returns c =

@@ -18,11 +18,6 @@ overflow_add-e c =
     let at_pre = c.requires in
     let a = c.args in omega (arith, ready_few a.setting a.first.now a.n a.i.0 a.p.0 a.second.now a.m a.j.0 a.q.0 at_pre.0)
 
-pub slice_bounds-cable_rows-end : goal.slice_bounds-cable_rows-end
-slice_bounds-cable_rows-end c =
-    let at_pre = c.requires in
-    omega (arith, at_pre.1.words, c.read_both.auto.rows)
-
 pub slice_bounds-cable_rows-end-2 : goal.slice_bounds-cable_rows-end-2
 slice_bounds-cable_rows-end-2 c =
     let at_pre = c.requires in

@@ -21,6 +21,3 @@ pub returns-then-first-gt2 : goal.returns-then-first-gt2
 returns-then-first-gt2 t c =
     let a = c.args in
     rw (join-cut a.setting a.first.now a.i.0 a.p.0 a.second.now a.j.0 a.q.0 (length a.out.now) c.if-first-gt2.true (omega (arith, c.stated_count-n.ensures, c.if-n-gt64.true))) at c.join.ensures
-
-pub join_few-requires : goal.join_few-requires
-join_few-requires t c = omega (arith, c.stated_count-n.ensures, c.stated_count-m.ensures, c.if-n-m-le8.true)

@@ -1,6 +1,5 @@
-use Prim.Native.Nat.{◌-◌, ◌≤◌}
 use mathlib.Core.Path.{◌≡◌}
-use lib.ListN.{length, drop}
+use lib.ListN.{drop}
 use Rattle.files.specs.Lists.{any}
 use Rattle.files.specs.Domain.{expander_at}
 use Rattle.files.specs.Rows.{domain_in}
@@ -8,7 +7,4 @@ use Rattle.benches.specs.JoinCall.{upward}
 use Rattle.benches.proofs.free.has_upward.Given as goal
 
 abbrev pub invariant-loop-p : goal.invariant-loop-p
-invariant-loop-p l = (l.p ≤ l.n) × ((l.n ≡ length (expander_at (domain_in l.rows) l.i.0).phys) × ((l.n ≤ 128) × (any upward (drop l.p (expander_at (domain_in l.rows) l.i.0).phys) ≡ any upward (expander_at (domain_in l.rows) l.i.0).phys)))
-
-abbrev pub decreases-loop-p : goal.decreases-loop-p
-decreases-loop-p l = l.n - l.p
+invariant-loop-p l = any upward (drop l.p (expander_at (domain_in l.rows) l.i.0).phys) ≡ any upward (expander_at (domain_in l.rows) l.i.0).phys

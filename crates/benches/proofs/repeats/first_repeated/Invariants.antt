@@ -1,11 +1,8 @@
-use Prim.Native.Nat.{◌-◌, ◌≤◌}
+use Prim.Native.Nat.{◌-◌}
 use mathlib.Core.Path.{◌≡◌}
 use Rattle.files.specs.Rows.{domain_in}
 use Rattle.benches.specs.BenchRows.{repeated_from, repeated}
 use Rattle.benches.proofs.repeats.first_repeated.Given as goal
 
 abbrev pub invariant-loop-k : goal.invariant-loop-k
-invariant-loop-k l = (l.k ≤ l.n) × (repeated_from (domain_in l.rows) (l.n - l.k) l.k ≡ repeated (domain_in l.rows))
-
-abbrev pub decreases-loop-k : goal.decreases-loop-k
-decreases-loop-k l = l.n - l.k
+invariant-loop-k l = repeated_from (domain_in l.rows) (l.n - l.k) l.k ≡ repeated (domain_in l.rows)

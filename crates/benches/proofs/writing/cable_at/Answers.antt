@@ -1,5 +1,4 @@
 -- cable_at stores byte 12, byte 32 and the eight bytes of the address.
-use native.Mathlib.Omega.{arith}
 use Prim.Native.Nat.{ℕ, ◌+◌, ◌-◌}
 use mathlib.Core.Path.{◌≡◌, sym, ◌∙◌, ap, subst}
 use lib.ListN.{length, set, length-set}
@@ -8,18 +7,6 @@ use Rattle.benches.proofs.JoinedFileWritten.{cable_put}
 use Rattle.frames.specs.Bytes.{byte}
 use Rattle.benches.specs.Bytes.{typed_two, cabled_at}
 use Rattle.benches.proofs.writing.cable_at.Goals as goal
-
-pub bounds-out-at-3 : goal.bounds-out-at-3
-bounds-out-at-3 c = simp length-set (omega arith)
-
-pub slice_bounds-put_address-count : goal.slice_bounds-put_address-count
-slice_bounds-put_address-count c = simp length-set (omega arith)
-
-pub slice_bounds-put_address-start : goal.slice_bounds-put_address-start
-slice_bounds-put_address-start c = simp length-set (omega arith)
-
-pub slice_bounds-put_address-end : goal.slice_bounds-put_address-end
-slice_bounds-put_address-end c = simp length-set (omega arith)
 
 pub shape_of-out : goal.shape_of-out
 shape_of-out c =

@@ -3,60 +3,17 @@ use native.Mathlib.Omega.{arith}
 use Prim.Native.Nat.{ℕ, ◌+◌}
 use mathlib.Core.Path.{◌∙◌, ap}
 use mathlib.Core.List.{List}
-use lib.ListN.{length, get_or, drop, set, length-set, length-drop}
+use lib.ListN.{length, get_or, drop, set, length-drop}
 use lib.Seq.{paste}
 use Rattle.benches.proofs.JoinedFileWritten.{both-put}
 use Rattle.files.proofs.UnitReading.{rest-whole}
 use Rattle.benches.proofs.writing.put_both.Goals as goal
-
-pub bounds-first-1 : goal.bounds-first-1
-bounds-first-1 c = omega (arith, c.requires.0.0)
-
-pub bounds-second-1 : goal.bounds-second-1
-bounds-second-1 c = omega (arith, c.requires.0.1)
-
-pub overflow_add-n : goal.overflow_add-n
-overflow_add-n c = omega (arith, c.requires.1.1)
-
-pub copy-requires : goal.copy-requires
-copy-requires c =
-    let at_pre = c.requires in
-    omega (arith, at_pre.1.0)
-
-pub slice_bounds-copy-count : goal.slice_bounds-copy-count
-slice_bounds-copy-count c =
-    let at_pre = c.requires in
-    omega (arith, at_pre.0.1)
-
-pub slice_bounds-copy-start : goal.slice_bounds-copy-start
-slice_bounds-copy-start c =
-    let at_pre = c.requires in
-    omega (arith, at_pre.0.1)
-
-pub slice_bounds-copy-end : goal.slice_bounds-copy-end
-slice_bounds-copy-end c =
-    let at_pre = c.requires in
-    omega (arith, at_pre.0.1)
 
 pub copy-requires-2 : goal.copy-requires-2
 copy-requires-2 c =
     let at-args = c.args in
     let at_pre = c.requires in
     rw (rest-whole at-args.second.now 2) (omega (arith, length-drop 2 at-args.second.now, c.copy.auto.out, at_pre.1.0))
-
-pub bounds-out-0 : goal.bounds-out-0
-bounds-out-0 c =
-    let at_pre = c.requires in
-    omega (arith, c.copy-2.auto.out, c.copy.auto.out, at_pre.0.0, at_pre.1.0)
-
-pub bounds-out-1 : goal.bounds-out-1
-bounds-out-1 c =
-    let at_pre = c.requires in
-    simp length-set (omega (arith, c.copy-2.auto.out, c.copy.auto.out, at_pre.0.0, at_pre.1.0))
-
-pub shape_of-out : goal.shape_of-out
-shape_of-out c =
-    simp length-set (c.copy-2.auto.out ∙ c.copy.auto.out)
 
 pub returns : goal.returns
 returns c =

@@ -1,5 +1,4 @@
 -- put_joined writes both files, and then each end of the cable.
-use native.Mathlib.Omega.{arith}
 use Prim.Native.Nat.{ℕ, ◌+◌, ◌-◌}
 use mathlib.Core.Path.{◌∙◌, ap}
 use mathlib.Core.List.{List}
@@ -8,33 +7,6 @@ use Rattle.benches.proofs.JoinedFileWritten.{joined-put}
 use Rattle.frames.specs.Bytes.{number_at}
 use Rattle.benches.specs.Bytes.{cabled_at}
 use Rattle.benches.proofs.writing.put_joined.Goals as goal
-
-pub put_both-requires : goal.put_both-requires
-put_both-requires c = ((omega (arith, c.requires.0.0.within), omega (arith, c.requires.0.1.within)), c.requires.1)
-
-pub cable_at-requires : goal.cable_at-requires
-cable_at-requires c =
-    let at_pre = c.requires in
-    omega (arith, c.phy_offset.ensures, at_pre.0.0.within, c.put_both.auto.out, at_pre.1.0)
-
-pub overflow_sub-phy_offset : goal.overflow_sub-phy_offset
-overflow_sub-phy_offset c =
-    let at_pre = c.requires in
-    omega (arith, c.phy_offset-2.ensures, at_pre.0.1.after)
-
-pub overflow_add-first : goal.overflow_add-first
-overflow_add-first c =
-    let at_pre = c.requires in
-    omega (arith, c.phy_offset-2.ensures, at_pre.0.1.within, at_pre.1.0)
-
-pub cable_at-requires-2 : goal.cable_at-requires-2
-cable_at-requires-2 c =
-    let at_pre = c.requires in
-    omega (arith, c.phy_offset-2.ensures, at_pre.0.1.within, at_pre.0.1.after, c.cable_at.auto.out, c.put_both.auto.out, at_pre.1.0)
-
-pub shape_of-out : goal.shape_of-out
-shape_of-out c =
-    c.cable_at-2.auto.out ∙ c.cable_at.auto.out ∙ c.put_both.auto.out
 
 pub returns : goal.returns
 returns c =

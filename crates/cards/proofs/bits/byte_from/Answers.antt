@@ -3,12 +3,6 @@ use native.Mathlib.Omega.{arith}
 use Rattle.cards.proofs.BitPlaces.{byte-from}
 use Rattle.cards.proofs.bits.byte_from.Goals as goal
 
-pub overflow_mul-v : goal.overflow_mul-v
-overflow_mul-v c = omega (arith, c.byte_at.ensures)
-
-pub overflow_add-v : goal.overflow_add-v
-overflow_add-v c = omega (arith, c.byte_at.ensures, c.byte_at-2.ensures)
-
 pub returns : goal.returns
 returns c =
     let a = c.args in

@@ -1,10 +1,8 @@
 -- put_phys walks phy after phy; its loop's invariant: what was stored, found and counted, with the phys to come behind, is that of all of them.
-use Prim.Native.Nat.{◌+◌, ◌-◌}
-use mathlib.Core.Path.{◌≡◌, refl, sym, ◌∙◌, ap}
+use Prim.Native.Nat.{◌+◌}
+use mathlib.Core.Path.{sym, ◌∙◌, ap}
 use mathlib.Core.Bool.{cond, ◌&&◌}
 use native.Mathlib.Omega.{arith}
-use native.Mathlib.Nat.{zero-add}
-use lib.ListN.{length-set}
 use lib.Dec.{eqb}
 use Rattle.frames.specs.Bits.{bits_of}
 use Rattle.files.specs.declared.Phy.{Phy}
@@ -15,25 +13,14 @@ use Rattle.cards.specs.CardRead.{result_fine, phy_ranged}
 use Rattle.cards.proofs.RowPuts.{past_next, past-none, stored-go, stored-end, fine_go, fine_end, count-go, count-end}
 use Rattle.cards.proofs.card_rows.put_phys.Goals as goal
 
-pub loop-p-init : goal.loop-p-init
-loop-p-init c =
-    let e : c.args.n - 0 ≡ c.args.n = omega arith in
-    ((omega arith, (refl, (omega arith, omega arith))), (rw e, (rw e, (rw e, rw e (zero-add _)))))
-
-pub bounds-row-k-in-loop-p : goal.bounds-row-k-in-loop-p
-bounds-row-k-in-loop-p c = simp length-set (omega arith)
-
-pub overflow_add-next : goal.overflow_add-next
-overflow_add-next c = omega (arith, c.phy_size-next.ensures.1)
-
 pub loop-p-preserved : goal.loop-p-preserved
 loop-p-preserved c =
     let a = c.args in
     let g = c.phy_from-f.ensures in
     let s = c.phy_size-next.ensures.0 ∙ ap phy_size g in
     let q = c.count_ranged-ranged.ensures ∙ ap (λ (f : Phy). cond (eqb c.loop-p.ranged c.loop-p.p && phy_ranged f) (c.loop-p.ranged + 1) c.loop-p.ranged) g in
-    let r = count-go (bits_of a.card.now) a.n c.loop-p.p c.loop-p.next c.loop-p.ranged _ _ _ c.loop-p.invariant.0.1.1.1 c.loop-p.invariant.1.1.1.1 q s (omega arith) in (
-      (omega arith, (simp length-set c.loop-p.invariant.0.1.0, (omega (arith, c.phy_size-next.ensures.1), r.0))),
+    let r = count-go (bits_of a.card.now) a.n c.loop-p.p c.loop-p.next c.loop-p.ranged _ _ _ c.loop-p.invariant.0.1 c.loop-p.invariant.1.1.1.1 q s (omega arith) in (
+      (omega (arith, c.phy_size-next.ensures.1), r.0),
       (
         past_next (bits_of a.card.now) a.n c.loop-p.p c.loop-p.next _ (omega arith) s ∙ c.loop-p.invariant.1.0,
         (
@@ -42,9 +29,6 @@ loop-p-preserved c =
         ),
       ),
     )
-
-pub shape_of-row : goal.shape_of-row
-shape_of-row c = c.loop-p.invariant.0.1.0
 
 pub returns : goal.returns
 returns c =

@@ -1,7 +1,7 @@
 use Prim.Native.Nat.{◌+◌, ◌-◌, ◌*◌, ◌≤◌}
 use mathlib.Core.Path.{◌≡◌}
 use mathlib.Core.Bool.{cond, ◌&&◌}
-use lib.ListN.{length, drop}
+use lib.ListN.{drop}
 use lib.Seq.{sets}
 use lib.Dec.{eqb}
 use Rattle.frames.specs.Bits.{bits_of}
@@ -13,11 +13,8 @@ use Rattle.cards.proofs.card_rows.put_phys.Given as goal
 
 abbrev pub invariant-loop-p : goal.invariant-loop-p
 invariant-loop-p l =
-    ((l.p ≤ l.n) × ((length l.row ≡ length l.initial.row) × ((l.next ≤ l.at + most_phy_size * l.p) × (l.ranged ≤ l.p))))
-    × ((l.next + phys_size (phys_on (l.n - l.p) (drop l.next (bits_of l.card))) ≡ l.at + phys_size (phys_on l.n (drop l.at (bits_of l.card))))
-    × ((sets l.row (2 + 2 * l.p) (phy_words (phys_on (l.n - l.p) (drop l.next (bits_of l.card)))) ≡ sets l.initial.row 2 (phy_words (phys_on l.n (drop l.at (bits_of l.card)))))
-    × (((l.fine && results_fine (phys_on (l.n - l.p) (drop l.next (bits_of l.card)))) ≡ results_fine (phys_on l.n (drop l.at (bits_of l.card))))
-    × (cond (eqb l.ranged l.p) (l.p + ranged_count (phys_on (l.n - l.p) (drop l.next (bits_of l.card)))) l.ranged ≡ ranged_count (phys_on l.n (drop l.at (bits_of l.card)))))))
-
-abbrev pub decreases-loop-p : goal.decreases-loop-p
-decreases-loop-p l = l.n - l.p
+    ((l.next ≤ l.fn.at + most_phy_size * l.p) × (l.ranged ≤ l.p))
+    × ((l.next + phys_size (phys_on (l.fn.n - l.p) (drop l.next (bits_of l.card))) ≡ l.fn.at + phys_size (phys_on l.fn.n (drop l.fn.at (bits_of l.card))))
+    × ((sets l.row (2 + 2 * l.p) (phy_words (phys_on (l.fn.n - l.p) (drop l.next (bits_of l.card)))) ≡ sets l.initial.row 2 (phy_words (phys_on l.fn.n (drop l.fn.at (bits_of l.card)))))
+    × (((l.fine && results_fine (phys_on (l.fn.n - l.p) (drop l.next (bits_of l.card)))) ≡ results_fine (phys_on l.fn.n (drop l.fn.at (bits_of l.card))))
+    × (cond (eqb l.ranged l.p) (l.p + ranged_count (phys_on (l.fn.n - l.p) (drop l.next (bits_of l.card)))) l.ranged ≡ ranged_count (phys_on l.fn.n (drop l.fn.at (bits_of l.card)))))))

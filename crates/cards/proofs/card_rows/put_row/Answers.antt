@@ -1,26 +1,10 @@
 -- put_row clears the row, stores its two words and its phys.
 use Prim.Native.Nat.{ℕ}
 use mathlib.Core.Path.{refl, ◌∙◌, ap}
-use native.Mathlib.Omega.{arith}
-use lib.ListN.{replicate, length-set}
+use lib.ListN.{replicate}
 use Rattle.frames.specs.Bits.{bits_of}
 use Rattle.cards.proofs.RowPuts.{row_made}
 use Rattle.cards.proofs.card_rows.put_row.Goals as goal
-
-pub bounds-row-0 : goal.bounds-row-0
-bounds-row-0 c = omega (arith, c.clear.auto.row)
-
-pub bounds-row-1 : goal.bounds-row-1
-bounds-row-1 c = simp length-set (omega (arith, c.clear.auto.row))
-
-pub put_phys-requires : goal.put_phys-requires
-put_phys-requires c =
-    let at_pre = c.requires in
-    ((at_pre.1.1, omega arith), simp length-set (c.clear.auto.row ∙ at_pre.0.1))
-
-pub shape_of-row : goal.shape_of-row
-shape_of-row c =
-    c.put_phys.auto.row ∙ simp length-set c.clear.auto.row
 
 pub returns : goal.returns
 returns c =

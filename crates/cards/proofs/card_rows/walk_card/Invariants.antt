@@ -1,6 +1,5 @@
 use Prim.Native.Nat.{◌+◌, ◌-◌, ◌*◌, ◌≤◌}
-use mathlib.Core.Path.{◌≡◌}
-use lib.ListN.{length, drop}
+use lib.ListN.{drop}
 use Rattle.frames.specs.Bits.{bits_of}
 use Rattle.cards.specs.Card.{expanders_on, domain_on, head_size, most_phys_size}
 use Rattle.cards.proofs.RowPuts.{Walking}
@@ -8,8 +7,5 @@ use Rattle.cards.proofs.card_rows.walk_card.Given as goal
 
 abbrev pub invariant-loop-i : goal.invariant-loop-i
 invariant-loop-i l =
-    (((l.i ≤ l.n) × (length l.used ≡ 64)) × ((length l.rows ≡ length l.initial.rows) × (l.at ≤ 16 + (head_size + most_phys_size) * l.i)))
-    × Walking l.most l.initial.rows (domain_on (bits_of l.card)) l.i l.at l.rows l.used l.fine l.check (expanders_on (l.n - l.i) (drop l.at (bits_of l.card)))
-
-abbrev pub decreases-loop-i : goal.decreases-loop-i
-decreases-loop-i l = l.n - l.i
+    (l.at ≤ 16 + (head_size + most_phys_size) * l.i)
+    × Walking l.most l.initial.rows (domain_on (bits_of l.card)) l.i l.at l.rows l.used l.fine l.check (expanders_on (l.fn.n - l.i) (drop l.at (bits_of l.card)))

@@ -1,6 +1,6 @@
-use Prim.Native.Nat.{◌+◌, ◌-◌, ◌*◌, ◌≤◌}
+use Prim.Native.Nat.{◌+◌, ◌*◌, ◌≤◌}
 use mathlib.Core.Path.{◌≡◌}
-use lib.ListN.{length, drop}
+use lib.ListN.{drop}
 use lib.Seq.{sets}
 use Rattle.files.specs.Rows.{domain_in}
 use Rattle.frames.specs.Bits.{bits_of}
@@ -9,9 +9,5 @@ use Rattle.cards.proofs.card_writing.put_expanders.Given as goal
 
 abbrev pub invariant-loop-i : goal.invariant-loop-i
 invariant-loop-i l =
-    (l.i ≤ l.n) × ((l.n ≡ length (domain_in l.rows)) × ((l.n ≤ 64) × ((length l.card ≡ length l.initial.card) × ((l.at ≤ 16 + (head_size + most_phys_size) * l.i)
-    × ((l.at + expanders_size (drop l.i (domain_in l.rows)) ≡ card_size (domain_in l.rows))
-    × (sets (bits_of l.card) l.at (expanders_bits (drop l.i (domain_in l.rows))) ≡ sets (bits_of l.initial.card) 16 (expanders_bits (domain_in l.rows))))))))
-
-abbrev pub decreases-loop-i : goal.decreases-loop-i
-decreases-loop-i l = l.n - l.i
+    (l.at ≤ 16 + (head_size + most_phys_size) * l.i) × ((l.at + expanders_size (drop l.i (domain_in l.rows)) ≡ card_size (domain_in l.rows))
+    × (sets (bits_of l.card) l.at (expanders_bits (drop l.i (domain_in l.rows))) ≡ sets (bits_of l.initial.card) 16 (expanders_bits (domain_in l.rows))))

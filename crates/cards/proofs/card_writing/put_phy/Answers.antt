@@ -11,8 +11,3 @@ pub returns-in-Vacant : goal.returns-in-Vacant
 returns-in-Vacant c =
     let at-args = c.args in
     vacant-put c.in-Vacant.result at-args.at _ _ _ c.put_bits.ensures c.put_bits-in-Vacant.ensures ∙ ap (λ (φ : Phy). sets (bits_of at-args.card.now) at-args.at (phy_bits φ)) (sym c.in-Vacant.is)
-
-pub returns-in-Present : goal.returns-in-Present
-returns-in-Present c =
-    let at-args = c.args in
-    c.put_present.ensures ∙ ap (λ (φ : Phy). sets (bits_of at-args.card.now) at-args.at (phy_bits φ)) (sym c.in-Present.is)

@@ -1,6 +1,6 @@
-use Prim.Native.Nat.{◌+◌, ◌-◌, ◌*◌, ◌≤◌}
+use Prim.Native.Nat.{◌+◌, ◌*◌, ◌≤◌}
 use mathlib.Core.Path.{◌≡◌}
-use lib.ListN.{length, drop}
+use lib.ListN.{drop}
 use lib.Seq.{sets}
 use Rattle.files.specs.Domain.{expander_at}
 use Rattle.files.specs.Rows.{domain_in}
@@ -10,9 +10,5 @@ use Rattle.cards.proofs.card_writing.put_phys.Given as goal
 
 abbrev pub invariant-loop-p : goal.invariant-loop-p
 invariant-loop-p l =
-    (l.p ≤ l.n) × ((l.n ≡ length (expander_at (domain_in l.rows) l.i.0).phys) × ((l.n ≤ 128) × ((length l.card ≡ length l.initial.card) × ((l.next ≤ l.at + most_phy_size * l.p)
-    × ((l.next + phys_size (drop l.p (expander_at (domain_in l.rows) l.i.0).phys) ≡ l.at + phys_size (expander_at (domain_in l.rows) l.i.0).phys)
-    × (sets (bits_of l.card) l.next (phys_bits (drop l.p (expander_at (domain_in l.rows) l.i.0).phys)) ≡ sets (bits_of l.initial.card) l.at (phys_bits (expander_at (domain_in l.rows) l.i.0).phys)))))))
-
-abbrev pub decreases-loop-p : goal.decreases-loop-p
-decreases-loop-p l = l.n - l.p
+    (l.next ≤ l.fn.at + most_phy_size * l.p) × ((l.next + phys_size (drop l.p (expander_at (domain_in l.rows) l.i.0).phys) ≡ l.fn.at + phys_size (expander_at (domain_in l.rows) l.i.0).phys)
+    × (sets (bits_of l.card) l.next (phys_bits (drop l.p (expander_at (domain_in l.rows) l.i.0).phys)) ≡ sets (bits_of l.initial.card) l.fn.at (phys_bits (expander_at (domain_in l.rows) l.i.0).phys)))

@@ -1,4 +1,4 @@
-use Prim.Native.Nat.{◌+◌, ◌-◌, ◌*◌, ◌≤◌}
+use Prim.Native.Nat.{◌+◌, ◌*◌, ◌≤◌}
 use mathlib.Core.Path.{◌≡◌}
 use lib.ListN.{length, drop}
 use Rattle.files.specs.Rows.{domain_in}
@@ -7,8 +7,4 @@ use Rattle.cards.proofs.file_writing.file_size.Given as goal
 
 abbrev pub invariant-loop-i : goal.invariant-loop-i
 invariant-loop-i l =
-    (l.i ≤ l.n) × (((l.n ≡ length (domain_in l.rows)) × (l.n ≤ 64)) × ((l.size ≤ 2 + 6692 * l.i)
-    × (l.size + length (units_of (drop l.i (domain_in l.rows))) ≡ 2 + length (units_of (domain_in l.rows)))))
-
-abbrev pub decreases-loop-i : goal.decreases-loop-i
-decreases-loop-i l = l.n - l.i
+    (l.size ≤ 2 + 6692 * l.i) × (l.size + length (units_of (drop l.i (domain_in l.rows))) ≡ 2 + length (units_of (domain_in l.rows)))

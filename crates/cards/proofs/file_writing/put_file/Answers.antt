@@ -1,6 +1,5 @@
 -- put_file writes the header, then the units.
 use native.Mathlib.Omega.{arith}
-use mathlib.Core.Path.{◌∙◌}
 use lib.ListN.{length-set}
 use Rattle.files.specs.Rows.{domain_in}
 use Rattle.cards.proofs.FilePuts.{length-file, file-put}
@@ -14,9 +13,6 @@ bounds-file-1 c = simp length-set (omega (arith, length-file (domain_in c.args.r
 
 pub put_units-requires : goal.put_units-requires
 put_units-requires c = simp length-set (omega (arith, length-file (domain_in c.args.rows.now)))
-
-pub shape_of-file : goal.shape_of-file
-shape_of-file c = c.put_units.auto.file ∙ simp length-set
 
 pub returns : goal.returns
 returns c =

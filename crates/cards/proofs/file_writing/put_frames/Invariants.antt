@@ -1,6 +1,6 @@
-use Prim.Native.Nat.{◌+◌, ◌-◌, ◌*◌, ◌≤◌}
+use Prim.Native.Nat.{◌+◌, ◌*◌}
 use mathlib.Core.Path.{◌≡◌}
-use lib.ListN.{length, drop}
+use lib.ListN.{drop}
 use lib.Seq.{sets}
 use Rattle.frames.specs.Sizes.{short_size}
 use Rattle.frames.specs.declared.Response.TheVariants.{Discover as DiscoverResponse}
@@ -11,9 +11,5 @@ use Rattle.cards.proofs.file_writing.put_frames.Given as goal
 
 abbrev pub invariant-loop-p : goal.invariant-loop-p
 invariant-loop-p l =
-    (l.p ≤ l.n) × (((l.n ≡ length (expander_at (domain_in l.rows) l.i.0).phys) × (l.n ≤ 128)) × ((l.own_address ≡ (expander_at (domain_in l.rows) l.i.0).address) × ((length l.file ≡ length l.initial.file)
-    × (sets l.file (l.to + short_size DiscoverResponse * l.p) (phys_frames (expander_at (domain_in l.rows) l.i.0).address l.p (drop l.p (expander_at (domain_in l.rows) l.i.0).phys))
-    ≡ sets l.initial.file l.to (phys_frames (expander_at (domain_in l.rows) l.i.0).address 0 (expander_at (domain_in l.rows) l.i.0).phys)))))
-
-abbrev pub decreases-loop-p : goal.decreases-loop-p
-decreases-loop-p l = l.n - l.p
+    sets l.file (l.to + short_size DiscoverResponse * l.p) (phys_frames (expander_at (domain_in l.rows) l.i.0).address l.p (drop l.p (expander_at (domain_in l.rows) l.i.0).phys))
+    ≡ sets l.initial.file l.to (phys_frames (expander_at (domain_in l.rows) l.i.0).address 0 (expander_at (domain_in l.rows) l.i.0).phys)

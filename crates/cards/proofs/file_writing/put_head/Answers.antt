@@ -13,20 +13,6 @@ use Rattle.cards.proofs.FilePuts.{front-whole, head-put, general-same}
 use Rattle.cards.specs.FileOf.{head_bytes}
 use Rattle.cards.proofs.file_writing.put_head.Goals as goal
 
-pub slice_bounds-put_general-end : goal.slice_bounds-put_general-end
-slice_bounds-put_general-end c =
-    let a = c.args in
-    let t = a.to in
-    let l = same_len_mid t (t + 8 - t) a.file.now c.put_address.new.buf c.put_address.auto.buf in
-    omega arith
-
-pub shape_of-file : goal.shape_of-file
-shape_of-file c =
-    let a = c.args in
-    let t = a.to in
-    let s = put_mid t (t + 8 - t) a.file.now c.put_address.new.buf in
-    same_len_mid (t + 8) (t + head_bytes - (t + 8)) s c.put_general.new.frame c.put_general.auto.frame ∙ same_len_mid t (t + 8 - t) a.file.now c.put_address.new.buf c.put_address.auto.buf
-
 pub returns : goal.returns
 returns c =
     let at_pre = c.requires in
@@ -41,10 +27,3 @@ returns c =
     let f1 = c.put_address.ensures ∙ front-whole (bytes_of 8 x) (take (t + 8 - t) (drop t a.file.now)) (simp (length-take, length-drop) (omega (arith, length-bytes_of 8 x))) in
     let f2 = c.put_general.ensures in
     head-put e a.file.now s _ c.put_address.new.buf c.put_general.new.frame t (t + 8 - t) (t + head_bytes - (t + 8)) x gen at_pre.1 n c.expander_address.ensures g (omega arith) f1 refl (omega arith) f2 refl
-
-pub put_general-requires : goal.put_general-requires
-put_general-requires c =
-    let a = c.args in
-    let t = a.to in
-    let l = same_len_mid t (t + 8 - t) a.file.now c.put_address.new.buf c.put_address.auto.buf in
-    simp (length-take, length-drop) (omega arith)

@@ -1,18 +1,11 @@
 -- is_formed tests in the order of the definition.
 use mathlib.Core.Path.{sym, ◌∙◌}
-use native.Mathlib.Omega.{arith}
 use borrow.Author.Tests.{not-true, not-false}
 use Rattle.cards.proofs.CardPlaces.{formed-version, formed-zeros, formed-bad, formed-long, formed-fill}
 use Rattle.cards.proofs.reading.is_formed.Goals as goal
 
-pub bits_at-requires : goal.bits_at-requires
-bits_at-requires c = (omega arith, (omega arith, omega arith))
-
 pub returns-then-bits_at-ne2 : goal.returns-then-bits_at-ne2
 returns-then-bits_at-ne2 c = formed-version c.args.card.now (λ z. c.if-bits_at-ne2.true (c.bits_at.ensures.0 ∙ z))
-
-pub bits_at-requires-2 : goal.bits_at-requires-2
-bits_at-requires-2 c = (omega arith, (omega arith, omega arith))
 
 pub returns-then-bits_at-ne0 : goal.returns-then-bits_at-ne0
 returns-then-bits_at-ne0 c = formed-zeros c.args.card.now (sym c.bits_at.ensures.0 ∙ c.if-bits_at-ne2.false) (λ z. c.if-bits_at-ne0.true (c.bits_at-2.ensures.0 ∙ z))

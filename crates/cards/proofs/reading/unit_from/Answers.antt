@@ -4,15 +4,6 @@ use Rattle.frames.specs.Bits.{bits_of}
 use Rattle.cards.proofs.CardPlaces.{unit-from}
 use Rattle.cards.proofs.reading.unit_from.Goals as goal
 
-pub bits_at-route_indexes-requires : goal.bits_at-route_indexes-requires
-bits_at-route_indexes-requires c = (omega arith, (omega arith, omega arith))
-
-pub bits_at-configurable-requires : goal.bits_at-configurable-requires
-bits_at-configurable-requires c = (omega arith, (omega arith, omega arith))
-
-pub bits_at-requires : goal.bits_at-requires
-bits_at-requires c = (omega arith, (omega arith, omega arith))
-
 pub returns : goal.returns
 returns c =
     let a = c.args in

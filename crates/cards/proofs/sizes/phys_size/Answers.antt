@@ -9,16 +9,13 @@ use Rattle.cards.specs.Card.{phy_size}
 use Rattle.cards.proofs.CardPuts.{sizes-next, sizes-none}
 use Rattle.cards.proofs.sizes.phys_size.Goals as goal
 
-pub loop-p-init : goal.loop-p-init
-loop-p-init c = (omega arith, (c.phy_count-n.ensures.0, (c.phy_count-n.ensures.1, (omega arith, omega arith))))
-
 pub loop-p-preserved : goal.loop-p-preserved
 loop-p-preserved c =
     let at-args = c.args in
     let φs : List Phy = (expander_at (domain_in at-args.rows.now) at-args.i.0).phys in
     let e = sizes-next φs c.loop-p.p (omega arith) in
     let f : c.phy_size-sum.result ≡ phy_size (phy_at (domain_in at-args.rows.now) at-args.i.0 c.loop-p.p) = c.phy_size-sum.ensures.0 ∙ ap phy_size c.phy_at.ensures in
-    (omega arith, (c.loop-p.invariant.1.0, (c.loop-p.invariant.1.1.0, (omega arith, omega arith))))
+    (omega arith, omega arith)
 
 pub returns : goal.returns
 returns c =

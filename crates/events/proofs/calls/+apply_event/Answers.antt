@@ -5,12 +5,6 @@ use lib.Seq.{length-take-le}
 use Rattle.events.proofs.EventOutcomes.{header_done}
 use Rattle.events.proofs.calls.+apply_event.Goals as goal
 
-pub apply_few-requires : goal.apply_few-requires
-apply_few-requires t c = omega (arith, c.stated_count-n.ensures, c.if-n-le8.true)
-
-pub slice_bounds-apply_event-end : goal.slice_bounds-apply_event-end
-slice_bounds-apply_event-end t c = omega (arith, c.if-file-gt2.true)
-
 pub slice_bounds-apply_event-end-then-file-gt2 : goal.slice_bounds-apply_event-end-then-file-gt2
 slice_bounds-apply_event-end-then-file-gt2 t c =
     let at-args = c.args in

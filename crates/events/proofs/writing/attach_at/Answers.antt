@@ -1,14 +1,6 @@
 -- attach_at meets its contract: it stores byte 32 and the eight bytes of the address.
-use native.Mathlib.Omega.{arith}
-use lib.ListN.{length-set}
 use Rattle.events.proofs.PluggedAddress.{attach_length, attach_put}
 use Rattle.events.proofs.writing.attach_at.Goals as goal
-
-pub slice_bounds-put_address-count : goal.slice_bounds-put_address-count
-slice_bounds-put_address-count c = simp length-set (omega arith)
-
-pub slice_bounds-put_address-start : goal.slice_bounds-put_address-start
-slice_bounds-put_address-start c = simp length-set (omega arith)
 
 pub shape_of-file : goal.shape_of-file
 shape_of-file c =

@@ -19,11 +19,6 @@ returns-then-is_no_rig c = make-none c.args.a c.args.b c.args.list.now c.args.fi
 pub overflow_cast-list : goal.overflow_cast-list
 overflow_cast-list c = let a = c.args in let k = makable a.a a.b a.list.now (was_false (no_rig a.a a.b a.list.now) (sym c.is_no_rig.ensures ∙ c.if-is_no_rig.false)) in omega (arith, k.route_indexes)
 
-pub slice_bounds-put_rig-end-2 : goal.slice_bounds-put_rig-end-2
-slice_bounds-put_rig-end-2 c =
-    let at-args = c.args in
-    sym (length-take-le _ at-args.list.now (omega (arith, c.trimmed_count-t.ensures.0, trimmed-few at-args.list.now)))
-
 pub put_rig-requires : goal.put_rig-requires
 put_rig-requires c = let a = c.args in let k = makable a.a a.b a.list.now (was_false (no_rig a.a a.b a.list.now) (sym c.is_no_rig.ensures ∙ c.if-is_no_rig.false)) in let l = length-take-le c.trimmed_count-t.result a.list.now (omega (arith, c.trimmed_count-t.ensures.0, trimmed-few a.list.now)) in (length-replicate {A = ℕ} (2 * row_words) 0, omega (arith, k.phys, c.trimmed_count-t.ensures.0))
 

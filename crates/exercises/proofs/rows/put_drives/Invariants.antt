@@ -1,14 +1,11 @@
-use Prim.Native.Nat.{◌+◌, ◌-◌, ◌*◌, ◌≤◌}
+use Prim.Native.Nat.{◌+◌, ◌*◌}
 use mathlib.Core.Path.{◌≡◌}
 use mathlib.Core.List.{map}
-use lib.ListN.{length, drop}
+use lib.ListN.{drop}
 use lib.Seq.{sets}
 use Rattle.files.specs.Rows.{phy_words}
 use Rattle.exercises.specs.Rig.{drive}
 use Rattle.exercises.proofs.rows.put_drives.Given as goal
 
 abbrev pub invariant-loop-k : goal.invariant-loop-k
-invariant-loop-k l = (l.k ≤ length l.words) × ((length l.row ≡ length l.initial.row) × (sets l.row (4 + 2 * l.k) (phy_words (map drive (drop l.k l.words))) ≡ sets l.initial.row 4 (phy_words (map drive l.words))))
-
-abbrev pub decreases-loop-k : goal.decreases-loop-k
-decreases-loop-k l = length l.words - l.k
+invariant-loop-k l = sets l.row (4 + 2 * l.k) (phy_words (map drive (drop l.k l.words))) ≡ sets l.initial.row 4 (phy_words (map drive l.words))

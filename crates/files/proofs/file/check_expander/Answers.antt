@@ -1,22 +1,23 @@
 -- check_expander meets its contract: the expander's unit, and then its phys from where the unit ends.
-use mathlib.Core.Path.{sym, ◌∙◌, ap}
-use Rattle.files.specs.UnitAnswers.{expander_answer, phys_answer, expander_checked}
+use mathlib.Core.Path.{sym, ◌∙◌}
+use Rattle.frames.proofs.RefusalPassedOn.{passed-on}
+use Rattle.files.specs.UnitAnswers.{expander_checked}
 use Rattle.files.proofs.file.check_expander.Goals as goal
 
-pub returns-in-Refused : goal.returns-in-Refused
+pub returns-in_err-unit : goal.returns-in_err-unit
 unfolding expander_checked
-returns-in-Refused c = simp (sym c.expander_unit-unit.ensures ∙ ap expander_answer c.in-Refused.is)
+returns-in_err-unit c = simp (sym c.expander_unit.ensures ∙ c.in_err-unit.was, passed-on c.from_residual.result _ c.from_residual.ensures)
 
-pub returns-in-Refused-phys : goal.returns-in-Refused-phys
+pub returns-in_err-next : goal.returns-in_err-next
 unfolding expander_checked
-returns-in-Refused-phys c =
-    let e = sym c.expander_unit-unit.ensures ∙ ap expander_answer c.in-Read.is in
-    let p = sym c.check_phys-phys.ensures ∙ ap phys_answer c.in-Refused-phys.is in
-    simp (e, p)
+returns-in_err-next c =
+    let e = sym c.expander_unit.ensures ∙ c.in_ok-unit.was in
+    let p = sym c.check_phys.ensures ∙ c.in_err-next.was in
+    simp (e, p, passed-on c.from_residual-in_err-next.result _ c.from_residual-in_err-next.ensures)
 
-pub returns-in-Passed : goal.returns-in-Passed
+pub returns : goal.returns
 unfolding expander_checked
-returns-in-Passed c =
-    let e = sym c.expander_unit-unit.ensures ∙ ap expander_answer c.in-Read.is in
-    let p = sym c.check_phys-phys.ensures ∙ ap phys_answer c.in-Passed.is in
+returns c =
+    let e = sym c.expander_unit.ensures ∙ c.in_ok-unit.was in
+    let p = sym c.check_phys.ensures ∙ c.in_ok-next.was in
     simp (e, p)

@@ -1,4 +1,4 @@
-use Prim.Native.Nat.{◌-◌, ◌*◌, ◌≤◌}
+use Prim.Native.Nat.{◌-◌, ◌*◌}
 use mathlib.Core.Path.{◌≡◌}
 use lib.ListN.{length}
 use lib.Seq.{sets}
@@ -8,9 +8,5 @@ use Rattle.files.proofs.rows.fill_rows.Given as goal
 
 abbrev pub invariant-loop-i : goal.invariant-loop-i
 invariant-loop-i l =
-    (l.i ≤ l.n)
-    × ((length l.rows ≡ length l.initial.rows)
-    × (sets l.rows (row_words * l.i) (rows_of (domain_got l.most l.file (l.n - l.i) l.i l.at)) ≡ sets l.initial.rows 0 (rows_of (domain_got l.most l.file l.n 0 2))))
-
-abbrev pub decreases-loop-i : goal.decreases-loop-i
-decreases-loop-i l = l.n - l.i
+    (length l.rows ≡ length l.initial.rows)
+    × (sets l.rows (row_words * l.i) (rows_of (domain_got l.most l.file (l.n - l.i) l.i l.at)) ≡ sets l.initial.rows 0 (rows_of (domain_got l.most l.file l.n 0 2)))

@@ -10,7 +10,7 @@ use Rattle.files.specs.Rows.{phy_word}
 use Rattle.files.proofs.rows.put_phys.Goals as goal
 
 pub loop-p-init : goal.loop-p-init
-loop-p-init c = (omega arith, (refl, (simp sub-zero, simp sub-zero)))
+loop-p-init c = (refl, (simp sub-zero, simp sub-zero))
 
 pub bounds-row-k-in-loop-p : goal.bounds-row-k-in-loop-p
 bounds-row-k-in-loop-p c = simp length-set (omega arith)
@@ -20,14 +20,11 @@ loop-p-preserved c =
     let a = c.args in
     let g = c.phy_got-phy.ensures ∙ ap phy_got c.phy_unit-unit.ensures in
     let q = c.next_got-next.ensures ∙ ap (next_got c.loop-p.next) c.phy_unit-unit.ensures in (
-      omega arith,
+      simp length-set c.loop-p.invariant.0,
       (
-        simp length-set c.loop-p.invariant.1.0,
-        (
-          put_go a.file.now a.own_address a.i.0 a.n c.loop-p.p c.loop-p.next c.loop-p.row _ _ _ (c.phy_address.ensures ∙ ap address_of g)
-              (c.phy_word.ensures ∙ ap phy_word g) q (omega arith) ∙ c.loop-p.invariant.1.1.0,
-          next-go a.file.now a.own_address a.i.0 a.n c.loop-p.p c.loop-p.next _ q (omega arith) ∙ c.loop-p.invariant.1.1.1,
-        ),
+        put_go a.file.now a.own_address a.i.0 a.n c.loop-p.p c.loop-p.next c.loop-p.row _ _ _ (c.phy_address.ensures ∙ ap address_of g)
+            (c.phy_word.ensures ∙ ap phy_word g) q (omega arith) ∙ c.loop-p.invariant.1.0,
+        next-go a.file.now a.own_address a.i.0 a.n c.loop-p.p c.loop-p.next _ q (omega arith) ∙ c.loop-p.invariant.1.1,
       ),
     )
 
@@ -35,6 +32,6 @@ pub returns : goal.returns
 returns c =
     let a = c.args in
     record {
-      words = sym (put-end a.file.now a.own_address a.i.0 a.n c.loop-p.p c.loop-p.next c.loop-p.row (omega arith)) ∙ c.loop-p.invariant.1.1.0;
-      place = sym (next-end a.file.now a.own_address a.i.0 a.n c.loop-p.p c.loop-p.next (omega arith)) ∙ c.loop-p.invariant.1.1.1;
+      words = sym (put-end a.file.now a.own_address a.i.0 a.n c.loop-p.p c.loop-p.next c.loop-p.row (omega arith)) ∙ c.loop-p.invariant.1.0;
+      place = sym (next-end a.file.now a.own_address a.i.0 a.n c.loop-p.p c.loop-p.next (omega arith)) ∙ c.loop-p.invariant.1.1;
     }

@@ -1,4 +1,4 @@
-use Prim.Native.Nat.{◌+◌, ◌-◌, ◌*◌, ◌≤◌}
+use Prim.Native.Nat.{◌+◌, ◌-◌, ◌*◌}
 use mathlib.Core.Path.{◌≡◌}
 use lib.ListN.{length}
 use lib.Seq.{sets}
@@ -8,10 +8,6 @@ use Rattle.files.proofs.rows.put_phys.Given as goal
 
 abbrev pub invariant-loop-p : goal.invariant-loop-p
 invariant-loop-p l =
-    (l.p ≤ l.n)
-    × ((length l.row ≡ length l.initial.row)
+    (length l.row ≡ length l.initial.row)
     × ((sets l.row (2 + 2 * l.p) (phy_words (phys_got l.file l.own_address l.i.0 (l.n - l.p) l.p l.next).value) ≡ sets l.initial.row 2 (phy_words (phys_got l.file l.own_address l.i.0 l.n 0 l.at).value))
-    × ((phys_got l.file l.own_address l.i.0 (l.n - l.p) l.p l.next).next ≡ (phys_got l.file l.own_address l.i.0 l.n 0 l.at).next)))
-
-abbrev pub decreases-loop-p : goal.decreases-loop-p
-decreases-loop-p l = l.n - l.p
+    × ((phys_got l.file l.own_address l.i.0 (l.n - l.p) l.p l.next).next ≡ (phys_got l.file l.own_address l.i.0 l.n 0 l.at).next))

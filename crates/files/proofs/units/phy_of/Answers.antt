@@ -8,12 +8,12 @@ use Rattle.files.proofs.units.phy_of.Goals as goal
 
 pub returns-then-not-is_placed : goal.returns-then-not-is_placed
 returns-then-not-is_placed c =
-    simp (sym c.is_placed.ensures ∙ not-true _ c.if-not-is_placed.true-raw) c.phy_refused.ensures
+    simp (sym c.is_placed.ensures ∙ not-true _ c.if-not-is_placed.true-raw, c.refusal_at.ensures)
 
 pub returns-then-not-is_ranged : goal.returns-then-not-is_ranged
 returns-then-not-is_ranged c =
     let r = ap ranged (sym c.fields_of-phy.ensures) ∙ sym c.is_ranged.ensures ∙ not-true _ c.if-not-is_ranged.true-raw in
-    simp (sym c.is_placed.ensures ∙ not-false _ c.if-not-is_placed.false-raw, r) c.phy_refused-then-not-is_ranged.ensures
+    simp (sym c.is_placed.ensures ∙ not-false _ c.if-not-is_placed.false-raw, r, c.refusal_at-then-not-is_ranged.ensures)
 
 pub returns : goal.returns
 returns c =

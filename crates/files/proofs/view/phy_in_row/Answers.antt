@@ -1,4 +1,4 @@
--- phy_below meets its contract: it is made from the two words of phy p.
+-- phy_in_row meets its contract: it is made from the two words of phy p.
 use mathlib.Core.Path.{◌∙◌, ap₂}
 use Rattle.files.specs.Rows.{phy_in, phy_in_row}
 use Rattle.files.proofs.view.phy_in_row.Goals as goal

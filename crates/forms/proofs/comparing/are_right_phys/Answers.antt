@@ -1,5 +1,5 @@
 -- are_right_phys meets its contract: the comparison from here on is the whole comparison.
-use mathlib.Core.Path.{refl, sym, ◌∙◌, ap, subst}
+use mathlib.Core.Path.{sym, ◌∙◌, ap, subst}
 use Rattle.files.specs.Domain.{expander_at, address_of}
 use Rattle.files.specs.Rows.{domain_in}
 use Rattle.forms.specs.FormRows.{SmallPhy}
@@ -8,17 +8,10 @@ use Rattle.forms.proofs.WordsCompared.{rows-small, rights, phys-address, phys-fi
 use native.Mathlib.Omega.{arith}
 use Rattle.forms.proofs.comparing.are_right_phys.Goals as goal
 
-pub loop-p-init : goal.loop-p-init
-loop-p-init c = (omega arith, (omega arith, refl))
-
 pub returns-then-word_at-phy_address : goal.returns-then-word_at-phy_address
 returns-then-word_at-phy_address c =
     let at-args = c.args in
-    phys-address (domain_in at-args.rows.now) (expander_at (domain_in at-args.rows.now) at-args.i.0).phys c.loop-p.p c.loop-p.to at-args.ws.now c.loop-p.invariant.1.1 _ _ (omega (arith, c.phy_count-n.ensures.0)) c.word_at.ensures (c.phy_address.ensures ∙ ap address_of c.phy_at-f.ensures) c.if-word_at-phy_address.true
-
-pub overflow_add-to : goal.overflow_add-to
-overflow_add-to c =
-    omega (arith, c.phy_count-n.ensures.1)
+    phys-address (domain_in at-args.rows.now) (expander_at (domain_in at-args.rows.now) at-args.i.0).phys c.loop-p.p c.loop-p.to at-args.ws.now c.loop-p.invariant.1 _ _ (omega (arith, c.phy_count-n.ensures.0)) c.word_at.ensures (c.phy_address.ensures ∙ ap address_of c.phy_at-f.ensures) c.if-word_at-phy_address.true
 
 pub is_right_field-requires : goal.is_right_field-requires
 is_right_field-requires c =
@@ -28,16 +21,12 @@ is_right_field-requires c =
 pub returns-then-not-is_right_field : goal.returns-then-not-is_right_field
 returns-then-not-is_right_field c =
     let at-args = c.args in
-    phys-field (domain_in at-args.rows.now) (expander_at (domain_in at-args.rows.now) at-args.i.0).phys c.loop-p.p c.loop-p.to at-args.ws.now c.loop-p.invariant.1.1 _ _ (omega (arith, c.phy_count-n.ensures.0)) c.word_at.ensures (c.phy_address.ensures ∙ ap address_of c.phy_at-f.ensures) c.if-word_at-phy_address.false (rights _ _ _ _ _ _ c.phy_at-f.ensures c.word_at-in-loop-p.ensures c.is_right_field.ensures (not-true _ c.if-not-is_right_field.true-raw))
-
-pub overflow_add-to-in-loop-p : goal.overflow_add-to-in-loop-p
-overflow_add-to-in-loop-p c =
-    omega (arith, c.phy_count-n.ensures.1)
+    phys-field (domain_in at-args.rows.now) (expander_at (domain_in at-args.rows.now) at-args.i.0).phys c.loop-p.p c.loop-p.to at-args.ws.now c.loop-p.invariant.1 _ _ (omega (arith, c.phy_count-n.ensures.0)) c.word_at.ensures (c.phy_address.ensures ∙ ap address_of c.phy_at-f.ensures) c.if-word_at-phy_address.false (rights _ _ _ _ _ _ c.phy_at-f.ensures c.word_at-in-loop-p.ensures c.is_right_field.ensures (not-true _ c.if-not-is_right_field.true-raw))
 
 pub loop-p-preserved : goal.loop-p-preserved
 loop-p-preserved c =
     let at-args = c.args in
-    (omega arith, (omega arith, phys-go (domain_in at-args.rows.now) (expander_at (domain_in at-args.rows.now) at-args.i.0).phys c.loop-p.p c.loop-p.to at-args.ws.now c.loop-p.invariant.1.1 _ _ (omega (arith, c.phy_count-n.ensures.0)) c.word_at.ensures (c.phy_address.ensures ∙ ap address_of c.phy_at-f.ensures) c.if-word_at-phy_address.false (rights _ _ _ _ _ _ c.phy_at-f.ensures c.word_at-in-loop-p.ensures c.is_right_field.ensures (not-false _ c.if-not-is_right_field.false-raw))))
+    (omega arith, phys-go (domain_in at-args.rows.now) (expander_at (domain_in at-args.rows.now) at-args.i.0).phys c.loop-p.p c.loop-p.to at-args.ws.now c.loop-p.invariant.1 _ _ (omega (arith, c.phy_count-n.ensures.0)) c.word_at.ensures (c.phy_address.ensures ∙ ap address_of c.phy_at-f.ensures) c.if-word_at-phy_address.false (rights _ _ _ _ _ _ c.phy_at-f.ensures c.word_at-in-loop-p.ensures c.is_right_field.ensures (not-false _ c.if-not-is_right_field.false-raw)))
 
 pub returns : goal.returns
-returns c = phys-end (domain_in c.args.rows.now) _ c.loop-p.p c.loop-p.to c.args.ws.now c.loop-p.invariant.1.1 (omega (arith, c.phy_count-n.ensures.0))
+returns c = phys-end (domain_in c.args.rows.now) _ c.loop-p.p c.loop-p.to c.args.ws.now c.loop-p.invariant.1 (omega (arith, c.phy_count-n.ensures.0))

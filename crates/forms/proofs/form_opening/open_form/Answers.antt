@@ -5,14 +5,6 @@ use Rattle.forms.proofs.WordsCompared.{opens_no, opens_by}
 use native.Mathlib.Omega.{arith}
 use Rattle.forms.proofs.form_opening.open_form.Goals as goal
 
-pub read_rows-requires : goal.read_rows-requires
-read_rows-requires c = (c.requires.0.0, c.requires.1)
-
-pub slice_bounds-is_unread-end : goal.slice_bounds-is_unread-end
-slice_bounds-is_unread-end c =
-    let at_pre = c.requires in
-    omega (arith, c.read_rows.auto.rows, at_pre.1)
-
 pub slice_bounds-is_unread-end-2 : goal.slice_bounds-is_unread-end-2
 slice_bounds-is_unread-end-2 c =
     let at_pre = c.requires in
@@ -22,11 +14,6 @@ pub returns-then-is_unread : goal.returns-then-is_unread
 returns-then-is_unread c =
     let at-args = c.args in
     record { answers = opens_no at-args.most at-args.ws.now _ c.read_rows.ensures c.is_unread.ensures c.if-is_unread.true; holds = c.read_rows.ensures }
-
-pub slice_bounds-are_right-end : goal.slice_bounds-are_right-end
-slice_bounds-are_right-end c =
-    let at_pre = c.requires in
-    omega (arith, c.read_rows.auto.rows, at_pre.1)
 
 pub slice_bounds-are_right-end-2 : goal.slice_bounds-are_right-end-2
 slice_bounds-are_right-end-2 c =

@@ -5,9 +5,6 @@ use lib.Seq.{length-take-le}
 use Rattle.forms.proofs.TooManyWords.{list-cut}
 use Rattle.forms.proofs.list_calls.+form_list.Goals as goal
 
-pub list_few-requires : goal.list_few-requires
-list_few-requires t c = (c.count_expanders-n.ensures.0, omega (arith, c.if-n-le8.true))
-
 pub slice_bounds-form_list-end : goal.slice_bounds-form_list-end
 slice_bounds-form_list-end t c =
     let at-args = c.args in
@@ -23,6 +20,3 @@ pub returns-then-form-gt-ROWS_OF_64 : goal.returns-then-form-gt-ROWS_OF_64
 returns-then-form-gt-ROWS_OF_64 t c =
     let at-args = c.args in
     list-cut at-args.setting at-args.form.now c.if-form-gt-ROWS_OF_64.true _ _ _ _ _ _ _ _ c.form_list.ensures
-
-pub list_many-requires : goal.list_many-requires
-list_many-requires t c = c.count_expanders-n.ensures

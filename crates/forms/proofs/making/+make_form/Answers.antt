@@ -6,9 +6,6 @@ use Rattle.forms.specs.FormCalls.{form_call}
 use Rattle.tables.proofs.WiringLemmas.{header_cut}
 use Rattle.forms.proofs.making.+make_form.Goals as goal
 
-pub make_few-requires : goal.make_few-requires
-make_few-requires t c = omega (arith, c.stated_count-n.ensures, c.if-n-le8.true)
-
 pub slice_bounds-make_form-end : goal.slice_bounds-make_form-end
 slice_bounds-make_form-end t c =
     let at-args = c.args in

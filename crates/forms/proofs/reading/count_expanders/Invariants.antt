@@ -6,7 +6,4 @@ use Rattle.forms.specs.Form.{expanders_back, form_in}
 use Rattle.forms.proofs.reading.count_expanders.Given as goal
 
 abbrev pub invariant-loop-i : goal.invariant-loop-i
-invariant-loop-i l = (l.i ≤ 64) × ((l.at ≤ row_words * l.i) × (l.i + length (expanders_back (64 - l.i) (drop l.at l.ws)) ≡ length (form_in l.ws)))
-
-abbrev pub decreases-loop-i : goal.decreases-loop-i
-decreases-loop-i l = 64 - l.i
+invariant-loop-i l = (l.at ≤ row_words * l.i) × (l.i + length (expanders_back (64 - l.i) (drop l.at l.ws)) ≡ length (form_in l.ws))

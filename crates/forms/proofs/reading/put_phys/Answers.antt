@@ -6,15 +6,12 @@ use native.Mathlib.Omega.{arith}
 use Rattle.forms.proofs.reading.put_phys.Goals as goal
 
 pub loop-p-init : goal.loop-p-init
-loop-p-init c = (omega arith, (refl, put-start c.args.ws.now c.args.n c.args.from c.args.row.now))
-
-pub bounds-row-k-in-loop-p : goal.bounds-row-k-in-loop-p
-bounds-row-k-in-loop-p c = simp length-set (omega arith)
+loop-p-init c = (refl, put-start c.args.ws.now c.args.n c.args.from c.args.row.now)
 
 pub loop-p-preserved : goal.loop-p-preserved
 loop-p-preserved c =
     let at-args = c.args in
-    (omega arith, (simp length-set c.loop-p.invariant.1.0, put_go at-args.ws.now at-args.n c.loop-p.p at-args.from c.loop-p.row _ _ _ _ _ (omega arith) c.word_at-a.ensures c.word_at-v.ensures c.phy_back-f.ensures c.phy_address.ensures c.phy_word.ensures ∙ c.loop-p.invariant.1.1))
+    (simp length-set c.loop-p.invariant.0, put_go at-args.ws.now at-args.n c.loop-p.p at-args.from c.loop-p.row _ _ _ _ _ (omega arith) c.word_at-a.ensures c.word_at-v.ensures c.phy_back-f.ensures c.phy_address.ensures c.phy_word.ensures ∙ c.loop-p.invariant.1)
 
 pub returns : goal.returns
-returns c = put-end c.args.ws.now c.args.n c.loop-p.p c.args.from c.loop-p.row (omega arith) ∙ c.loop-p.invariant.1.1
+returns c = put-end c.args.ws.now c.args.n c.loop-p.p c.args.from c.loop-p.row (omega arith) ∙ c.loop-p.invariant.1

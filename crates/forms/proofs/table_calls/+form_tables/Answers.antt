@@ -5,9 +5,6 @@ use lib.Seq.{length-take-le}
 use Rattle.forms.proofs.TooManyWords.{tables-cut}
 use Rattle.forms.proofs.table_calls.+form_tables.Goals as goal
 
-pub tables_few-requires : goal.tables_few-requires
-tables_few-requires t c = (c.count_expanders-n.ensures.0, omega (arith, c.if-n-le8.true))
-
 pub slice_bounds-form_tables-end : goal.slice_bounds-form_tables-end
 slice_bounds-form_tables-end t c =
     let at-args = c.args in
@@ -23,6 +20,3 @@ pub returns-then-form-gt-ROWS_OF_64 : goal.returns-then-form-gt-ROWS_OF_64
 returns-then-form-gt-ROWS_OF_64 t c =
     let at-args = c.args in
     tables-cut at-args.setting at-args.form.now c.if-form-gt-ROWS_OF_64.true _ _ _ _ c.form_tables.ensures
-
-pub tables_many-requires : goal.tables_many-requires
-tables_many-requires t c = c.count_expanders-n.ensures

@@ -1,4 +1,3 @@
-use Prim.Native.Nat.{◌-◌, ◌≤◌}
 use mathlib.Core.Path.{◌≡◌}
 use lib.ListN.{drop}
 use Rattle.files.specs.Lists.{any}
@@ -8,7 +7,4 @@ use Rattle.forms.specs.FormCalls.{bad_phy}
 use Rattle.forms.proofs.testing.has_bad_phy.Given as goal
 
 abbrev pub invariant-loop-p : goal.invariant-loop-p
-invariant-loop-p l = (l.p ≤ l.n) × (any bad_phy (drop l.p (expander_at (domain_in l.rows) l.i.0).phys) ≡ any bad_phy (expander_at (domain_in l.rows) l.i.0).phys)
-
-abbrev pub decreases-loop-p : goal.decreases-loop-p
-decreases-loop-p l = l.n - l.p
+invariant-loop-p l = any bad_phy (drop l.p (expander_at (domain_in l.rows) l.i.0).phys) ≡ any bad_phy (expander_at (domain_in l.rows) l.i.0).phys

@@ -1,4 +1,4 @@
-use Prim.Native.Nat.{◌-◌, ◌≤◌}
+use Prim.Native.Nat.{◌-◌}
 use mathlib.Core.Path.{◌≡◌}
 use Rattle.files.specs.Lists.{any, numbers}
 use Rattle.files.specs.Rows.{domain_in}
@@ -6,7 +6,4 @@ use Rattle.forms.specs.FormCalls.{bad_unit}
 use Rattle.forms.proofs.testing.is_unread.Given as goal
 
 abbrev pub invariant-loop-i : goal.invariant-loop-i
-invariant-loop-i l = (l.i ≤ l.n) × (any (bad_unit l.most (domain_in l.rows)) (numbers l.i (l.n - l.i)) ≡ any (bad_unit l.most (domain_in l.rows)) (numbers 0 l.n))
-
-abbrev pub decreases-loop-i : goal.decreases-loop-i
-decreases-loop-i l = l.n - l.i
+invariant-loop-i l = any (bad_unit l.most (domain_in l.rows)) (numbers l.i (l.n - l.i)) ≡ any (bad_unit l.most (domain_in l.rows)) (numbers 0 l.n)

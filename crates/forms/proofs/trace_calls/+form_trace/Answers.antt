@@ -5,9 +5,6 @@ use lib.Seq.{length-take-le}
 use Rattle.forms.proofs.TooManyWords.{trace-cut}
 use Rattle.forms.proofs.trace_calls.+form_trace.Goals as goal
 
-pub trace_few-requires : goal.trace_few-requires
-trace_few-requires t c = (c.count_expanders-n.ensures.0, omega (arith, c.if-n-le8.true))
-
 pub slice_bounds-form_trace-end : goal.slice_bounds-form_trace-end
 slice_bounds-form_trace-end t c =
     let at-args = c.args in
@@ -23,6 +20,3 @@ pub returns-then-form-gt-ROWS_OF_64 : goal.returns-then-form-gt-ROWS_OF_64
 returns-then-form-gt-ROWS_OF_64 t c =
     let at-args = c.args in
     trace-cut at-args.setting at-args.form.now c.if-form-gt-ROWS_OF_64.true _ _ _ _ _ _ c.form_trace.ensures
-
-pub trace_many-requires : goal.trace_many-requires
-trace_many-requires t c = c.count_expanders-n.ensures

@@ -23,11 +23,6 @@ returns-then-not-open_form c =
     let at-args = c.args in
     trace-refused at-args.setting at-args.form.now _ _ (read_closed at-args.setting at-args.form.now (sym c.is_in_range.ensures ∙ not-false _ c.if-not-is_in_range.false-raw) (sym c.open_form.ensures.answers ∙ not-true _ c.if-not-open_form.true-raw)) c.refused-then-not-open_form.ensures _ _ _ _
 
-pub slice_bounds-request_rows-end : goal.slice_bounds-request_rows-end
-slice_bounds-request_rows-end c =
-    let at_pre = c.requires in
-    omega (arith, c.open_form.auto.rows, at_pre.space)
-
 pub slice_bounds-request_rows-end-2 : goal.slice_bounds-request_rows-end-2
 slice_bounds-request_rows-end-2 c =
     let at_pre = c.requires in
@@ -37,4 +32,4 @@ pub returns : goal.returns
 returns c =
     let at-args = c.args in
     let at_pre = c.requires in
-    trace-formed at-args.setting at-args.form.now _ c.open_form.ensures.holds at-args.first.now at-args.low.now at_pre.index (sym c.is_in_range.ensures ∙ not-false _ c.if-not-is_in_range.false-raw) (sym c.open_form.ensures.answers ∙ not-false _ c.if-not-open_form.false-raw) _ _ _ _ _ _ c.request_rows-answer.ensures.trace_done c.as_trace.ensures
+    trace-formed at-args.setting at-args.form.now _ c.open_form.ensures.holds at-args.first.now at-args.low.now at_pre.index (sym c.is_in_range.ensures ∙ not-false _ c.if-not-is_in_range.false-raw) (sym c.open_form.ensures.answers ∙ not-false _ c.if-not-open_form.false-raw) _ _ _ _ _ _ c.request_rows-answer.ensures.trace_done c.over_form.ensures

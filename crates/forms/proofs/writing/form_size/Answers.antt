@@ -7,19 +7,10 @@ use native.Mathlib.Omega.{arith}
 use Rattle.forms.proofs.writing.form_size.Goals as goal
 
 pub loop-i-init : goal.loop-i-init
-loop-i-init c = (omega arith, (omega arith, omega (arith, ap length (form-start (domain_in c.args.rows.now)))))
-
-pub overflow_mul-sum : goal.overflow_mul-sum
-overflow_mul-sum c = omega (arith, c.phy_count.ensures.1)
-
-pub overflow_add-sum : goal.overflow_add-sum
-overflow_add-sum c = omega (arith, c.phy_count.ensures.1)
-
-pub overflow_add-sum-in-loop-i : goal.overflow_add-sum-in-loop-i
-overflow_add-sum-in-loop-i c = omega (arith, c.phy_count.ensures.1, c.expander_count-n.ensures.1)
+loop-i-init c = (omega arith, omega (arith, ap length (form-start (domain_in c.args.rows.now))))
 
 pub loop-i-preserved : goal.loop-i-preserved
-loop-i-preserved c = (omega arith, (omega (arith, c.phy_count.ensures.1), omega (arith, c.phy_count.ensures.0, size-next (domain_in c.args.rows.now) (domain_in c.args.rows.now) c.loop-i.i (omega (arith, c.expander_count-n.ensures.0)))))
+loop-i-preserved c = (omega (arith, c.phy_count.ensures.1), omega (arith, c.phy_count.ensures.0, size-next (domain_in c.args.rows.now) (domain_in c.args.rows.now) c.loop-i.i (omega (arith, c.expander_count-n.ensures.0))))
 
 pub returns : goal.returns
 returns c = (omega (arith, size_none (domain_in c.args.rows.now) (domain_in c.args.rows.now) c.loop-i.i (omega (arith, c.expander_count-n.ensures.0))), omega (arith, c.expander_count-n.ensures.1))

@@ -9,7 +9,7 @@ use native.Mathlib.Omega.{arith}
 use Rattle.forms.proofs.writing.put_form.Goals as goal
 
 pub loop-i-init : goal.loop-i-init
-loop-i-init c = (omega arith, (refl, (omega (arith, ap length (form-start (domain_in c.args.rows.now))), ap (sets c.args.words.now 0) (form-start (domain_in c.args.rows.now)))))
+loop-i-init c = (refl, (omega (arith, ap length (form-start (domain_in c.args.rows.now))), ap (sets c.args.words.now 0) (form-start (domain_in c.args.rows.now))))
 
 pub offset_bounds-words-to : goal.offset_bounds-words-to
 offset_bounds-words-to c =
@@ -56,10 +56,10 @@ put_phys-to-requires c =
 pub loop-i-preserved : goal.loop-i-preserved
 loop-i-preserved c =
     let at-args = c.args in
-    let u = c.put_phys-to.ensures in (omega arith, (c.put_phys-to.auto.words ∙ simp length-set c.loop-i.invariant.1.0, (omega (arith, u.1, size-next (domain_in at-args.rows.now) (domain_in at-args.rows.now) c.loop-i.i (omega (arith, c.expander_count-n.ensures.0))), expanders-go (domain_in at-args.rows.now) (domain_in at-args.rows.now) c.loop-i.i c.loop-i.words _ c.loop-i.to _ _ _ (omega (arith, c.expander_count-n.ensures.0)) c.expander_address.ensures (head_of (domain_in at-args.rows.now) c.loop-i.i _ _ _ c.head_field.ensures c.route_indexes.ensures c.phy_count.ensures.0) u.0 u.1 ∙ c.loop-i.invariant.1.1.1)))
+    let u = c.put_phys-to.ensures in (c.put_phys-to.auto.words ∙ simp length-set c.loop-i.invariant.0, (omega (arith, u.1, size-next (domain_in at-args.rows.now) (domain_in at-args.rows.now) c.loop-i.i (omega (arith, c.expander_count-n.ensures.0))), expanders-go (domain_in at-args.rows.now) (domain_in at-args.rows.now) c.loop-i.i c.loop-i.words _ c.loop-i.to _ _ _ (omega (arith, c.expander_count-n.ensures.0)) c.expander_address.ensures (head_of (domain_in at-args.rows.now) c.loop-i.i _ _ _ c.head_field.ensures c.route_indexes.ensures c.phy_count.ensures.0) u.0 u.1 ∙ c.loop-i.invariant.1.1))
 
 pub returns : goal.returns
 returns c =
     let at-args = c.args in
     let at_pre = c.requires in
-    form-put (domain_in at-args.rows.now) at-args.words.now _ at_pre.1 (expanders-end (domain_in at-args.rows.now) (domain_in at-args.rows.now) c.loop-i.i c.loop-i.words c.loop-i.to (omega (arith, c.expander_count-n.ensures.0)) ∙ c.loop-i.invariant.1.1.1)
+    form-put (domain_in at-args.rows.now) at-args.words.now _ at_pre.1 (expanders-end (domain_in at-args.rows.now) (domain_in at-args.rows.now) c.loop-i.i c.loop-i.words c.loop-i.to (omega (arith, c.expander_count-n.ensures.0)) ∙ c.loop-i.invariant.1.1)

@@ -1,10 +1,6 @@
 -- bit_at divides bit k's byte by the bit's weight.
-use native.Mathlib.Omega.{arith}
 use Rattle.frames.proofs.PackedBits.{bit-read, bit-none}
 use Rattle.frames.proofs.bits.bit_at.Goals as goal
-
-pub nonzero_div-result : goal.nonzero_div-result
-nonzero_div-result c = omega (arith, c.weight-m.ensures)
 
 pub returns-then-j-s : goal.returns-then-j-s
 returns-then-j-s c = bit-read _ _ _ c.weight-m.ensures.0

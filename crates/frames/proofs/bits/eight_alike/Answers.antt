@@ -1,12 +1,9 @@
 -- eight_alike meets its contract; its loop's invariant: the bits still to come are all set, or all clear, exactly when the eight are.
 use Prim.Native.Nat.{◌+◌, ◌-◌}
-use mathlib.Core.Path.{◌≡◌, refl}
+use mathlib.Core.Path.{◌≡◌}
 use native.Mathlib.Omega.{arith}
 use Rattle.frames.proofs.DisableBits.{alike-go, alike-stop, alike_end}
 use Rattle.frames.proofs.bits.eight_alike.Goals as goal
-
-pub loop-k-init : goal.loop-k-init
-loop-k-init c = let e : c.args.at + 0 ≡ c.args.at = omega arith in (omega arith, rw e refl)
 
 pub returns-then-words-at : goal.returns-then-words-at
 returns-then-words-at c =

@@ -8,6 +8,3 @@ use Rattle.frames.proofs.bits.eight_alike.Given as goal
 
 abbrev pub invariant-loop-k : goal.invariant-loop-k
 invariant-loop-k l = (l.k ≤ 8) × (eqb (field (8 - l.k) (drop (l.at + l.k) (zero_bits l.words))) (cond l.zero (2 ^ (8 - l.k) - 1) 0) ≡ eqb (field 8 (drop l.at (zero_bits l.words))) (cond l.zero 255 0))
-
-abbrev pub decreases-loop-k : goal.decreases-loop-k
-decreases-loop-k l = 8 - l.k

@@ -17,9 +17,6 @@ loop-i-preserved c =
     let at-args = c.args in
     (omega arith, (c.loop-i.invariant.1.0, (simp length-set c.loop-i.invariant.1.1.0, mark-turn _ c.loop-i.bits (zero_bits at-args.words.now) c.loop-i.i _ _ (omega arith) c.loop-i.invariant.1.1.1 c.byte_of_eight.ensures)))
 
-pub shape_of-bits : goal.shape_of-bits
-shape_of-bits c = c.loop-i.invariant.1.1.0
-
 pub returns : goal.returns
 returns c =
     let at-args = c.args in

@@ -9,6 +9,3 @@ abbrev pub invariant-loop-i : goal.invariant-loop-i
 invariant-loop-i l =
     (l.i ≤ l.n) × ((l.n ≡ bytes_for (length l.words)) × ((length l.bits ≡ length l.initial.bits)
     × (sets l.bits l.i (packed_in (l.n - l.i) (drop (8 * l.i) (zero_bits l.words))) ≡ marked l.words l.initial.bits)))
-
-abbrev pub decreases-loop-i : goal.decreases-loop-i
-decreases-loop-i l = l.n - l.i

@@ -2,18 +2,8 @@
 use Prim.Native.Nat.{ℕ, ◌%◌, ◌<◌}
 use mathlib.Core.Path.{sym, subst}
 use native.Mathlib.Omega.{arith}
-use lib.Bits.{and_le_l}
-use Rattle.frames.proofs.SetBits.{bit_worth, with_is, with_bit_lt}
+use Rattle.frames.proofs.SetBits.{with_is, with_bit_lt}
 use Rattle.frames.proofs.bits.with_bit.Goals as goal
-
-pub overflow_sub-result : goal.overflow_sub-result
-overflow_sub-result c = and_le_l c.args.byte c.weight-m.result
-
-pub overflow_mul-result : goal.overflow_mul-result
-overflow_mul-result c = omega (arith, bit_worth c.weight-m.result (c.args.b % 2) (omega arith))
-
-pub overflow_add-result : goal.overflow_add-result
-overflow_add-result c = omega (arith, bit_worth c.weight-m.result (c.args.b % 2) (omega arith))
 
 pub overflow_cast-result : goal.overflow_cast-result
 overflow_cast-result c =

@@ -1,4 +1,4 @@
-use Prim.Native.Nat.{◌^◌, ◌≤◌, ◌<◌, ◌-◌}
+use Prim.Native.Nat.{◌^◌, ◌≤◌, ◌<◌}
 use mathlib.Core.Path.{◌≡◌}
 use lib.ListN.{drop}
 use Rattle.frames.specs.Bits.{field, zero_bits}
@@ -6,6 +6,3 @@ use Rattle.frames.proofs.bits.zero_byte.Given as goal
 
 abbrev pub invariant-loop-k : goal.invariant-loop-k
 invariant-loop-k l = (l.k ≤ 8) × ((l.x ≡ field l.k (drop l.at (zero_bits l.words))) × (l.x < 2 ^ l.k))
-
-abbrev pub decreases-loop-k : goal.decreases-loop-k
-decreases-loop-k l = 8 - l.k

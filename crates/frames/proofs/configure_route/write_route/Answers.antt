@@ -8,19 +8,15 @@ use Rattle.frames.specs.Bytes.{bytes_of}
 use Rattle.frames.specs.ConfigureRoute.{route_frame, write_answer, buffer_after, part_after}
 use Rattle.frames.proofs.configure_route.write_route.Goals as goal
 
-pub slice_bounds-result-end-in-Written : goal.slice_bounds-result-end-in-Written
-slice_bounds-result-end-in-Written c =
-    let e = sym c.put_route-answer.ensures.0 ∙ ap (write_answer _) c.in-Written.is in
+pub slice_bounds-result-end-in-Ok : goal.slice_bounds-result-end-in-Ok
+slice_bounds-result-end-in-Ok c =
+    let e = sym c.put_route-answer.ensures.0 ∙ ap (write_answer _) c.in-Ok.is in
     let k = c.put_route-answer.auto.buf in
     let h = (fits _ _ _ e).bytes in
     sym (length-take-le 40 c.put_route-answer.new.buf (omega arith))
 
-pub returns-in-Refused : goal.returns-in-Refused
-returns-in-Refused c =
-    (sym (ap part_after (sym c.put_route-answer.ensures.0 ∙ ap (write_answer _) c.in-Refused.is)), refl)
-
-pub returns-in-Written : goal.returns-in-Written
+pub returns-in-Ok : goal.returns-in-Ok
 unfolding route_frame bytes_of
-returns-in-Written c =
-    let e = sym c.put_route-answer.ensures.0 ∙ ap (write_answer _) c.in-Written.is in
-    (ap (take 40) (c.put_route-answer.ensures.1 ∙ ap (buffer_after _) e) ∙ sym (ap part_after e), refl)
+returns-in-Ok c =
+    let e = sym c.put_route-answer.ensures.0 ∙ ap (write_answer _) c.in-Ok.is in
+    (ap (take 40) (c.put_route-answer.ensures.1 ∙ ap (buffer_after c.args.buf.now) e) ∙ sym (ap part_after e), refl)

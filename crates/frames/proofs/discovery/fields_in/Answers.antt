@@ -1,11 +1,8 @@
 -- fields_in yields the fields of the definitions: type and attribute, which are decoded by cases, by decoded-by_cases.
 use mathlib.Core.Path.{◌∙◌}
-use borrow.Author.Tests.{eq-eqb, ne_eqb}
+use borrow.Author.Tests.{eq-eqb}
 use Rattle.frames.proofs.Decoding.{decoded-by_cases}
 use Rattle.frames.proofs.discovery.fields_in.Goals as goal
-
-pub returns-then-result-ne0 : goal.returns-then-result-ne0
-returns-then-result-ne0 c = simp (ne_eqb _ _ c.if-result-ne0.true)
 
 pub returns : goal.returns
 returns c =

@@ -1,41 +1,41 @@
 -- read_discover is the definition's chain of tests in its order: the size by the first four bytes, the length, the other fixed bytes; then the fields.
-use mathlib.Core.Path.{sym, ◌∙◌, ap}
+use mathlib.Core.Path.{sym, ◌∙◌}
 use native.Mathlib.Omega.{arith}
 use borrow.Author.Tests.{eq-eqb, ne_eqb, not-true, not-false}
-use Rattle.frames.specs.Sizes.{size_answer}
 use Rattle.frames.specs.declared.Response.TheVariants.{Discover}
+use Rattle.frames.proofs.RefusalPassedOn.{passed-on}
 use Rattle.frames.proofs.LongFrames.{size-least}
 use Rattle.frames.specs.Discovery.{discover_read}
 use Rattle.frames.proofs.discovery.read_discover.Goals as goal
 
-pub returns-then-frame-n : goal.returns-then-frame-n
+pub returns-then-frame-size : goal.returns-then-frame-size
 unfolding discover_read
-returns-then-frame-n c =
-    let e = sym c.frame_size-size.ensures ∙ ap size_answer c.in-Size.is in
-    simp (e, ne_eqb _ _ c.if-frame-n.true, c.refused.ensures)
+returns-then-frame-size c =
+    let e = sym c.frame_size.ensures ∙ c.in_ok-size.was in
+    simp (e, ne_eqb _ _ c.if-frame-size.true, c.refused.ensures)
 
 pub is_fixed-requires : goal.is_fixed-requires
 is_fixed-requires c =
-    let h = size-least Discover _ _ (sym c.frame_size-size.ensures ∙ ap size_answer c.in-Size.is) in
+    let h = size-least Discover _ _ (sym c.frame_size.ensures ∙ c.in_ok-size.was) in
     omega arith
 
 pub returns-then-not-is_fixed : goal.returns-then-not-is_fixed
 unfolding discover_read
 returns-then-not-is_fixed c =
-    let e = sym c.frame_size-size.ensures ∙ ap size_answer c.in-Size.is in
-    simp (e, eq-eqb _ _ c.if-frame-n.false, sym c.is_fixed.ensures ∙ not-true _ c.if-not-is_fixed.true-raw, c.refused-then-not-is_fixed.ensures)
+    let e = sym c.frame_size.ensures ∙ c.in_ok-size.was in
+    simp (e, eq-eqb _ _ c.if-frame-size.false, sym c.is_fixed.ensures ∙ not-true _ c.if-not-is_fixed.true-raw, c.refused-then-not-is_fixed.ensures)
 
 pub fields_in-requires : goal.fields_in-requires
 fields_in-requires c =
-    let h = size-least Discover _ _ (sym c.frame_size-size.ensures ∙ ap size_answer c.in-Size.is) in
+    let h = size-least Discover _ _ (sym c.frame_size.ensures ∙ c.in_ok-size.was) in
     omega arith
 
-pub returns-in-Refused : goal.returns-in-Refused
+pub returns-in_err-size : goal.returns-in_err-size
 unfolding discover_read
-returns-in-Refused c = simp (sym c.frame_size-size.ensures ∙ ap size_answer c.in-Refused.is)
+returns-in_err-size c = simp (sym c.frame_size.ensures ∙ c.in_err-size.was, passed-on c.from_residual.result _ c.from_residual.ensures)
 
-pub returns-else-not-is_fixed : goal.returns-else-not-is_fixed
+pub returns : goal.returns
 unfolding discover_read
-returns-else-not-is_fixed c =
-    let e = sym c.frame_size-size.ensures ∙ ap size_answer c.in-Size.is in
-    simp (e, eq-eqb _ _ c.if-frame-n.false, sym c.is_fixed.ensures ∙ not-false _ c.if-not-is_fixed.false-raw) c.fields_in.ensures
+returns c =
+    let e = sym c.frame_size.ensures ∙ c.in_ok-size.was in
+    simp (e, eq-eqb _ _ c.if-frame-size.false, sym c.is_fixed.ensures ∙ not-false _ c.if-not-is_fixed.false-raw, c.fields_in.ensures)

@@ -16,9 +16,6 @@ use Rattle.listing.proofs.lines.put_chunk.Goals as goal
 pub loop-at-init : goal.loop-at-init
 loop-at-init c = (omega arith, (c.expander_count-n.ensures.0, putting_start _))
 
-pub next_place-at-requires : goal.next_place-at-requires
-next_place-at-requires c = omega (arith, c.loop-at.invariant.1.0)
-
 pub loop-at-smaller-then-at-entry_count : goal.loop-at-smaller-then-at-entry_count
 loop-at-smaller-then-at-entry_count c =
     let at-args = c.args in

@@ -6,7 +6,4 @@ use Rattle.frames.specs.declared.Response.TheVariants.{Discover}
 use Rattle.offsets.proofs.places.phys_after.Given as goal
 
 abbrev pub invariant-loop-p : goal.invariant-loop-p
-invariant-loop-p l = (l.p ≤ l.n) × ((phys_after l.file (l.n - l.p) l.next ≡ phys_after l.file l.n l.at) × (l.next ≤ l.at + long_size Discover * l.p))
-
-abbrev pub decreases-loop-p : goal.decreases-loop-p
-decreases-loop-p l = l.n - l.p
+invariant-loop-p l = (phys_after l.file (l.fn.n - l.p) l.next ≡ phys_after l.file l.fn.n l.fn.at) × (l.next ≤ l.fn.at + long_size Discover * l.p)

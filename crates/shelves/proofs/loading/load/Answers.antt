@@ -4,15 +4,15 @@ use mathlib.Core.Path.{sym, ◌∙◌, ap}
 use native.Mathlib.Omega.{arith}
 use Rattle.shelves.specs.Shelf.{stepped_to, kind_in, loaded}
 use Rattle.shelves.specs.declared.Shelf.{Shelf}
-use Rattle.shelves.specs.declared.Answer.TheVariants.{Result as Answered}
 use Rattle.shelves.proofs.FrameResults.{exists, after-good, after-other}
+use Rattle.frames.specs.Refusals.{good}
 use Rattle.shelves.proofs.loading.load.Goals as goal
 
 pub returns-then-result-ne0 : goal.returns-then-result-ne0
 returns-then-result-ne0 c =
     let a = c.args in
     let r = c.result_of-result.ensures in
-    c.stepped_to.ensures ∙ (ap (λ (n : ℕ). stepped_to a.shelf (Answered n)) r ∙ sym (after-other a.shelf a.q (λ z. c.if-result-ne0.true (r ∙ z))))
+    c.stepped_to.ensures ∙ (ap (λ (n : ℕ). stepped_to a.shelf (good n)) r ∙ sym (after-other a.shelf a.q (λ z. c.if-result-ne0.true (r ∙ z))))
 
 pub replace-requires : goal.replace-requires
 replace-requires c =
@@ -26,5 +26,5 @@ pub returns : goal.returns
 returns c =
     let a = c.args in
     let r = c.result_of-result.ensures in
-    c.stepped_to-2.ensures ∙ (ap (λ (s : Shelf). stepped_to s (Answered c.result_of-result.result)) c.replace.ensures
-    ∙ (ap (λ (n : ℕ). stepped_to (loaded a.shelf a.q) (Answered n)) r ∙ sym (after-good a.shelf a.q (sym r ∙ c.if-result-ne0.false))))
+    c.stepped_to-2.ensures ∙ (ap (λ (s : Shelf). stepped_to s (good c.result_of-result.result)) c.replace.ensures
+    ∙ (ap (λ (n : ℕ). stepped_to (loaded a.shelf a.q) (good n)) r ∙ sym (after-good a.shelf a.q (sym r ∙ c.if-result-ne0.false))))

@@ -1,23 +1,7 @@
 -- survey_file: a file that states more than 64 expanders reads as its first two bytes do, and each room is chosen for so many expanders. The measure is the number of bytes.
-use mathlib.Core.Path.{sym}
 use native.Mathlib.Omega.{arith}
-use lib.Seq.{length-take-le}
 use Rattle.files.proofs.PastLimits.{header_cut}
 use Rattle.surveys.proofs.calls.+survey_file.Goals as goal
-
-pub survey_few-requires : goal.survey_few-requires
-survey_few-requires t c = omega (arith, c.stated_count-n.ensures, c.if-n-le8.true)
-
-pub slice_bounds-survey_file-end : goal.slice_bounds-survey_file-end
-slice_bounds-survey_file-end t c =
-    let at-args = c.args in
-    sym (length-take-le 2 at-args.file.now (omega (arith, c.if-file-gt2.true)))
-
-pub survey_file-requires : goal.survey_file-requires
-survey_file-requires t c =
-    let at_pre = c.requires in
-    let at-args = c.args in
-    (omega (arith, c.if-file-gt2.true, length-take-le 2 at-args.file.now (omega (arith, c.if-file-gt2.true))), tt)
 
 pub returns-then-file-gt2 : goal.returns-then-file-gt2
 returns-then-file-gt2 t c =

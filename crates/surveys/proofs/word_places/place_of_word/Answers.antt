@@ -1,5 +1,5 @@
 -- place_of_word: going through the expanders from i on for the words that are left is going through all of them for word k.
-use mathlib.Core.Path.{refl, ap, ◌∙◌}
+use mathlib.Core.Path.{ap, ◌∙◌}
 use native.Mathlib.Omega.{arith}
 use Rattle.files.specs.Domain.{Domain}
 use Rattle.wiring.specs.FrameDefinitions.{refused}
@@ -7,22 +7,19 @@ use Rattle.files.specs.Rows.{domain_in}
 use Rattle.surveys.proofs.WordSearches.{find-next, find-end}
 use Rattle.surveys.proofs.word_places.place_of_word.Goals as goal
 
-pub loop-i-init : goal.loop-i-init
-loop-i-init c = (omega arith, refl)
-
-pub returns-in-At : goal.returns-in-At
-returns-in-At c =
+pub returns-in-Ok : goal.returns-in-Ok
+returns-in-Ok c =
     let at-args = c.args in
     let d : Domain = domain_in at-args.rows.now in
-    find-next d c.loop-i.i c.loop-i.left c.loop-i.invariant.1 c.in-At.is c.seek_at-sought.ensures (omega (arith, c.expander_count-n.ensures.0))
+    find-next d c.loop-i.i c.loop-i.left c.loop-i.invariant c.in-Ok.is c.seek_at.ensures (omega (arith, c.expander_count-n.ensures.0))
 
 pub loop-i-preserved : goal.loop-i-preserved
 loop-i-preserved c =
     let at-args = c.args in
     let d : Domain = domain_in at-args.rows.now in
-    (omega arith, find-next d c.loop-i.i c.loop-i.left c.loop-i.invariant.1 c.in-Left.is c.seek_at-sought.ensures (omega (arith, c.expander_count-n.ensures.0)))
+    find-next d c.loop-i.i c.loop-i.left c.loop-i.invariant c.in-Err.is c.seek_at.ensures (omega (arith, c.expander_count-n.ensures.0))
 
 pub returns : goal.returns
 returns c =
     let d : Domain = domain_in c.args.rows.now in
-    ap refused c.refused.ensures ∙ find-end d c.loop-i.i c.loop-i.left c.loop-i.invariant.1 (omega (arith, c.expander_count-n.ensures.0))
+    ap refused c.refused.ensures ∙ find-end d c.loop-i.i c.loop-i.left c.loop-i.invariant (omega (arith, c.expander_count-n.ensures.0))

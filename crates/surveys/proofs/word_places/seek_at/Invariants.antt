@@ -1,4 +1,4 @@
-use Prim.Native.Nat.{◌-◌, ◌≤◌}
+use Prim.Native.Nat.{◌-◌}
 use mathlib.Core.Path.{◌≡◌}
 use mathlib.Core.List.{List, ◌++◌}
 use Rattle.wiring.specs.phys.PhyCauses.{Place, phy_places}
@@ -7,9 +7,4 @@ use Rattle.surveys.specs.WordEntries.{word_in}
 use Rattle.surveys.proofs.word_places.seek_at.Given as goal
 
 abbrev pub invariant-loop-p : goal.invariant-loop-p
-invariant-loop-p l =
-    (l.p ≤ l.n)
-    × ((after : List Place) → word_in (domain_in l.rows) (phy_places l.i.0 l.p (l.n - l.p) ++ after) l.left ≡ word_in (domain_in l.rows) (phy_places l.i.0 0 l.n ++ after) l.k)
-
-abbrev pub decreases-loop-p : goal.decreases-loop-p
-decreases-loop-p l = l.n - l.p
+invariant-loop-p l = (after : List Place) → word_in (domain_in l.rows) (phy_places l.i.0 l.p (l.n - l.p) ++ after) l.left ≡ word_in (domain_in l.rows) (phy_places l.i.0 0 l.n ++ after) l.fn.k

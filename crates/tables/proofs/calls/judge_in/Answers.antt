@@ -2,6 +2,7 @@
 use mathlib.Core.Path.{sym, ◌∙◌, ap}
 use lib.Seq.{length-take-le}
 use Rattle.wiring.specs.FrameDefinitions.{good}
+use Rattle.frames.proofs.RefusalPassedOn.{passed-on}
 use Rattle.wiring.specs.phys.Checks.{check_answer}
 use Rattle.wiring.proofs.FileRows.{opened_as, opened-fits}
 use Rattle.tables.proofs.CallOutcomes.{judge-refused, judge-by}
@@ -11,26 +12,26 @@ use Rattle.tables.proofs.calls.judge_in.Goals as goal
 pub slice_bounds-judge_rows-end : goal.slice_bounds-judge_rows-end
 slice_bounds-judge_rows-end c =
     let at_pre = c.requires in
-    opened-fits _ _ _ _ _ _ at_pre.rows c.read_domain-read.ensures c.in-Expanders.is c.read_domain-read.auto.rows
+    opened-fits _ _ _ _ _ _ at_pre.rows c.read_domain.ensures c.in_ok-n.was c.read_domain.auto.rows
 
-pub slice_bounds-judge_rows-end-in-Expanders : goal.slice_bounds-judge_rows-end-in-Expanders
-slice_bounds-judge_rows-end-in-Expanders c =
+pub returns-in_err-n : goal.returns-in_err-n
+returns-in_err-n c =
     let at_pre = c.requires in
-    sym (length-take-le _ c.read_domain-read.new.rows (opened-fits _ _ _ _ _ _ at_pre.rows c.read_domain-read.ensures c.in-Expanders.is c.read_domain-read.auto.rows))
+    (passed-on c.from_residual.result _ c.from_residual.ensures) ∙ judge-refused _ _ _ (opened_as _ _ _ _ _ _ at_pre.rows c.read_domain.ensures c.in_err-n.was)
 
-pub returns-in-Refused : goal.returns-in-Refused
-returns-in-Refused c =
+pub returns-in_err-judge_rows : goal.returns-in_err-judge_rows
+returns-in_err-judge_rows c =
     let at_pre = c.requires in
-    judge-refused _ _ _ (opened_as _ _ _ _ _ _ at_pre.rows c.read_domain-read.ensures c.in-Refused.is)
+    let o = opened_as _ _ _ _ _ _ at_pre.rows c.read_domain.ensures c.in_ok-n.was in
+    (passed-on c.from_residual-in_err-judge_rows.result _ c.from_residual-in_err-judge_rows.ensures) ∙ judge-by _ _ _ _ o.0 (sym (judged_own _ _ _ _ _ o.0 (at_pre.index _ o.0)) ∙ sym c.judge_rows.ensures.result_value ∙ ap (check_answer _) c.in_err-judge_rows.was)
 
-pub returns-in-Refused-verdict : goal.returns-in-Refused-verdict
-returns-in-Refused-verdict c =
+pub returns : goal.returns
+returns c =
     let at_pre = c.requires in
-    let o = opened_as _ _ _ _ _ _ at_pre.rows c.read_domain-read.ensures c.in-Expanders.is in
-    judge-by _ _ _ _ o.0 (sym (judged_own _ _ _ _ _ o.0 (at_pre.index _ o.0)) ∙ sym c.judge_rows-verdict.ensures.result_value ∙ ap (check_answer _) c.in-Refused-verdict.is)
+    let o = opened_as _ _ _ _ _ _ at_pre.rows c.read_domain.ensures c.in_ok-n.was in
+    ap good o.1.1 ∙ judge-by _ _ _ _ o.0 (sym (judged_own _ _ _ _ _ o.0 (at_pre.index _ o.0)) ∙ sym c.judge_rows.ensures.result_value ∙ ap (check_answer _) c.in_ok-judge_rows.was)
 
-pub returns-in-Passed : goal.returns-in-Passed
-returns-in-Passed c =
+pub slice_bounds-judge_rows-end-2 : goal.slice_bounds-judge_rows-end-2
+slice_bounds-judge_rows-end-2 c =
     let at_pre = c.requires in
-    let o = opened_as _ _ _ _ _ _ at_pre.rows c.read_domain-read.ensures c.in-Expanders.is in
-    ap good o.1.1 ∙ judge-by _ _ _ _ o.0 (sym (judged_own _ _ _ _ _ o.0 (at_pre.index _ o.0)) ∙ sym c.judge_rows-verdict.ensures.result_value ∙ ap (check_answer _) c.in-Passed.is)
+    sym (length-take-le _ c.read_domain.new.rows (opened-fits _ _ _ _ _ _ at_pre.rows c.read_domain.ensures c.in_ok-n.was c.read_domain.auto.rows))

@@ -1,24 +1,8 @@
 -- trace meets its contract: a file that states more than 64 expanders reads as its first two bytes do, and each room is chosen for so many expanders. The measure is the number of bytes.
-use mathlib.Core.Path.{sym}
 use native.Mathlib.Omega.{arith}
-use lib.Seq.{length-take-le}
 use Rattle.tables.proofs.WiringLemmas.{header_cut}
 use Rattle.tracing.specs.Trace.{trace_call}
 use Rattle.tracing.proofs.calls.+trace.Goals as goal
-
-pub trace_few-requires : goal.trace_few-requires
-trace_few-requires t c = omega (arith, c.stated_count-n.ensures, c.if-n-le8.true)
-
-pub slice_bounds-trace-end : goal.slice_bounds-trace-end
-slice_bounds-trace-end t c =
-    let at-args = c.args in
-    sym (length-take-le 2 at-args.file.now (omega (arith, c.if-file-gt2.true)))
-
-pub trace-requires : goal.trace-requires
-trace-requires t c =
-    let at_pre = c.requires in
-    let at-args = c.args in
-    (omega (arith, c.if-file-gt2.true, length-take-le 2 at-args.file.now (omega (arith, c.if-file-gt2.true))), tt)
 
 pub returns-then-file-gt2 : goal.returns-then-file-gt2
 unfolding trace_call

@@ -1,5 +1,6 @@
 -- request_rows meets its contract: the judging call's causes by own lists, and the request past them.
 use mathlib.Core.Path.{sym, ◌∙◌, ap}
+use Rattle.frames.proofs.RefusalPassedOn.{passed-on}
 use Rattle.tables.specs.WiringDefinitions.{check_answer}
 use Rattle.tables.proofs.CallOutcomes.{judged-room}
 use Rattle.tracing.proofs.RequestCauses.{rows-refused, rows-done}
@@ -7,18 +8,12 @@ use Rattle.tracing.proofs.calls.request_rows.Goals as goal
 
 pub trace_rows-requires : goal.trace_rows-requires
 trace_rows-requires c =
-    (c.judge_rows-verdict.ensures.index_left.written (judged-room _ _ _ _ _ (sym c.judge_rows-verdict.ensures.result_value ∙ ap (check_answer _) c.in-Passed.is))).index.firsts
+    (c.judge_rows.ensures.index_left.written (judged-room _ _ _ _ _ (sym c.judge_rows.ensures.result_value ∙ ap (check_answer _) c.in_ok-judge_rows.was))).index.firsts
 
-pub returns-in-Refused : goal.returns-in-Refused
-returns-in-Refused c =
-    record {
-      trace_done = rows-refused _ _ _ _ _ _ _ _ (sym c.judge_rows-verdict.ensures.result_value ∙ ap (check_answer _) c.in-Refused.is);
-      index_left = c.judge_rows-verdict.ensures.index_left;
-    }
+pub returns-in_err-judge_rows-clause-trace_done : goal.returns-in_err-judge_rows-clause-trace_done
+returns-in_err-judge_rows-clause-trace_done c =
+    rw (passed-on c.from_residual.result _ c.from_residual.ensures) (rows-refused _ _ _ _ _ _ _ _ (sym c.judge_rows.ensures.result_value ∙ ap (check_answer _) c.in_err-judge_rows.was))
 
-pub returns-in-Passed : goal.returns-in-Passed
-returns-in-Passed c =
-    record {
-      trace_done = rows-done _ _ _ _ _ _ _ _ _ (sym c.judge_rows-verdict.ensures.result_value ∙ ap (check_answer _) c.in-Passed.is) c.trace_rows.ensures;
-      index_left = c.judge_rows-verdict.ensures.index_left;
-    }
+pub returns-clause-trace_done : goal.returns-clause-trace_done
+returns-clause-trace_done c =
+    rows-done _ _ _ _ _ _ _ _ _ (sym c.judge_rows.ensures.result_value ∙ ap (check_answer _) c.in_ok-judge_rows.was) c.trace_rows.ensures

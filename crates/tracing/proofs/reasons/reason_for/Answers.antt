@@ -13,17 +13,17 @@ returns-then-expander_address-s c =
     let a = c.args in
     c.told.ensures ∙ reason-here (domain_in a.rows.now) (counted (entries a.words.now a.bits.now)) a.i.0 a.arrival.0 a.s (sym c.expander_address.ensures ∙ c.if-expander_address-s.true)
 
-pub returns-in-At : goal.returns-in-At
-returns-in-At c =
+pub returns-in-Some : goal.returns-in-Some
+returns-in-Some c =
     let a = c.args in
-    c.told-in-At.ensures ∙ reason-phy (domain_in a.rows.now) (counted (entries a.words.now a.bits.now)) a.i.0 a.arrival.0 a.s
-    (λ e. c.if-expander_address-s.false (c.expander_address.ensures ∙ e)) (ap pick_answer (sym c.in-At.is) ∙ c.pick_bearing.ensures)
+    c.told-in-Some.ensures ∙ reason-phy (domain_in a.rows.now) (counted (entries a.words.now a.bits.now)) a.i.0 a.arrival.0 a.s
+    (λ e. c.if-expander_address-s.false (c.expander_address.ensures ∙ e)) (ap pick_answer (sym c.in-Some.is) ∙ c.pick_bearing.ensures)
 
-pub returns-in-Nowhere : goal.returns-in-Nowhere
-returns-in-Nowhere c =
+pub returns-in-None : goal.returns-in-None
+returns-in-None c =
     let a = c.args in
     let d : Domain = domain_in a.rows.now in
     let w = counted (entries a.words.now a.bits.now) in
     c.table_reason.ensures
     ∙ ap (λ (x : ℕ). by_entry d w a.i.0 a.s (listing_pick d w a.i.0 a.s) (by_subtraction d a.i.0 x (subtracting_pick d a.i.0))) c.came_from.ensures
-    ∙ reason-on d w a.i.0 a.arrival.0 a.s (λ e. c.if-expander_address-s.false (c.expander_address.ensures ∙ e)) (ap pick_answer (sym c.in-Nowhere.is) ∙ c.pick_bearing.ensures)
+    ∙ reason-on d w a.i.0 a.arrival.0 a.s (λ e. c.if-expander_address-s.false (c.expander_address.ensures ∙ e)) (ap pick_answer (sym c.in-None.is) ∙ c.pick_bearing.ensures)

@@ -10,17 +10,17 @@ pub returns-then-phy_address-came : goal.returns-then-phy_address-came
 returns-then-phy_address-came c =
     let at-args = c.args in
     let d : Domain = domain_in at-args.rows.now in
-    let e = ap pick_answer (sym c.in-At.is) ∙ c.pick_subtracting.ensures in
+    let e = ap pick_answer (sym c.in-Some.is) ∙ c.pick_subtracting.ensures in
     c.told.ensures ∙ subtraction_at d at-args.i.0 at-args.came e (eq-eqb _ _ (sym (c.phy_address.ensures ∙ ap address_of c.phy_at.ensures) ∙ c.if-phy_address-came.true))
 
 pub returns-else-phy_address-came : goal.returns-else-phy_address-came
 returns-else-phy_address-came c =
     let at-args = c.args in
     let d : Domain = domain_in at-args.rows.now in
-    let e = ap pick_answer (sym c.in-At.is) ∙ c.pick_subtracting.ensures in
-    c.told-in-At.ensures ∙ subtraction_at d at-args.i.0 at-args.came e (ne_eqb _ _ (λ f. c.if-phy_address-came.false ((c.phy_address.ensures ∙ ap address_of c.phy_at.ensures) ∙ f)))
+    let e = ap pick_answer (sym c.in-Some.is) ∙ c.pick_subtracting.ensures in
+    c.told-in-Some.ensures ∙ subtraction_at d at-args.i.0 at-args.came e (ne_eqb _ _ (λ f. c.if-phy_address-came.false ((c.phy_address.ensures ∙ ap address_of c.phy_at.ensures) ∙ f)))
 
-pub returns-in-Nowhere : goal.returns-in-Nowhere
-returns-in-Nowhere c =
+pub returns-in-None : goal.returns-in-None
+returns-in-None c =
     let d : Domain = domain_in c.args.rows.now in
-    c.told-in-Nowhere.ensures ∙ subtraction_none d c.args.i.0 c.args.came (ap pick_answer (sym c.in-Nowhere.is) ∙ c.pick_subtracting.ensures)
+    c.told-in-None.ensures ∙ subtraction_none d c.args.i.0 c.args.came (ap pick_answer (sym c.in-None.is) ∙ c.pick_subtracting.ensures)

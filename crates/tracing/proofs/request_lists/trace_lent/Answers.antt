@@ -5,9 +5,9 @@ use borrow.Author.Tests.{eq-eqb, ne_eqb, le-leb, not-true, not-false}
 use Rattle.tables.specs.WiringDefinitions.{bytes_for, Refusal, Domain, domain_in}
 use Rattle.tables.specs.filling.Tables.{needed}
 use Rattle.tables.specs.filling.Entries.{entries, room_of}
-use Rattle.tracing.specs.declared.TraceAnswer.TheVariants.{Refused}
 use Rattle.tracing.specs.Trace.{request, traced_request, TraceDone}
 use Rattle.tracing.proofs.RequestCauses.{requested-by, answer_no, answer_yes}
+use Rattle.frames.specs.Refusals.{refused}
 use Rattle.tracing.proofs.request_lists.trace_lent.Goals as goal
 
 pub returns-then-not-is_allowed : goal.returns-then-not-is_allowed
@@ -16,7 +16,7 @@ returns-then-not-is_allowed c =
     let d : Domain = domain_in a.rows.now in
     let t = entries a.words.now a.bits.now in
     let q = request a.start.0 a.arrival.0 a.s in
-    subst (λ (x : Refusal). TraceDone (traced_request d t (length a.passed.now) q) (Refused x) a.passed.now a.passed.now) (sym c.refused.ensures)
+    subst (λ (x : Refusal). TraceDone (traced_request d t (length a.passed.now) q) (refused x) a.passed.now a.passed.now) (sym c.refused.ensures)
     (answer_no d t q a.passed.now (sym (requested-by (room_of t) (length a.passed.now) q d (sym c.is_allowed.ensures ∙ not-true _ c.if-not-is_allowed.true-raw) refl refl refl refl)))
 
 pub returns-then-s-eq0 : goal.returns-then-s-eq0
@@ -26,13 +26,8 @@ returns-then-s-eq0 c =
     let d : Domain = domain_in a.rows.now in
     let t = entries a.words.now a.bits.now in
     let q = request a.start.0 a.arrival.0 a.s in
-    subst (λ (x : Refusal). TraceDone (traced_request d t (length a.passed.now) q) (Refused x) a.passed.now a.passed.now) (sym c.refused-then-s-eq0.ensures)
+    subst (λ (x : Refusal). TraceDone (traced_request d t (length a.passed.now) q) (refused x) a.passed.now a.passed.now) (sym c.refused-then-s-eq0.ensures)
     (answer_no d t q a.passed.now (sym (requested-by (room_of t) (length a.passed.now) q d (sym c.is_allowed.ensures ∙ not-false _ c.if-not-is_allowed.false-raw) (le-leb (needed d) (length a.words.now) at_pre.1.0.words) (le-leb (length d) (length a.passed.now) at_pre.1.1) (le-leb (bytes_for (needed d)) (length a.bits.now) at_pre.1.0.bits) (eq-eqb a.s 0 c.if-s-eq0.true))))
-
-pub walk-requires : goal.walk-requires
-walk-requires c =
-    let at_pre = c.requires in
-    (at_pre.0, at_pre.1.1)
 
 pub returns : goal.returns
 returns c =

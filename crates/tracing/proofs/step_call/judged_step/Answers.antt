@@ -1,5 +1,6 @@
 -- judged_step meets its contract: the judging call's causes by own lists, and the step past them.
 use mathlib.Core.Path.{sym, ◌∙◌, ap}
+use Rattle.frames.proofs.RefusalPassedOn.{passed-on}
 use Rattle.tables.specs.WiringDefinitions.{check_answer}
 use Rattle.tables.proofs.CallOutcomes.{judged-room}
 use Rattle.tracing.specs.Reasons.{step_answer_of}
@@ -8,12 +9,12 @@ use Rattle.tracing.proofs.step_call.judged_step.Goals as goal
 
 pub step_rows-requires : goal.step_rows-requires
 step_rows-requires c =
-    (c.judge_rows-verdict.ensures.index_left.written (judged-room _ _ _ _ _ (sym c.judge_rows-verdict.ensures.result_value ∙ ap (check_answer _) c.in-Passed.is))).index.firsts
+    (c.judge_rows.ensures.index_left.written (judged-room _ _ _ _ _ (sym c.judge_rows.ensures.result_value ∙ ap (check_answer _) c.in_ok-judge_rows.was))).index.firsts
 
-pub returns-in-Refused : goal.returns-in-Refused
-returns-in-Refused c =
-    ap step_answer_of (rows_no _ _ _ _ _ _ _ (sym c.judge_rows-verdict.ensures.result_value ∙ ap (check_answer _) c.in-Refused.is))
+pub returns-in_err-judge_rows : goal.returns-in_err-judge_rows
+returns-in_err-judge_rows c =
+    passed-on c.from_residual.result _ c.from_residual.ensures ∙ ap step_answer_of (rows_no _ _ _ _ _ _ _ (sym c.judge_rows.ensures.result_value ∙ ap (check_answer _) c.in_err-judge_rows.was))
 
-pub returns-in-Passed : goal.returns-in-Passed
-returns-in-Passed c =
-    c.step_rows.ensures ∙ ap step_answer_of (rows_yes _ _ _ _ _ _ (sym c.judge_rows-verdict.ensures.result_value ∙ ap (check_answer _) c.in-Passed.is))
+pub returns : goal.returns
+returns c =
+    c.step_rows.ensures ∙ ap step_answer_of (rows_yes _ _ _ _ _ _ (sym c.judge_rows.ensures.result_value ∙ ap (check_answer _) c.in_ok-judge_rows.was))

@@ -1,6 +1,7 @@
 -- step_in meets its contract: the rows that the file is read into are its domain, and there is room for the entries.
 use mathlib.Core.Path.{sym, ◌∙◌, ap}
 use lib.Seq.{length-take-le}
+use Rattle.frames.proofs.RefusalPassedOn.{passed-on}
 use Rattle.tables.proofs.WiringLemmas.{opened_as, opened-fits}
 use Rattle.tables.proofs.lists.LevelListsByOwn.{judged_own}
 use Rattle.tracing.specs.Reasons.{step_answer_of}
@@ -10,20 +11,20 @@ use Rattle.tracing.proofs.step_call.step_in.Goals as goal
 pub slice_bounds-judged_step-end : goal.slice_bounds-judged_step-end
 slice_bounds-judged_step-end c =
     let at_pre = c.requires in
-    opened-fits _ _ _ _ _ _ at_pre.rows c.read_domain-read.ensures c.in-Expanders.is c.read_domain-read.auto.rows
+    opened-fits _ _ _ _ _ _ at_pre.rows c.read_domain.ensures c.in_ok-n.was c.read_domain.auto.rows
 
-pub slice_bounds-judged_step-end-in-Expanders : goal.slice_bounds-judged_step-end-in-Expanders
-slice_bounds-judged_step-end-in-Expanders c =
+pub slice_bounds-judged_step-end-2 : goal.slice_bounds-judged_step-end-2
+slice_bounds-judged_step-end-2 c =
     let at_pre = c.requires in
-    sym (length-take-le _ c.read_domain-read.new.rows (opened-fits _ _ _ _ _ _ at_pre.rows c.read_domain-read.ensures c.in-Expanders.is c.read_domain-read.auto.rows))
+    sym (length-take-le _ c.read_domain.new.rows (opened-fits _ _ _ _ _ _ at_pre.rows c.read_domain.ensures c.in_ok-n.was c.read_domain.auto.rows))
 
-pub returns-in-Refused : goal.returns-in-Refused
-returns-in-Refused c =
+pub returns-in_err-n : goal.returns-in_err-n
+returns-in_err-n c =
     let at_pre = c.requires in
-    ap step_answer_of (file_no _ _ _ _ _ (opened_as _ _ _ _ _ _ at_pre.rows c.read_domain-read.ensures c.in-Refused.is))
+    passed-on c.from_residual.result _ c.from_residual.ensures ∙ ap step_answer_of (file_no _ _ _ _ _ (opened_as _ _ _ _ _ _ at_pre.rows c.read_domain.ensures c.in_err-n.was))
 
-pub returns-in-Expanders : goal.returns-in-Expanders
-returns-in-Expanders c =
+pub returns : goal.returns
+returns c =
     let at_pre = c.requires in
-    let o = opened_as _ _ _ _ _ _ at_pre.rows c.read_domain-read.ensures c.in-Expanders.is in
+    let o = opened_as _ _ _ _ _ _ at_pre.rows c.read_domain.ensures c.in_ok-n.was in
     c.judged_step.ensures ∙ ap step_answer_of (file_yes _ _ _ _ _ _ _ o.0 (judged_own _ _ _ _ _ o.0 (at_pre.index _ o.0)))

@@ -11,21 +11,21 @@ pub arrive_unless-requires : goal.arrive_unless-requires
 arrive_unless-requires c =
     let at_pre = c.requires in
     let a = c.args in
-    let e = ap pick_answer (sym c.in-At.is) ∙ c.pick_bearing.ensures in
+    let e = ap pick_answer (sym c.in-Some.is) ∙ c.pick_bearing.ensures in
     (at_pre, bearing-attached (domain_in a.rows.now) a.i.0 a.s e)
 
-pub returns-in-At : goal.returns-in-At
-returns-in-At c =
+pub returns-in-Some : goal.returns-in-Some
+returns-in-Some c =
     let a = c.args in
     let d : Domain = domain_in a.rows.now in
     let after : Step = table_step d (counted (entries a.words.now a.bits.now)) a.i.0 a.came a.s in
-    let e = ap pick_answer (sym c.in-At.is) ∙ c.pick_bearing.ensures in
+    let e = ap pick_answer (sym c.in-Some.is) ∙ c.pick_bearing.ensures in
     c.arrive_unless.ensures ∙ direct-at d a.i.0 a.came after e
 
-pub returns-in-Nowhere : goal.returns-in-Nowhere
-returns-in-Nowhere c =
+pub returns-in-None : goal.returns-in-None
+returns-in-None c =
     let a = c.args in
     let d : Domain = domain_in a.rows.now in
     let after : Step = table_step d (counted (entries a.words.now a.bits.now)) a.i.0 a.came a.s in
-    let e = ap pick_answer (sym c.in-Nowhere.is) ∙ c.pick_bearing.ensures in
+    let e = ap pick_answer (sym c.in-None.is) ∙ c.pick_bearing.ensures in
     c.table_step.ensures ∙ direct-none d a.i.0 a.came after e

@@ -3,13 +3,8 @@ use mathlib.Core.Path.{◌∙◌, ap}
 use Rattle.tables.specs.WiringDefinitions.{domain_in, address_of, attached_phy_of}
 use Rattle.tables.proofs.WiringLemmas.{far_in}
 use Rattle.tracing.specs.Answers.{ended_here}
-use Rattle.tracing.proofs.PhyPicks.{move_back, move_on}
+use Rattle.tracing.proofs.PhyPicks.{move_on}
 use Rattle.tracing.proofs.steps.move_unless.Goals as goal
-
-pub returns-then-phy_address-came : goal.returns-then-phy_address-came
-returns-then-phy_address-came c =
-    let a = c.args in
-    move_back (domain_in a.rows.now) a.i.0 a.p.0 a.came (ended_here a.back) (c.phy_address.ensures ∙ ap address_of c.phy_at-f.ensures) c.if-phy_address-came.true
 
 pub returns : goal.returns
 returns c =

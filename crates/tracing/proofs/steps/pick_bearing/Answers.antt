@@ -1,37 +1,28 @@
 -- pick_bearing meets its contract. The loop's invariant: none of the first p phys bears the address.
-use Prim.Native.Nat.{ℕ}
 use mathlib.Core.Path.{sym, ◌∙◌, ap}
 use native.Mathlib.Omega.{arith}
-use native.Mathlib.Nat.{sub-zero}
-use Rattle.tables.specs.WiringDefinitions.{numbers}
 use Rattle.tables.specs.WiringDefinitions.{Domain, bears}
 use Rattle.tables.specs.WiringDefinitions.{domain_in}
-use Rattle.tracing.specs.Steps.{pick, bearing}
+use Rattle.tracing.specs.Steps.{bearing}
 use Rattle.tracing.proofs.PhyPicks.{pick-stop, pick-go, pick_end}
 use Rattle.tracing.proofs.steps.pick_bearing.Goals as goal
-
-pub loop-p-init : goal.loop-p-init
-loop-p-init c =
-    let a = c.args in
-    let d : Domain = domain_in a.rows.now in
-    (omega arith, ap (λ (m : ℕ). pick (bearing d a.i.0 a.s) (numbers 0 m)) (sub-zero c.phy_count-n.result ∙ c.phy_count-n.ensures.0))
 
 pub returns-then-phy_bears : goal.returns-then-phy_bears
 returns-then-phy_bears c =
     let a = c.args in
     let d : Domain = domain_in a.rows.now in
     let e = sym (c.phy_bears.ensures ∙ ap (bears a.s) c.phy_at.ensures) ∙ c.if-phy_bears.true in
-    pick-stop (bearing d a.i.0 a.s) c.phy_count-n.result c.loop-p.p c.loop-p.invariant.1 e (omega arith)
+    pick-stop (bearing d a.i.0 a.s) c.phy_count-n.result c.loop-p.p c.loop-p.invariant e (omega arith)
 
 pub loop-p-preserved : goal.loop-p-preserved
 loop-p-preserved c =
     let a = c.args in
     let d : Domain = domain_in a.rows.now in
     let e = sym (c.phy_bears.ensures ∙ ap (bears a.s) c.phy_at.ensures) ∙ c.if-phy_bears.false in
-    (omega arith, pick-go (bearing d a.i.0 a.s) c.phy_count-n.result c.loop-p.p c.loop-p.invariant.1 e (omega arith))
+    pick-go (bearing d a.i.0 a.s) c.phy_count-n.result c.loop-p.p c.loop-p.invariant e (omega arith)
 
 pub returns : goal.returns
 returns c =
     let a = c.args in
     let d : Domain = domain_in a.rows.now in
-    pick_end (bearing d a.i.0 a.s) c.phy_count-n.result c.loop-p.p c.loop-p.invariant.1 (omega arith)
+    pick_end (bearing d a.i.0 a.s) c.phy_count-n.result c.loop-p.p c.loop-p.invariant (omega arith)

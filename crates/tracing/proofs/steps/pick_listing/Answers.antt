@@ -19,20 +19,19 @@ loop-p-init c =
     let z = phys-none d a.i.0 in (
       omega arith,
       omega arith,
-      omega arith,
       ap (λ (m : ℕ). pick (listing d (counted (entries a.words.now a.bits.now)) a.i.0 a.s) (numbers 0 m)) (sub-zero c.phy_count-n.result ∙ c.phy_count-n.ensures.0),
     )
 
 pub is_listing-requires : goal.is_listing-requires
 is_listing-requires c =
     let a = c.args in
-    c.loop-p.invariant.2 ∙ sym (offset-is (domain_in a.rows.now) a.i.0 c.loop-p.p (omega arith))
+    c.loop-p.invariant.1 ∙ sym (offset-is (domain_in a.rows.now) a.i.0 c.loop-p.p (omega arith))
 
 pub returns-then-is_listing : goal.returns-then-is_listing
 returns-then-is_listing c =
     let a = c.args in
     let n : ℕ = c.phy_count-n.result in
-    pick-stop (listing (domain_in a.rows.now) (counted (entries a.words.now a.bits.now)) a.i.0 a.s) n c.loop-p.p c.loop-p.invariant.3
+    pick-stop (listing (domain_in a.rows.now) (counted (entries a.words.now a.bits.now)) a.i.0 a.s) n c.loop-p.p c.loop-p.invariant.2
     (sym c.is_listing.ensures ∙ c.if-is_listing.true) (omega arith)
 
 pub loop-p-preserved : goal.loop-p-preserved
@@ -43,8 +42,7 @@ loop-p-preserved c =
     let z = phys-next d a.i.0 c.loop-p.p in (
       omega arith,
       omega arith,
-      omega arith,
-      pick-go (listing d (counted (entries a.words.now a.bits.now)) a.i.0 a.s) n c.loop-p.p c.loop-p.invariant.3
+      pick-go (listing d (counted (entries a.words.now a.bits.now)) a.i.0 a.s) n c.loop-p.p c.loop-p.invariant.2
           (sym c.is_listing.ensures ∙ c.if-is_listing.false) (omega arith),
     )
 
@@ -52,4 +50,4 @@ pub returns : goal.returns
 returns c =
     let a = c.args in
     let n : ℕ = c.phy_count-n.result in
-    pick_end (listing (domain_in a.rows.now) (counted (entries a.words.now a.bits.now)) a.i.0 a.s) n c.loop-p.p c.loop-p.invariant.3 (omega arith)
+    pick_end (listing (domain_in a.rows.now) (counted (entries a.words.now a.bits.now)) a.i.0 a.s) n c.loop-p.p c.loop-p.invariant.2 (omega arith)

@@ -11,10 +11,6 @@ use Rattle.tracing.proofs.steps.pick_listing.Given as goal
 
 abbrev pub invariant-loop-p : goal.invariant-loop-p
 invariant-loop-p l =
-    (l.p ≤ l.n)
-    × (l.at ≤ 8388608 * l.i.0 + 65536 * l.p)
+    (l.at ≤ 8388608 * l.i.0 + 65536 * l.p)
     × (l.at ≡ words_before (domain_in l.rows) l.i.0 + sizes (domain_in l.rows) (phy_places l.i.0 0 l.p))
     × (pick (listing (domain_in l.rows) (counted (entries l.words l.bits)) l.i.0 l.s) (numbers l.p (l.n - l.p)) ≡ listing_pick (domain_in l.rows) (counted (entries l.words l.bits)) l.i.0 l.s)
-
-abbrev pub decreases-loop-p : goal.decreases-loop-p
-decreases-loop-p l = l.n - l.p

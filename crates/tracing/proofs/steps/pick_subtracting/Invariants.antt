@@ -1,4 +1,4 @@
-use Prim.Native.Nat.{◌-◌, ◌≤◌}
+use Prim.Native.Nat.{◌-◌}
 use mathlib.Core.Path.{◌≡◌}
 use Rattle.tables.specs.WiringDefinitions.{numbers}
 use Rattle.tables.specs.WiringDefinitions.{domain_in}
@@ -7,7 +7,4 @@ use Rattle.tracing.specs.Answers.{subtracting_pick}
 use Rattle.tracing.proofs.steps.pick_subtracting.Given as goal
 
 abbrev pub invariant-loop-p : goal.invariant-loop-p
-invariant-loop-p l = (l.p ≤ l.n) × (pick (subtracting (domain_in l.rows) l.i.0) (numbers l.p (l.n - l.p)) ≡ subtracting_pick (domain_in l.rows) l.i.0)
-
-abbrev pub decreases-loop-p : goal.decreases-loop-p
-decreases-loop-p l = l.n - l.p
+invariant-loop-p l = pick (subtracting (domain_in l.rows) l.i.0) (numbers l.p (l.n - l.p)) ≡ subtracting_pick (domain_in l.rows) l.i.0

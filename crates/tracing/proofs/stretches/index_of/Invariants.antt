@@ -1,4 +1,4 @@
-use Prim.Native.Nat.{◌+◌, ◌-◌, ◌≤◌}
+use Prim.Native.Nat.{◌+◌, ◌-◌}
 use mathlib.Core.Path.{◌≡◌}
 use lib.ListN.{take, drop}
 use Rattle.tables.specs.filling.Entries.{entries, counted}
@@ -6,7 +6,4 @@ use Rattle.tracing.specs.Reasons.{index_of}
 use Rattle.tracing.proofs.stretches.index_of.Given as goal
 
 abbrev pub invariant-loop-k : goal.invariant-loop-k
-invariant-loop-k l = (l.k ≤ l.n) × (l.k + index_of l.s (take (l.n - l.k) (drop (l.at + l.k) (counted (entries l.words l.bits)))) ≡ index_of l.s (take l.n (drop l.at (counted (entries l.words l.bits)))))
-
-abbrev pub decreases-loop-k : goal.decreases-loop-k
-decreases-loop-k l = l.n - l.k
+invariant-loop-k l = l.k + index_of l.s (take (l.fn.n - l.k) (drop (l.at + l.k) (counted (entries l.words l.bits)))) ≡ index_of l.s (take l.fn.n (drop l.at (counted (entries l.words l.bits))))

@@ -3,9 +3,6 @@ use mathlib.Core.Path.{◌∙◌}
 use Rattle.tracing.proofs.StretchOffsets.{passed}
 use Rattle.tracing.proofs.stretches.lists.Goals as goal
 
-pub returns-then-s-eq0 : goal.returns-then-s-eq0
-returns-then-s-eq0 c = c.lists_from.ensures
-
 pub returns : goal.returns
 returns c =
     let a = c.args in

@@ -11,16 +11,7 @@ returns-then-words-at c = let a = c.args in (omega arith, (omega arith, sym (lis
 pub loop-r-init : goal.loop-r-init
 loop-r-init c = let a = c.args in (omega arith, (omega arith, sym (lists-end a.s 0 a.at a.words.now refl (omega arith))))
 
-pub returns-then-room-r-lt8 : goal.returns-then-room-r-lt8
-returns-then-room-r-lt8 c = c.loop-r.invariant
-
-pub returns-then-not-eight_lack : goal.returns-then-not-eight_lack
-returns-then-not-eight_lack c = c.loop-r.invariant
-
 pub loop-r-preserved : goal.loop-r-preserved
 loop-r-preserved c =
     let a = c.args in
     (omega arith, (omega arith, passed-more a.s c.loop-r.r a.at a.words.now c.loop-r.invariant.1.1 (not-true _ (sym c.eight_lack.ensures ∙ not-false _ c.if-not-eight_lack.false-raw))))
-
-pub returns : goal.returns
-returns c = c.loop-r.invariant

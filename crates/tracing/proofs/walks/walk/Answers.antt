@@ -16,40 +16,31 @@ unfolding traced
 loop-k-init c =
     let a = c.args in
     let d : Domain = domain_in a.rows.now in (
-      omega arith,
       refl,
       refl,
       ap (λ (m : ℕ). trace_from m d (counted (entries a.words.now a.bits.now)) a.start.0 a.arrival.0 a.s) (sub-zero c.expander_count-n.result ∙ c.expander_count-n.ensures.0),
     )
 
-pub shape_of-passed-in-Ended : goal.shape_of-passed-in-Ended
-shape_of-passed-in-Ended c =
-    simp length-set c.loop-k.invariant.1
-
 pub returns-in-Ended : goal.returns-in-Ended
 returns-in-Ended c =
     let a = c.args in
     let n : ℕ = c.expander_count-n.result in
-    let e = sym c.in-Ended.is ∙ c.take_step-t.ensures in
+    let e = sym c.in-Ended.is ∙ c.take_step.ensures in
     rw c.ended.ensures
     (walk-stop (domain_in a.rows.now) (counted (entries a.words.now a.bits.now)) a.s n c.loop-k.k c.loop-k.i.0 c.loop-k.q.0 c.loop-k.passed a.passed.now
-    c.loop-k.invariant.3 c.loop-k.invariant.2 e (omega arith) (omega arith))
+    c.loop-k.invariant.2 c.loop-k.invariant.1 e (omega arith) (omega arith))
 
 pub loop-k-preserved : goal.loop-k-preserved
 loop-k-preserved c =
     let a = c.args in
     let d : Domain = domain_in a.rows.now in
     let n : ℕ = c.expander_count-n.result in
-    let e = sym c.in-Onward.is ∙ c.take_step-t.ensures in (
-      omega arith,
-      simp length-set c.loop-k.invariant.1,
-      kept c.loop-k.k c.loop-k.i.0 c.loop-k.passed a.passed.now c.loop-k.invariant.2 (omega arith),
-      walk-go d (counted (entries a.words.now a.bits.now)) a.s n c.loop-k.k c.loop-k.i.0 c.loop-k.q.0 c.loop-k.passed a.passed.now c.loop-k.invariant.3 c.loop-k.invariant.2
+    let e = sym c.in-Onward.is ∙ c.take_step.ensures in (
+      simp length-set c.loop-k.invariant.0,
+      kept c.loop-k.k c.loop-k.i.0 c.loop-k.passed a.passed.now c.loop-k.invariant.1 (omega arith),
+      walk-go d (counted (entries a.words.now a.bits.now)) a.s n c.loop-k.k c.loop-k.i.0 c.loop-k.q.0 c.loop-k.passed a.passed.now c.loop-k.invariant.2 c.loop-k.invariant.1
           e (omega arith) (omega arith),
     )
-
-pub shape_of-passed : goal.shape_of-passed
-shape_of-passed c = c.loop-k.invariant.1
 
 pub returns : goal.returns
 returns c =
@@ -57,4 +48,4 @@ returns c =
     let n : ℕ = c.expander_count-n.result in
     rw c.ended-2.ensures
     (walk_end (domain_in a.rows.now) (counted (entries a.words.now a.bits.now)) a.s n c.loop-k.k c.loop-k.i.0 c.loop-k.q.0 c.loop-k.passed a.passed.now
-    c.loop-k.invariant.3 c.loop-k.invariant.2 (omega arith) (omega arith))
+    c.loop-k.invariant.2 c.loop-k.invariant.1 (omega arith) (omega arith))

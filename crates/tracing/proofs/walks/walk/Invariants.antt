@@ -1,4 +1,4 @@
-use Prim.Native.Nat.{◌-◌, ◌≤◌}
+use Prim.Native.Nat.{◌-◌}
 use mathlib.Core.Path.{◌≡◌}
 use lib.ListN.{length, take, drop}
 use Rattle.tables.specs.WiringDefinitions.{domain_in}
@@ -8,10 +8,6 @@ use Rattle.tracing.proofs.walks.walk.Given as goal
 
 abbrev pub invariant-loop-k : goal.invariant-loop-k
 invariant-loop-k l =
-    (l.k ≤ l.n)
-    × (length l.passed ≡ length l.initial.passed)
+    (length l.passed ≡ length l.initial.passed)
     × (drop l.k l.passed ≡ drop l.k l.initial.passed)
     × (after (take l.k l.passed) (trace_from (l.n - l.k) (domain_in l.rows) (counted (entries l.words l.bits)) l.i.0 l.q.0 l.s) ≡ traced (domain_in l.rows) (counted (entries l.words l.bits)) (request l.initial.i.0 l.initial.q.0 l.s))
-
-abbrev pub decreases-loop-k : goal.decreases-loop-k
-decreases-loop-k l = l.n - l.k

@@ -1,17 +1,9 @@
 -- mark_from meets its contract: bits one by one up to the first whole byte, whole bytes, and the bits after them are all the bits in a row.
 use Prim.Native.Nat.{ℕ, ◌+◌, ◌*◌, ◌/◌, ◌%◌, ◌-◌}
-use mathlib.Core.Path.{sym}
 use native.Mathlib.Omega.{arith}
 use lib.ListN.{length}
-use lib.Seq.{length-take-le}
 use Rattle.tables.proofs.events.BitsReplaced.{marked-parts}
 use Rattle.tables.proofs.events.refilling.mark_from.Goals as goal
-
-pub slice_bounds-mark_each-end : goal.slice_bounds-mark_each-end
-slice_bounds-mark_each-end c = sym (length-take-le ((8 - c.args.at % 8) % 8) c.args.part.now (omega (arith, c.if-part-k.false)))
-
-pub mark_each-requires-2 : goal.mark_each-requires-2
-mark_each-requires-2 c = let n = length-take-le ((8 - c.args.at % 8) % 8) c.args.part.now (omega (arith, c.if-part-k.false)) in (omega (arith, n, c.requires.0), omega (arith, n, c.requires.1))
 
 pub returns : goal.returns
 returns c =

@@ -1,4 +1,3 @@
-use Prim.Native.Nat.{◌-◌, ◌≤◌}
 use mathlib.Core.Path.{◌≡◌}
 use lib.ListN.{length}
 use Rattle.files.specs.Domain.{phy_at}
@@ -11,7 +10,4 @@ use Rattle.tables.specs.events.TablesRewritten.{TallyBounds, Rewritten}
 use Rattle.tables.proofs.events.refilling.refill_at.Given as goal
 
 abbrev pub invariant-loop-p : goal.invariant-loop-p
-invariant-loop-p l = (l.p ≤ l.n) × ((length l.order ≡ length l.initial.order) × (((l.g ≡ phy_at (domain_in l.rows) l.i.0 l.q.0) × Grown l.order l.order l.m (order_of (domain_in l.rows) l.g)) × (TallyBounds l.p l.initial.t l.t × Rewritten (domain_in l.rows) l.e.0 (phy_places l.i.0 0 l.p) l.initial.t l.t (entries l.initial.words l.initial.bits) (entries l.words l.bits))))
-
-abbrev pub decreases-loop-p : goal.decreases-loop-p
-decreases-loop-p l = l.n - l.p
+invariant-loop-p l = (length l.order ≡ length l.initial.order) × (((l.kept.fields ≡ phy_at (domain_in l.d.levels.attached.rows.now) l.i.0 l.kept.phy.0) × Grown l.order l.order l.kept.count (order_of (domain_in l.d.levels.attached.rows.now) l.kept.fields)) × (TallyBounds l.p l.initial.t l.t × Rewritten (domain_in l.d.levels.attached.rows.now) l.e.0 (phy_places l.i.0 0 l.p) l.initial.t l.t (entries l.initial.words l.initial.bits) (entries l.words l.bits)))

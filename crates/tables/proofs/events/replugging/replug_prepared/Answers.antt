@@ -1,6 +1,8 @@
 -- replug_prepared meets its contract: what was prepared for the domain as lent serves the edited one, but for the own list of the named expander.
 use mathlib.Core.Path.{sym, ap, ◌∙◌}
 use native.Mathlib.Omega.{arith}
+use Rattle.frames.proofs.RefusalPassedOn.{passed-on}
+use Rattle.wiring.specs.FrameDefinitions.{good}
 use Rattle.wiring.specs.phys.Checks.{check_answer}
 use Rattle.files.specs.PhyReplaced.{with_words}
 use Rattle.tables.specs.events.ReplugCall.{replug, retested}
@@ -9,30 +11,49 @@ use Rattle.tables.proofs.events.replugging.replug_prepared.Goals as goal
 
 pub renew_own-requires : goal.renew_own-requires
 renew_own-requires c =
-    let at-args = c.args in
-    let at_pre = c.requires in
-    owns-then at-args.rows.now at-args.e.0 at-args.p.0 at-args.a at_pre.1.0 _ (rows_are at-args.rows.now at-args.e.0 at-args.p.0 at-args.a at_pre.1.0 _ _ _ c.phy_at-f.ensures c.replug_phy.ensures c.set_phy.ensures) _ at_pre.0.owns
+    let a = c.args in
+    let pre = c.requires in
+    owns-then a.rows.now a.x.expander.0 a.x.phy.0 a.x.address pre.takes _ (rows_are a.rows.now a.x.expander.0 a.x.phy.0 a.x.address pre.takes _ _ _ c.phy_at-f.ensures c.replug_phy.ensures c.set_phy.ensures) _ pre.owns
 
-pub retest-verdict-requires : goal.retest-verdict-requires
-retest-verdict-requires c =
-    let at-args = c.args in
-    let at_pre = c.requires in
-    ready_then at-args.rows.now at-args.e.0 at-args.p.0 at-args.a at_pre.1.0 _ (rows_are at-args.rows.now at-args.e.0 at-args.p.0 at-args.a at_pre.1.0 _ _ _ c.phy_at-f.ensures c.replug_phy.ensures c.set_phy.ensures) _ c.own_length-n.ensures _ _ _ _ _ at_pre.0 c.renew_own.ensures
+pub invariant_of-attached : goal.invariant_of-attached
+invariant_of-attached c =
+    let a = c.args in
+    let pre = c.requires in
+    record { attached = fars-then a.rows.now a.x.expander.0 a.x.phy.0 a.x.address pre.takes _ (rows_are a.rows.now a.x.expander.0 a.x.phy.0 a.x.address pre.takes _ _ _ c.phy_at-f.ensures c.replug_phy.ensures c.set_phy.ensures) _ pre.fars }
+
+pub invariant_of-levels : goal.invariant_of-levels
+invariant_of-levels c =
+    let a = c.args in
+    let pre = c.requires in
+    record { held = below_then a.rows.now a.x.expander.0 a.x.phy.0 a.x.address pre.takes _ (rows_are a.rows.now a.x.expander.0 a.x.phy.0 a.x.address pre.takes _ _ _ c.phy_at-f.ensures c.replug_phy.ensures c.set_phy.ensures) _ pre.downstream }
+
+pub retest-requires : goal.retest-requires
+retest-requires c =
+    let a = c.args in
+    let pre = c.requires in
+    ready_then a.rows.now a.x.expander.0 a.x.phy.0 a.x.address pre.takes _ (rows_are a.rows.now a.x.expander.0 a.x.phy.0 a.x.address pre.takes _ _ _ c.phy_at-f.ensures c.replug_phy.ensures c.set_phy.ensures) _ c.own_length-n.ensures _ pre.order pre.fills
 
 pub refill_all-requires : goal.refill_all-requires
 refill_all-requires c =
-    let at-args = c.args in
-    let at_pre = c.requires in
-    let is = rows_are at-args.rows.now at-args.e.0 at-args.p.0 at-args.a at_pre.1.0 _ _ _ c.phy_at-f.ensures c.replug_phy.ensures c.set_phy.ensures in (fars-then at-args.rows.now at-args.e.0 at-args.p.0 at-args.a at_pre.1.0 _ is at-args.first.now at_pre.0.fars, (c.renew_own.ensures, (below_then at-args.rows.now at-args.e.0 at-args.p.0 at-args.a at_pre.1.0 _ is at-args.downstream.now at_pre.0.downstream, (omega (arith, c.retest-verdict.auto.order, size-then at-args.rows.now at-args.e.0 at-args.p.0 at-args.a at_pre.1.0 _ is, at_pre.0.room), (retested-fills at-args.e.0 at-args.a _ _ (sym c.retest-verdict.ensures ∙ ap (check_answer _) c.in-Passed.is), enough-then at-args.rows.now at-args.e.0 at-args.p.0 at-args.a at_pre.1.0 _ is _ at_pre.1.1)))))
+    let a = c.args in
+    let pre = c.requires in
+    let is = rows_are a.rows.now a.x.expander.0 a.x.phy.0 a.x.address pre.takes _ _ _ c.phy_at-f.ensures c.replug_phy.ensures c.set_phy.ensures in (
+      omega (arith, c.retest.auto.order, size-then a.rows.now a.x.expander.0 a.x.phy.0 a.x.address pre.takes _ is, pre.order.enough),
+      (retested-fills a.x.expander.0 a.x.address _ _ (sym c.retest.ensures ∙ ap (check_answer _) c.in_ok-retest.was), enough-then a.rows.now a.x.expander.0 a.x.phy.0 a.x.address pre.takes _ is _ pre.enough),
+    )
 
-pub returns-in-Refused : goal.returns-in-Refused
-returns-in-Refused c =
-    let at-args = c.args in
-    let at_pre = c.requires in
-    let is = rows_are at-args.rows.now at-args.e.0 at-args.p.0 at-args.a at_pre.1.0 _ _ _ c.phy_at-f.ensures c.replug_phy.ensures c.set_phy.ensures in (c.set_phy.ensures.words ∙ ap (with_words at-args.rows.now at-args.e.0 at-args.p.0) (c.replug_phy.ensures ∙ ap (replug at-args.a) c.phy_at-f.ensures), replug-refused _ _ _ _ (ap (retested at-args.e.0 at-args.a) (sym is) ∙ sym c.retest-verdict.ensures ∙ ap (check_answer _) c.in-Refused.is))
+pub returns-in_err-retest : goal.returns-in_err-retest
+returns-in_err-retest c =
+    let a = c.args in
+    let is = rows_are a.rows.now a.x.expander.0 a.x.phy.0 a.x.address c.requires.takes _ _ _ c.phy_at-f.ensures c.replug_phy.ensures c.set_phy.ensures in (
+      c.set_phy.ensures.words ∙ ap (with_words a.rows.now a.x.expander.0 a.x.phy.0) (c.replug_phy.ensures ∙ ap (replug a.x.address) c.phy_at-f.ensures),
+      rw (passed-on c.from_residual.result _ c.from_residual.ensures) (replug-refused _ _ _ _ (ap (retested a.x.expander.0 a.x.address) (sym is) ∙ sym c.retest.ensures ∙ ap (check_answer _) c.in_err-retest.was)),
+    )
 
-pub returns-in-Passed : goal.returns-in-Passed
-returns-in-Passed c =
-    let at-args = c.args in
-    let at_pre = c.requires in
-    let is = rows_are at-args.rows.now at-args.e.0 at-args.p.0 at-args.a at_pre.1.0 _ _ _ c.phy_at-f.ensures c.replug_phy.ensures c.set_phy.ensures in (c.set_phy.ensures.words ∙ ap (with_words at-args.rows.now at-args.e.0 at-args.p.0) (c.replug_phy.ensures ∙ ap (replug at-args.a) c.phy_at-f.ensures), replug-done _ _ _ _ _ _ (ap (retested at-args.e.0 at-args.a) (sym is) ∙ sym c.retest-verdict.ensures ∙ ap (check_answer _) c.in-Passed.is) c.refill_all.ensures.0 c.refill_all.ensures.1)
+pub returns : goal.returns
+returns c =
+    let a = c.args in
+    let is = rows_are a.rows.now a.x.expander.0 a.x.phy.0 a.x.address c.requires.takes _ _ _ c.phy_at-f.ensures c.replug_phy.ensures c.set_phy.ensures in (
+      c.set_phy.ensures.words ∙ ap (with_words a.rows.now a.x.expander.0 a.x.phy.0) (c.replug_phy.ensures ∙ ap (replug a.x.address) c.phy_at-f.ensures),
+      replug-done _ _ _ _ _ _ (ap (retested a.x.expander.0 a.x.address) (sym is) ∙ sym c.retest.ensures ∙ ap (check_answer _) c.in_ok-retest.was) c.refill_all.ensures.0 (ap good c.refill_all.ensures.1),
+    )

@@ -1,4 +1,4 @@
-use Prim.Native.Nat.{◌-◌, ◌≤◌}
+use Prim.Native.Nat.{◌≤◌}
 use mathlib.Core.List.{◌++◌}
 use mathlib.Core.Path.{◌≡◌}
 use lib.ListN.{length, take, drop}
@@ -8,7 +8,4 @@ use Rattle.tables.specs.lists.OwnLists.{lower, own_words_from, own_words}
 use Rattle.tables.proofs.events.retesting.collect_words.Given as goal
 
 abbrev pub invariant-loop-p : goal.invariant-loop-p
-invariant-loop-p l = (l.p ≤ l.n) × ((length l.part ≡ length l.initial.part) × ((l.m ≤ l.p) × (take l.m l.part ++ own_words_from (lower (expander_at (domain_in l.rows) l.i.0).phys l.p) (drop l.p (expander_at (domain_in l.rows) l.i.0).phys) ≡ own_words (domain_in l.rows) l.i.0)))
-
-abbrev pub decreases-loop-p : goal.decreases-loop-p
-decreases-loop-p l = l.n - l.p
+invariant-loop-p l = (length l.part ≡ length l.initial.part) × ((l.m ≤ l.p) × (take l.m l.part ++ own_words_from (lower (expander_at (domain_in l.rows) l.i.0).phys l.p) (drop l.p (expander_at (domain_in l.rows) l.i.0).phys) ≡ own_words (domain_in l.rows) l.i.0))

@@ -1,4 +1,4 @@
-use Prim.Native.Nat.{◌-◌, ◌≤◌}
+use Prim.Native.Nat.{◌-◌}
 use mathlib.Core.Path.{◌≡◌}
 use Rattle.wiring.specs.phys.PhyCauses.{phy_places, first_in}
 use Rattle.files.specs.Rows.{domain_in}
@@ -7,7 +7,4 @@ use Rattle.tables.specs.events.EndDeviceTests.{ends_at}
 use Rattle.tables.proofs.events.retesting.first_end.Given as goal
 
 abbrev pub invariant-loop-p : goal.invariant-loop-p
-invariant-loop-p l = (l.p ≤ l.n) × (first_in 8 (ends_at l.s (domain_in l.rows)) (phy_places l.i.0 l.p (l.n - l.p)) (domain_in l.rows) ≡ first_in 8 (ends_at l.s (domain_in l.rows)) (places_at (domain_in l.rows) l.i.0) (domain_in l.rows))
-
-abbrev pub decreases-loop-p : goal.decreases-loop-p
-decreases-loop-p l = l.n - l.p
+invariant-loop-p l = first_in 8 (ends_at l.s (domain_in l.rows)) (phy_places l.i.0 l.p (l.n - l.p)) (domain_in l.rows) ≡ first_in 8 (ends_at l.s (domain_in l.rows)) (places_at (domain_in l.rows) l.i.0) (domain_in l.rows)

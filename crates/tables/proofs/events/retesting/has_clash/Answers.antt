@@ -16,7 +16,7 @@ returns-then-phy_type-eq0 c =
 pub loop-q-init : goal.loop-q-init
 loop-q-init c =
     let a = c.args in
-    (omega arith, clash-start (domain_in a.rows.now) a.i.0 a.p.0 (c.phy_in_row-f.ensures ∙ phy-held _ _ _ (c.requires)))
+    clash-start (domain_in a.rows.now) a.i.0 a.p.0 (c.phy_in_row-f.ensures ∙ phy-held _ _ _ (c.requires))
 
 pub returns-then-is_clash : goal.returns-then-is_clash
 returns-then-is_clash c =
@@ -30,10 +30,10 @@ loop-q-preserved c =
     let a = c.args in
     let d : Domain = domain_in a.rows.now in
     let h = c.requires in
-    (omega arith, clash-go (expander_at d a.i.0).phys c.phy_in_row-f.result a.p.0 c.loop-q.q c.loop-q.invariant.1 (c.phy_in_row-g.ensures ∙ phy-held _ _ _ (omega arith)) (omega arith) (sym c.is_clash.ensures ∙ c.if-is_clash.false))
+    clash-go (expander_at d a.i.0).phys c.phy_in_row-f.result a.p.0 c.loop-q.q c.loop-q.invariant (c.phy_in_row-g.ensures ∙ phy-held _ _ _ (omega arith)) (omega arith) (sym c.is_clash.ensures ∙ c.if-is_clash.false)
 
 pub returns : goal.returns
 returns c =
     let a = c.args in
     let d : Domain = domain_in a.rows.now in
-    clash-end (expander_at d a.i.0).phys c.phy_in_row-f.result a.p.0 c.loop-q.q c.loop-q.invariant.1 (omega arith)
+    clash-end (expander_at d a.i.0).phys c.phy_in_row-f.result a.p.0 c.loop-q.q c.loop-q.invariant (omega arith)

@@ -1,4 +1,3 @@
-use Prim.Native.Nat.{◌-◌, ◌≤◌}
 use mathlib.Core.Path.{◌≡◌}
 use lib.ListN.{take, drop}
 use Rattle.files.specs.Lists.{any}
@@ -8,7 +7,4 @@ use Rattle.files.specs.Rows.{domain_in}
 use Rattle.tables.proofs.events.retesting.has_clash.Given as goal
 
 abbrev pub invariant-loop-q : goal.invariant-loop-q
-invariant-loop-q l = (l.q ≤ l.p.0) × (any (clash l.f) (drop l.q (take l.p.0 (expander_at (domain_in l.rows) l.i.0).phys)) ≡ clashing (domain_in l.rows) l.i.0 l.p.0)
-
-abbrev pub decreases-loop-q : goal.decreases-loop-q
-decreases-loop-q l = l.p.0 - l.q
+invariant-loop-q l = any (clash l.f) (drop l.q (take l.fn.p.0 (expander_at (domain_in l.rows) l.i.0).phys)) ≡ clashing (domain_in l.rows) l.i.0 l.fn.p.0

@@ -1,4 +1,3 @@
-use Prim.Native.Nat.{◌≤◌}
 use mathlib.Core.Path.{◌≡◌}
 use Rattle.files.specs.Lists.{any}
 use Rattle.files.specs.Domain.{expander_at, bears}
@@ -7,7 +6,4 @@ use Rattle.tables.specs.lists.OwnLists.{lower}
 use Rattle.tables.proofs.events.retesting.is_borne.Given as goal
 
 abbrev pub invariant-loop-q : goal.invariant-loop-q
-invariant-loop-q l = (l.q ≤ l.initial.q) × (any (bears l.s) (lower (expander_at (domain_in l.rows) l.i.0).phys l.q) ≡ any (bears l.s) (lower (expander_at (domain_in l.rows) l.i.0).phys l.initial.q))
-
-abbrev pub decreases-loop-q : goal.decreases-loop-q
-decreases-loop-q l = l.q
+invariant-loop-q l = any (bears l.s) (lower (expander_at (domain_in l.rows) l.i.0).phys l.q) ≡ any (bears l.s) (lower (expander_at (domain_in l.rows) l.i.0).phys l.fn.p.0)

@@ -9,4 +9,4 @@ pub returns-then-own_length-n : goal.returns-then-own_length-n
 returns-then-own_length-n c =
     let at-args = c.args in
     let at_pre = c.requires in
-    sym (by-fillable (domain_in at-args.rows.now) (at_pre.fills (omega (arith, c.own_length.ensures, c.if-own_length-n.true))))
+    sym (by-fillable (domain_in at-args.d.now.levels.attached.rows.now) (at_pre.fills (omega (arith, c.own_length.ensures, c.if-own_length-n.true))))

@@ -1,43 +1,10 @@
 -- put_lengths meets its contract. The loop's invariant: the lengths of the own lists of the expanders below i are written.
-use Prim.Native.Nat.{ℕ, ◌*◌}
-use mathlib.Core.Path.{refl}
-use lib.ListN.{length, get_or, length-set}
 use Rattle.files.specs.Rows.{domain_in}
-use Rattle.tables.specs.lists.OwnLists.{own_words}
-use Rattle.tables.proofs.lists.OwnListLoops.{own_count_lem, own_few, counts-next}
+use Rattle.tables.proofs.lists.OwnListLoops.{own_count_lem, own_few}
 use native.Mathlib.Omega.{arith}
-use Rattle.tables.specs.lists.PreparedLists.{own_list_words}
 use Rattle.tables.proofs.events.retesting.put_lengths.Goals as goal
-
-pub loop-i-init : goal.loop-i-init
-loop-i-init c = (omega arith, (refl, λ k h. absurd (omega arith)))
-
-pub bounds-lists-i : goal.bounds-lists-i
-bounds-lists-i c =
-    let at_pre = c.requires in
-    omega (arith, at_pre.0.enough, c.expander_count-n.ensures.0)
 
 pub overflow_cast-counts-in-loop-i : goal.overflow_cast-counts-in-loop-i
 overflow_cast-counts-in-loop-i c =
     let at-args = c.args in
-    let at_pre = c.requires in
-    omega (arith, own_count_lem (domain_in at-args.rows.now) at-args.lists.now at_pre.0 c.loop-i.i (omega (arith, c.expander_count-n.ensures.0)), own_few at-args.rows.now c.loop-i.i)
-
-pub bounds-counts-i : goal.bounds-counts-i
-bounds-counts-i c =
-    let at_pre = c.requires in
-    omega (arith, at_pre.1, c.expander_count-n.ensures.0, c.loop-i.invariant.1.0)
-
-pub loop-i-preserved : goal.loop-i-preserved
-loop-i-preserved c =
-    let at-args = c.args in
-    let at_pre = c.requires in
-    (omega arith, (simp length-set c.loop-i.invariant.1.0, counts-next (λ (k : ℕ). length (own_words (domain_in at-args.rows.now) k)) c.loop-i.counts c.loop-i.i (get_or at-args.lists.now (own_list_words * c.loop-i.i) 0) c.loop-i.invariant.1.1 (own_count_lem (domain_in at-args.rows.now) at-args.lists.now at_pre.0 c.loop-i.i (omega (arith, c.expander_count-n.ensures.0))) (omega (arith, at_pre.1, c.expander_count-n.ensures.0, c.loop-i.invariant.1.0))))
-
-pub shape_of-counts : goal.shape_of-counts
-shape_of-counts c = c.loop-i.invariant.1.0
-
-pub returns : goal.returns
-returns c =
-    let at_pre = c.requires in
-    record { enough = omega (arith, at_pre.1, c.loop-i.invariant.1.0); each = λ i h. c.loop-i.invariant.1.1 i (omega (arith, c.expander_count-n.ensures.0)) }
+    omega (arith, own_count_lem (domain_in at-args.d.now.levels.attached.rows.now) at-args.d.now.lists.now at-args.d.now.owns c.loop-i.i (omega (arith, c.expander_count-n.ensures.0)), own_few at-args.d.now.levels.attached.rows.now c.loop-i.i)

@@ -1,4 +1,4 @@
-use Prim.Native.Nat.{ℕ, ◌-◌, ◌≤◌, ◌<◌}
+use Prim.Native.Nat.{ℕ, ◌<◌}
 use mathlib.Core.Path.{◌≡◌}
 use lib.ListN.{length, get_or}
 use Rattle.files.specs.Rows.{domain_in}
@@ -6,7 +6,4 @@ use Rattle.tables.specs.lists.OwnLists.{own_words}
 use Rattle.tables.proofs.events.retesting.put_lengths.Given as goal
 
 abbrev pub invariant-loop-i : goal.invariant-loop-i
-invariant-loop-i l = (l.i ≤ l.n) × ((length l.counts ≡ length l.initial.counts) × ((k : ℕ) → k < l.i → get_or l.counts k 0 ≡ length (own_words (domain_in l.rows) k)))
-
-abbrev pub decreases-loop-i : goal.decreases-loop-i
-decreases-loop-i l = l.n - l.i
+invariant-loop-i l = (length l.counts ≡ length l.initial.counts) × ((k : ℕ) → k < l.i → get_or l.counts k 0 ≡ length (own_words (domain_in l.d.levels.attached.rows.now) k))

@@ -14,11 +14,6 @@ use native.Mathlib.Omega.{arith}
 use Rattle.tables.specs.lists.PreparedLists.{own_list_words}
 use Rattle.tables.proofs.events.retesting.renew_own.Goals as goal
 
-pub returns-then-e-expander_count : goal.returns-then-e-expander_count
-returns-then-e-expander_count c =
-    let h = c.requires in
-    record { enough = h.enough; cell = λ i k. h.cell i k (λ z. absurd (omega (arith, c.expander_count.ensures.0))) }
-
 pub returns : goal.returns
 returns c =
     let x = c.args in

@@ -6,28 +6,16 @@ use lib.Seq.{length-take-le}
 use Rattle.files.proofs.PastLimits.{rows_cut}
 use Rattle.tables.proofs.filling.all_tables.+put_all.Goals as goal
 
-pub slice_bounds-put_all-end : goal.slice_bounds-put_all-end
-slice_bounds-put_all-end t c =
-    let at-args = c.args in
-    sym (length-take-le most_row_words at-args.rows.now (omega (arith, c.if-rows-gt-ROWS_OF_64.true)))
+pub slice_bounds-cut-end : goal.slice_bounds-cut-end
+slice_bounds-cut-end t c = sym (length-take-le most_row_words c.args.d.now.rows.now (omega (arith, c.if-d-gt-ROWS_OF_64.true)))
+
+pub invariant_of-cut : goal.invariant_of-cut
+invariant_of-cut t c = let ws = c.args.d.now.rows.now in record { indexed = rw (rows_cut ws c.if-d-gt-ROWS_OF_64.true) c.args.d.now.indexed }
 
 pub put_all-requires : goal.put_all-requires
 put_all-requires t c =
-    let at-args = c.args in
-    let at_pre = c.requires in
-    let ws = at-args.rows.now in (omega (arith, length-take-le most_row_words ws (omega (arith, c.if-rows-gt-ROWS_OF_64.true))), rw (rows_cut ws c.if-rows-gt-ROWS_OF_64.true) at_pre)
+    let ws = c.args.d.now.rows.now in
+    (omega (arith, length-take-le most_row_words ws (omega (arith, c.if-d-gt-ROWS_OF_64.true))), rw (rows_cut ws c.if-d-gt-ROWS_OF_64.true) c.requires)
 
-pub returns-then-rows-gt-ROWS_OF_64 : goal.returns-then-rows-gt-ROWS_OF_64
-returns-then-rows-gt-ROWS_OF_64 t c =
-    let at-args = c.args in
-    rw (rows_cut at-args.rows.now c.if-rows-gt-ROWS_OF_64.true) at c.put_all.ensures
-
-pub put_few-requires : goal.put_few-requires
-put_few-requires t c =
-    let at_pre = c.requires in
-    (omega (arith, c.expander_count.ensures.0, c.if-expander_count-le8.true), at_pre)
-
-pub put_many-requires : goal.put_many-requires
-put_many-requires t c =
-    let at_pre = c.requires in
-    at_pre
+pub returns-then-d-gt-ROWS_OF_64 : goal.returns-then-d-gt-ROWS_OF_64
+returns-then-d-gt-ROWS_OF_64 t c = rw (rows_cut c.args.d.now.rows.now c.if-d-gt-ROWS_OF_64.true) at c.put_all.ensures

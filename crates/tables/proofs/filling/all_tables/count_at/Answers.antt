@@ -2,7 +2,6 @@
 use Prim.Native.Nat.{ℕ}
 use mathlib.Core.Path.{ap}
 use native.Mathlib.Omega.{arith}
-use native.Mathlib.Nat.{sub-zero, zero-add}
 use lib.ListN.{length}
 use Rattle.files.specs.Domain.{Domain}
 use Rattle.wiring.specs.phys.PhyCauses.{phy_places}
@@ -10,15 +9,6 @@ use Rattle.files.specs.Rows.{domain_in}
 use Rattle.tables.specs.lists.GrowingLists.{with_tables}
 use Rattle.tables.proofs.filling.TablesPut.{byte_le, phys-last, phys-count, count_none, count_by}
 use Rattle.tables.proofs.filling.all_tables.count_at.Goals as goal
-
-pub loop-p-init : goal.loop-p-init
-loop-p-init c = (omega arith, (omega arith, rw (sub-zero c.phy_count-n.result) (zero-add _)))
-
-pub overflow_cast-sum : goal.overflow_cast-sum
-overflow_cast-sum c = tt
-
-pub overflow_add-sum : goal.overflow_add-sum
-overflow_add-sum c = omega (arith, byte_le c.is_table.result)
 
 pub loop-p-preserved : goal.loop-p-preserved
 loop-p-preserved c =

@@ -5,39 +5,23 @@ use lib.ListN.{drop, length-drop}
 use lib.Seq.{length-take-le}
 use Rattle.files.specs.Domain.{Domain}
 use Rattle.files.specs.Rows.{domain_in}
-use Rattle.files.proofs.ListMembers.{was_true}
 use Rattle.tables.specs.lists.PreparedLists.{own_words_of_order, filled_to}
 use Rattle.tables.proofs.filling.TablesPut.{size-by, put_one}
 use native.Mathlib.Omega.{arith}
 use Rattle.tables.proofs.filling.all_tables.put_table.Goals as goal
 
-pub overflow_add-end : goal.overflow_add-end
-overflow_add-end c =
-    let a = c.args in
-    let s = size-by (domain_in a.rows.now) a.i.0 a.p.0 c.requires.1.1.0 in
-    omega arith
-
 pub slice_bounds-fill_table-end : goal.slice_bounds-fill_table-end
 slice_bounds-fill_table-end c =
     let a = c.args in
-    let s = size-by (domain_in a.rows.now) a.i.0 a.p.0 c.requires.1.1.0 in
+    let s = size-by (domain_in a.d.now.levels.attached.rows.now) a.i.0 a.p.0 c.requires.1.0 in
     omega arith
-
-pub fill_table-requires : goal.fill_table-requires
-fill_table-requires c =
-    let at_pre = c.requires in
-    let a = c.args in
-    let s = size-by (domain_in a.rows.now) a.i.0 a.p.0 at_pre.1.1.0 in
-    let k : ℕ = a.at + c.route_indexes.result - a.at in
-    let n = length-take-le k (drop a.at a.words.now) (simp length-drop (omega arith)) in
-    record { held = at_pre.0; ordered = at_pre.1.0; fits = omega (arith, at_pre.1.1.1.0 a.i.0 a.p.0 (was_true _ at_pre.1.1.0)) }
 
 pub returns : goal.returns
 returns c =
     let at_pre = c.requires in
     let a = c.args in
-    let d : Domain = domain_in a.rows.now in
-    let t = at_pre.1.1.0 in
+    let d : Domain = domain_in a.d.now.levels.attached.rows.now in
+    let t = at_pre.1.0 in
     let s = size-by d a.i.0 a.p.0 t in
     let r : ℕ = c.route_indexes.result in
     let k : ℕ = a.at + r - a.at in

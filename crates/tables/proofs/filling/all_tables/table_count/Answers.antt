@@ -8,7 +8,7 @@ use Rattle.tables.proofs.filling.TablesPut.{from_last, from-count, count_none, c
 use Rattle.tables.proofs.filling.all_tables.table_count.Goals as goal
 
 pub loop-i-init : goal.loop-i-init
-loop-i-init c = (omega arith, (omega arith, zero-add _ ∙ count-all (domain_in c.args.rows.now)))
+loop-i-init c = (omega arith, zero-add _ ∙ count-all (domain_in c.args.rows.now))
 
 pub loop-i-preserved : goal.loop-i-preserved
 loop-i-preserved c =

@@ -1,4 +1,4 @@
-use Prim.Native.Nat.{◌+◌, ◌-◌, ◌*◌, ◌≤◌}
+use Prim.Native.Nat.{◌+◌, ◌*◌, ◌≤◌}
 use mathlib.Core.Path.{◌≡◌}
 use lib.ListN.{length, drop}
 use Rattle.wiring.specs.phys.PhyCauses.{places_from}
@@ -8,10 +8,5 @@ use Rattle.tables.specs.lists.GrowingLists.{with_tables}
 use Rattle.tables.proofs.filling.all_tables.table_count.Given as goal
 
 abbrev pub invariant-loop-i : goal.invariant-loop-i
-invariant-loop-i l =
-    (l.i ≤ l.n)
-    × ((l.sum ≤ 128 * l.i)
-    × (l.sum + length (with_tables (domain_in l.rows) (places_from l.i (drop l.i (domain_in l.rows)))) ≡ length (table_places (domain_in l.rows))))
-
-abbrev pub decreases-loop-i : goal.decreases-loop-i
-decreases-loop-i l = l.n - l.i
+invariant-loop-i l = (l.sum ≤ 128 * l.i)
+    × (l.sum + length (with_tables (domain_in l.rows) (places_from l.i (drop l.i (domain_in l.rows)))) ≡ length (table_places (domain_in l.rows)))

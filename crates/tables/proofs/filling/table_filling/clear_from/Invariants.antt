@@ -7,10 +7,5 @@ use Rattle.tables.proofs.filling.table_filling.clear_from.Given as goal
 
 abbrev pub invariant-loop-i : goal.invariant-loop-i
 invariant-loop-i l =
-    (l.initial.i ≤ l.i)
-    × ((l.i ≤ length l.initial.part)
-    × ((length l.part ≡ length l.initial.part)
-    × ((l.part ≡ (take l.initial.i l.initial.part ++ replicate (l.i - l.initial.i) 0) ++ drop l.i l.initial.part) × (Replaced (copied l.initial.i l.initial.sum) (copied l.i l.sum) l.initial.part l.part × (l.sum ≤ l.i)))))
-
-abbrev pub decreases-loop-i : goal.decreases-loop-i
-decreases-loop-i l = length l.initial.part - l.i
+    (length l.part ≡ length l.initial.part)
+    × ((l.part ≡ (take l.initial.i l.initial.part ++ replicate (l.i - l.initial.i) 0) ++ drop l.i l.initial.part) × (Replaced (copied l.initial.i l.initial.sum) (copied l.i l.sum) l.initial.part l.part × (l.sum ≤ l.i)))

@@ -1,4 +1,4 @@
-use Prim.Native.Nat.{◌-◌, ◌≤◌}
+use Prim.Native.Nat.{◌≤◌}
 use mathlib.Core.List.{◌++◌, flat_map}
 use mathlib.Core.Path.{◌≡◌}
 use lib.ListN.{length, take, drop}
@@ -8,11 +8,6 @@ use Rattle.tables.specs.filling.WordsChanged.{copied, Replaced}
 use Rattle.tables.proofs.filling.table_filling.copy_lists.Given as goal
 
 abbrev pub invariant-loop-k : goal.invariant-loop-k
-invariant-loop-k l =
-    (l.k ≤ length l.order)
-    × ((length l.part ≡ length l.initial.part)
+invariant-loop-k l = (length l.part ≡ length l.initial.part)
     × ((l.s.at ≤ length l.initial.part)
-    × ((take l.s.at l.part ++ flat_map (own_words (domain_in l.rows)) (drop l.k l.order) ≡ flat_map (own_words (domain_in l.rows)) l.order) × Replaced (copied 0 0) l.s l.initial.part l.part)))
-
-abbrev pub decreases-loop-k : goal.decreases-loop-k
-decreases-loop-k l = length l.order - l.k
+    × ((take l.s.at l.part ++ flat_map (own_words (domain_in l.d.levels.attached.rows.now)) (drop l.k l.order) ≡ flat_map (own_words (domain_in l.d.levels.attached.rows.now)) l.order) × Replaced (copied 0 0) l.s l.initial.part l.part))

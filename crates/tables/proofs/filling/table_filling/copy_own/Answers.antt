@@ -8,8 +8,8 @@ use Rattle.files.specs.Domain.{Domain}
 use Rattle.files.specs.Rows.{domain_in}
 use Rattle.tables.specs.lists.OwnLists.{own_words}
 use Rattle.tables.specs.lists.PreparedLists.{OwnListsHeld, own_list_words}
-use Rattle.tables.proofs.lists.GrowingLists.{grown-kept, grown-same}
-use Rattle.tables.proofs.lists.OwnListLoops.{own_count_lem, own_list, own_fits, own_none, own_few}
+use Rattle.tables.proofs.lists.GrowingLists.{grown-kept}
+use Rattle.tables.proofs.lists.OwnListLoops.{own_count_lem, own_list, own_none}
 use Rattle.tables.proofs.filling.WordsChanged.{replaced-none}
 use Rattle.tables.proofs.filling.table_filling.copy_own.Goals as goal
 
@@ -23,28 +23,4 @@ part-own d words held i h =
 pub returns-then-i-expander_count : goal.returns-then-i-expander_count
 returns-then-i-expander_count c =
     let at-args = c.args in
-    (grown-kept at-args.s.at at-args.part.now (ap (λ (m : List ℕ). take at-args.s.at at-args.part.now ++ m) (own_none (domain_in at-args.rows.now) at-args.i.0 (omega (arith, c.expander_count.ensures.0))) ∙ append-nil (take at-args.s.at at-args.part.now)) (omega arith), replaced-none at-args.s at-args.part.now)
-
-pub overflow_add-to : goal.overflow_add-to
-overflow_add-to c =
-    let at-args = c.args in
-    let at_pre = c.requires in
-    omega (arith, own_count_lem (domain_in at-args.rows.now) at-args.lists.now at_pre.0 at-args.i.0 (omega (arith, c.expander_count.ensures.0)), own_few at-args.rows.now at-args.i.0)
-
-pub slice_bounds-copy_words-end : goal.slice_bounds-copy_words-end
-slice_bounds-copy_words-end c =
-    let at-args = c.args in
-    let at_pre = c.requires in
-    omega (arith, own_count_lem (domain_in at-args.rows.now) at-args.lists.now at_pre.0 at-args.i.0 (omega (arith, c.expander_count.ensures.0)), own_fits (domain_in at-args.rows.now) at-args.lists.now at_pre.0 at-args.i.0 (omega (arith, c.expander_count.ensures.0)))
-
-pub copy_words-requires : goal.copy_words-requires
-copy_words-requires c =
-    let at_pre = c.requires in
-    let at-args = c.args in
-    (at_pre.1.0, omega (arith, ap length (part-own (domain_in at-args.rows.now) at-args.lists.now at_pre.0 at-args.i.0 (omega (arith, c.expander_count.ensures.0))), at_pre.1.1))
-
-pub returns : goal.returns
-returns c =
-    let at-args = c.args in
-    let at_pre = c.requires in
-    (grown-same c.copy_words.ensures.0 (ap (λ (m : List ℕ). take at-args.s.at at-args.part.now ++ m) (part-own (domain_in at-args.rows.now) at-args.lists.now at_pre.0 at-args.i.0 (omega (arith, c.expander_count.ensures.0)))), c.copy_words.ensures.1)
+    (grown-kept at-args.s.at at-args.part.now (ap (λ (m : List ℕ). take at-args.s.at at-args.part.now ++ m) (own_none (domain_in at-args.d.now.levels.attached.rows.now) at-args.i.0 (omega (arith, c.expander_count.ensures.0))) ∙ append-nil (take at-args.s.at at-args.part.now)) (omega arith), replaced-none at-args.s at-args.part.now)

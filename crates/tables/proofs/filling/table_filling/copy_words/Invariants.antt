@@ -1,4 +1,4 @@
-use Prim.Native.Nat.{◌+◌, ◌-◌, ◌≤◌}
+use Prim.Native.Nat.{◌+◌, ◌≤◌}
 use mathlib.Core.List.{◌++◌}
 use mathlib.Core.Path.{◌≡◌}
 use lib.ListN.{length, take, drop}
@@ -6,11 +6,6 @@ use Rattle.tables.specs.filling.WordsChanged.{copied, Replaced}
 use Rattle.tables.proofs.filling.table_filling.copy_words.Given as goal
 
 abbrev pub invariant-loop-k : goal.invariant-loop-k
-invariant-loop-k l =
-    (l.k ≤ length l.words)
-    × ((l.to ≡ l.initial.to + l.k)
+invariant-loop-k l = (l.to ≡ l.initial.to + l.k)
     × ((length l.part ≡ length l.initial.part)
-    × ((take l.to l.part ++ drop l.k l.words ≡ take l.initial.to l.initial.part ++ l.words) × (Replaced (copied l.initial.to l.initial.sum) (copied l.to l.sum) l.initial.part l.part × (l.sum ≤ l.to)))))
-
-abbrev pub decreases-loop-k : goal.decreases-loop-k
-decreases-loop-k l = length l.words - l.k
+    × ((take l.to l.part ++ drop l.k l.words ≡ take l.initial.to l.initial.part ++ l.words) × (Replaced (copied l.initial.to l.initial.sum) (copied l.to l.sum) l.initial.part l.part × (l.sum ≤ l.to))))

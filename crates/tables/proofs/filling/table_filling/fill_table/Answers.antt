@@ -10,10 +10,10 @@ pub copy_lists-s-requires : goal.copy_lists-s-requires
 copy_lists-s-requires c =
     let at_pre = c.requires in
     let at-args = c.args in
-    (at_pre.held, filled-room (domain_in at-args.rows.now) at-args.x.0 at-args.p.0 at_pre)
+    filled-room (domain_in at-args.d.now.levels.attached.rows.now) at-args.x.0 at-args.p.0 at_pre
 
 pub returns : goal.returns
 returns c =
     let at-args = c.args in
     let at_pre = c.requires in
-    (order-filled (domain_in at-args.rows.now) at-args.x.0 at-args.p.0 at_pre c.copy_lists-s.ensures.0 c.clear_from.ensures.0 refl, (all-counted c.copy_lists-s.result c.clear_from.result at-args.part.now _ _ _ c.copy_lists-s.ensures.1 c.clear_from.ensures.0 c.clear_from.ensures.1.0 (omega (arith, c.copy_lists-s.ensures.0.same, c.copy_lists-s.ensures.0.fits)), omega (arith, c.clear_from.ensures.1.1, c.copy_lists-s.ensures.1.less, c.copy_lists-s.ensures.0.same)))
+    (order-filled (domain_in at-args.d.now.levels.attached.rows.now) at-args.x.0 at-args.p.0 at_pre c.copy_lists-s.ensures.0 c.clear_from.ensures.0 refl, (all-counted c.copy_lists-s.result c.clear_from.result at-args.part.now _ _ _ c.copy_lists-s.ensures.1 c.clear_from.ensures.0 c.clear_from.ensures.1.0 (omega (arith, c.copy_lists-s.ensures.0.same, c.copy_lists-s.ensures.0.fits)), omega (arith, c.clear_from.ensures.1.1, c.copy_lists-s.ensures.1.less, c.copy_lists-s.ensures.0.same)))

@@ -1,16 +1,13 @@
 -- add_number meets its contract: a number that is there already, or has no room, leaves the list, and any other one goes behind it.
 use Prim.Native.Nat.{ℕ}
 use mathlib.Core.List.{List}
-use mathlib.Core.Path.{refl, sym}
+use mathlib.Core.Path.{refl}
 use native.Mathlib.Omega.{arith}
 use lib.ListN.{length, take}
 use lib.Seq.{length-take-le}
 use borrow.Author.Tests.{le-leb, lt-leb}
 use Rattle.tables.proofs.lists.GrowingLists.{add-by, grown-kept, grown-more}
 use Rattle.tables.proofs.levels.downstream.add_number.Goals as goal
-
-pub slice_bounds-has_number-end-2 : goal.slice_bounds-has_number-end-2
-slice_bounds-has_number-end-2 c = sym (length-take-le _ _ (omega arith))
 
 pub returns-then-has_number : goal.returns-then-has_number
 returns-then-has_number c =

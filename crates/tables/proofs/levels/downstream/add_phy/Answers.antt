@@ -13,24 +13,21 @@ use Rattle.tables.proofs.levels.LinkPhys.{far-down}
 use native.Mathlib.Omega.{arith}
 use Rattle.tables.proofs.levels.downstream.add_phy.Goals as goal
 
-pub is_down-requires : goal.is_down-requires
-is_down-requires c = record { index = c.requires.0; phy = c.requires.1.0 }
-
 pub returns-then-not-is_down : goal.returns-then-not-is_down
 returns-then-not-is_down c =
     let a = c.args in
-    let e = downstream-none (domain_in a.rows.now) a.f (sym c.is_down.ensures ∙ not-true _ c.if-not-is_down.true-raw) in
+    let e = downstream-none (domain_in a.d.now.rows.now) a.f (sym c.is_down.ensures ∙ not-true _ c.if-not-is_down.true-raw) in
     let room : ℕ = length a.part.now in
     let l : List ℕ = take a.m a.part.now in
-    grown-kept a.m a.part.now (ap (add_all room l) e ∙ add_all-none room l) (omega (arith, c.requires.1.1))
+    grown-kept a.m a.part.now (ap (add_all room l) e ∙ add_all-none room l) (omega (arith, c.requires.1))
 
 pub returns : goal.returns
 returns c =
     let at_pre = c.requires in
     let a = c.args in
-    let d : Domain = domain_in a.rows.now in
+    let d : Domain = domain_in a.d.now.rows.now in
     let room : ℕ = length a.part.now in
     let l : List ℕ = take a.m a.part.now in
     let down = sym c.is_down.ensures ∙ not-false _ c.if-not-is_down.false-raw in
-    let j : c.attached_expander.result.0 ≡ number_of d (address_of a.f) = c.attached_expander.ensures ∙ far-down a.rows.now a.first.now a.i.0 a.p.0 a.f (record { index = at_pre.0; phy = at_pre.1.0 }) down in
+    let j : c.attached_expander.result.0 ≡ number_of d (address_of a.f) = c.attached_expander.ensures ∙ far-down a.d.now.rows.now a.d.now.first.now a.i.0 a.p.0 a.f a.d.now.attached at_pre.0 down in
     grown-same c.add_number.ensures (ap (λ (v : ℕ). add_all room l (v ∷ [])) j ∙ sym (ap (add_all room l) (downstream-one d a.f down)))

@@ -2,7 +2,7 @@
 use Prim.Native.Nat.{ℕ, ◌+◌, ◌≤◌, ◌<◌}
 use mathlib.Core.Bool.{Bool, true, false, cond}
 use mathlib.Core.List.{List}
-use mathlib.Core.Path.{◌≡◌, refl, sym}
+use mathlib.Core.Path.{◌≡◌, sym}
 use native.Mathlib.Omega.{arith}
 use lib.ListN.{length, get_or, drop}
 use Rattle.files.specs.Lists.{is_in}
@@ -24,19 +24,13 @@ module _ (a i : ℕ) (l : List ℕ) {v : Bool} where
   found-end true inv h = inv
   found-end false inv h = in_end a i l inv h
 
-pub loop-i-init : goal.loop-i-init
-loop-i-init c = (omega arith, refl)
-
 pub loop-i-preserved : goal.loop-i-preserved
 loop-i-preserved c =
     let a = c.args in
-    let h : c.loop-i.i < length a.l.now = c.loop-i-test.true in (
-      omega arith,
-      elim c.if-l-i.branch [
-        | then-l-i w ↦ rw w.found-is (found-stop a.j.0 c.loop-i.i a.l.now c.loop-i.found c.loop-i.invariant.1 (sym w.if-l-i.true) h)
-        | else-l-i w ↦ rw w.found-is (found-go a.j.0 c.loop-i.i a.l.now c.loop-i.found c.loop-i.invariant.1 (λ e. w.if-l-i.false (sym e)) h)
-      ],
-    )
+    let h : c.loop-i.i < length a.l.now = c.loop-i-test.true in elim c.if-l-i.branch [
+      | then-l-i w ↦ rw w.found-is (found-stop a.j.0 c.loop-i.i a.l.now c.loop-i.found c.loop-i.invariant (sym w.if-l-i.true) h)
+      | else-l-i w ↦ rw w.found-is (found-go a.j.0 c.loop-i.i a.l.now c.loop-i.found c.loop-i.invariant (λ e. w.if-l-i.false (sym e)) h)
+    ]
 
 pub returns : goal.returns
-returns c = found-end _ c.loop-i.i c.args.l.now c.loop-i.found c.loop-i.invariant.1 (omega arith)
+returns c = found-end _ c.loop-i.i c.args.l.now c.loop-i.found c.loop-i.invariant (omega arith)

@@ -1,4 +1,3 @@
-use Prim.Native.Nat.{◌-◌, ◌≤◌}
 use mathlib.Core.Path.{◌≡◌}
 use lib.ListN.{length}
 use Rattle.files.specs.Rows.{domain_in}
@@ -6,7 +5,4 @@ use Rattle.tables.specs.lists.PreparedLists.{Cells, downstream_once, downstream_
 use Rattle.tables.proofs.levels.downstream.put_downstream.Given as goal
 
 abbrev pub invariant-loop-i : goal.invariant-loop-i
-invariant-loop-i l = (l.i ≤ l.n) × ((length l.downstream ≡ length l.initial.downstream) × Cells downstream_bytes (downstream_once (domain_in l.rows)) l.i l.downstream)
-
-abbrev pub decreases-loop-i : goal.decreases-loop-i
-decreases-loop-i l = l.n - l.i
+invariant-loop-i l = (length l.downstream ≡ length l.initial.downstream) × Cells downstream_bytes (downstream_once (domain_in l.d.rows.now)) l.i l.downstream

@@ -8,7 +8,7 @@ use Rattle.files.specs.Domain.{Domain}
 use Rattle.files.specs.Rows.{domain_in}
 use Rattle.files.proofs.RowsAsDomain.{domain-few}
 use Rattle.tables.specs.lists.PreparedLists.{downstream_once, DownstreamListsHeld, downstream_bytes, most_downstream}
-use Rattle.tables.proofs.lists.GrowingLists.{grown-kept, grown-same}
+use Rattle.tables.proofs.lists.GrowingLists.{grown-kept}
 use Rattle.tables.proofs.lists.ListCells.{cell-count, cell-list, cell-fits}
 use Rattle.tables.proofs.levels.DownstreamLists.{downstream-few, downstream-past}
 use Rattle.tables.proofs.levels.order.append_downstream.Goals as goal
@@ -36,40 +36,12 @@ returns-then-i-expander_count c =
     let a = c.args in
     let e = c.expander_count.ensures.0 in
     let l : List ℕ = take a.m a.order.now in
-    let p = downstream-past (domain_in a.rows.now) a.i.0 (omega arith) in
+    let p = downstream-past (domain_in a.d.now.attached.rows.now) a.i.0 (omega arith) in
     grown-kept a.m a.order.now (ap (λ (m : List ℕ). l ++ m) p ∙ append-nil l) (omega arith)
-
-pub overflow_cast-to : goal.overflow_cast-to
-overflow_cast-to c =
-    let e = c.expander_count.ensures.0 in
-    let a = c.args in
-    let r = reads (domain_in a.rows.now) a.downstream.now c.requires.0 (domain-few a.rows.now) a.i.0 (omega arith) in
-    omega (arith, r.count, r.few)
-
-pub overflow_add-to : goal.overflow_add-to
-overflow_add-to c =
-    let e = c.expander_count.ensures.0 in
-    let a = c.args in
-    let r = reads (domain_in a.rows.now) a.downstream.now c.requires.0 (domain-few a.rows.now) a.i.0 (omega arith) in
-    omega (arith, r.count, r.few)
-
-pub slice_bounds-append_numbers-end : goal.slice_bounds-append_numbers-end
-slice_bounds-append_numbers-end c =
-    let e = c.expander_count.ensures.0 in
-    let a = c.args in
-    let r = reads (domain_in a.rows.now) a.downstream.now c.requires.0 (domain-few a.rows.now) a.i.0 (omega arith) in
-    omega (arith, r.count, r.fits)
 
 pub append_numbers-requires : goal.append_numbers-requires
 append_numbers-requires c =
     let e = c.expander_count.ensures.0 in
     let a = c.args in
-    let r = reads (domain_in a.rows.now) a.downstream.now c.requires.0 (domain-few a.rows.now) a.i.0 (omega arith) in
-    omega (arith, ap length r.list, r.few, c.requires.1)
-
-pub returns : goal.returns
-returns c =
-    let e = c.expander_count.ensures.0 in
-    let a = c.args in
-    let r = reads (domain_in a.rows.now) a.downstream.now c.requires.0 (domain-few a.rows.now) a.i.0 (omega arith) in
-    grown-same c.append_numbers.ensures (ap (λ (l : List ℕ). take a.m a.order.now ++ l) r.list)
+    let r = reads (domain_in a.d.now.attached.rows.now) a.d.now.downstream.now a.d.now.held (domain-few a.d.now.attached.rows.now) a.i.0 (omega arith) in
+    omega (arith, ap length r.list, r.few, c.requires)

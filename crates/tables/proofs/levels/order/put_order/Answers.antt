@@ -9,42 +9,28 @@ use Rattle.tables.proofs.lists.GrowingLists.{grown-length}
 use native.Mathlib.Omega.{arith}
 use Rattle.tables.proofs.levels.order.put_order.Goals as goal
 
-pub first_level-m-requires : goal.first_level-m-requires
-first_level-m-requires c =
-    let at_pre = c.requires in
-    (at_pre.0, omega (arith, at_pre.1.1))
-
 pub loop-k-init : goal.loop-k-init
 loop-k-init c =
     let a = c.args in
     let g = c.first_level-m.ensures in
-    (omega arith, (refl, queue-start (domain_in a.rows.now) _ _ _ (omega (arith, g.same, g.fits)) (omega (arith, grown-length g, first-few (domain_in a.rows.now) a.f))))
+    (refl, queue-start (domain_in a.d.now.attached.rows.now) _ _ _ (omega (arith, g.same, g.fits)) (omega (arith, grown-length g, first-few (domain_in a.d.now.attached.rows.now) a.f)))
 
 pub returns-then-k-m : goal.returns-then-k-m
 returns-then-k-m c =
     let g = c.first_level-m.ensures in
     let a = c.args in
-    let d : Domain = domain_in a.rows.now in
-    record { same = c.loop-k.invariant.1.0 ∙ g.same; fits = omega (arith, c.loop-k.invariant.1.0, g.same, c.loop-k.invariant.1.1.fits); whole = order-by d a.f (queue-stop d c.loop-k.invariant.1.1 (omega arith)) c.expander_count-turns.ensures.0 g.whole }
-
-pub bounds-order-k : goal.bounds-order-k
-bounds-order-k c = omega (arith, c.loop-k.invariant.1.1.fits)
-
-pub append_downstream-m-requires : goal.append_downstream-m-requires
-append_downstream-m-requires c =
-    let at_pre = c.requires in
-    let g = c.first_level-m.ensures in
-    (at_pre.1.0, omega (arith, at_pre.1.1, g.same, c.loop-k.invariant.1.0, c.loop-k.invariant.1.1.few, c.expander_count-turns.ensures.0, c.expander_count-turns.ensures.1))
+    let d : Domain = domain_in a.d.now.attached.rows.now in
+    record { same = c.loop-k.invariant.0 ∙ g.same; fits = omega (arith, c.loop-k.invariant.0, g.same, c.loop-k.invariant.1.fits); whole = order-by d a.f (queue-stop d c.loop-k.invariant.1 (omega arith)) c.expander_count-turns.ensures.0 g.whole }
 
 pub loop-k-preserved : goal.loop-k-preserved
 loop-k-preserved c =
     let a = c.args in
     let g = c.append_downstream-m.ensures in
-    (omega arith, (g.same ∙ c.loop-k.invariant.1.0, queue-go (domain_in a.rows.now) c.loop-k.invariant.1.1 g (domain-few a.rows.now) (omega arith) (omega arith)))
+    (g.same ∙ c.loop-k.invariant.0, queue-go (domain_in a.d.now.attached.rows.now) c.loop-k.invariant.1 g (domain-few a.d.now.attached.rows.now) (omega arith) (omega arith))
 
 pub returns : goal.returns
 returns c =
     let g = c.first_level-m.ensures in
     let a = c.args in
-    let d : Domain = domain_in a.rows.now in
-    record { same = c.loop-k.invariant.1.0 ∙ g.same; fits = omega (arith, c.loop-k.invariant.1.0, g.same, c.loop-k.invariant.1.1.fits); whole = order-by d a.f (queue-end d c.loop-k.invariant.1.1 (omega arith)) c.expander_count-turns.ensures.0 g.whole }
+    let d : Domain = domain_in a.d.now.attached.rows.now in
+    record { same = c.loop-k.invariant.0 ∙ g.same; fits = omega (arith, c.loop-k.invariant.0, g.same, c.loop-k.invariant.1.fits); whole = order-by d a.f (queue-end d c.loop-k.invariant.1 (omega arith)) c.expander_count-turns.ensures.0 g.whole }

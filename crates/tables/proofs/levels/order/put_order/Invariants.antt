@@ -1,4 +1,3 @@
-use Prim.Native.Nat.{◌-◌, ◌≤◌}
 use mathlib.Core.Path.{◌≡◌}
 use lib.ListN.{length, take}
 use Rattle.files.specs.Rows.{domain_in}
@@ -6,7 +5,4 @@ use Rattle.tables.proofs.levels.LevelOrders.{Queued}
 use Rattle.tables.proofs.levels.order.put_order.Given as goal
 
 abbrev pub invariant-loop-k : goal.invariant-loop-k
-invariant-loop-k l = (l.k ≤ l.turns) × ((length l.order ≡ length l.initial.order) × Queued (domain_in l.rows) (take l.initial.m l.initial.order) l.turns l.k l.m l.order)
-
-abbrev pub decreases-loop-k : goal.decreases-loop-k
-decreases-loop-k l = l.turns - l.k
+invariant-loop-k l = (length l.order ≡ length l.initial.order) × Queued (domain_in l.d.attached.rows.now) (take l.initial.m l.initial.order) l.turns l.k l.m l.order

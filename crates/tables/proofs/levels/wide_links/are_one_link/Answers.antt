@@ -12,24 +12,16 @@ use Rattle.tables.proofs.levels.wide_links.are_one_link.Goals as goal
 pub returns-then-phy_address : goal.returns-then-phy_address
 returns-then-phy_address c =
     let a = c.args in
-    let d = domain_in a.rows.now in
+    let d = domain_in a.d.now.rows.now in
     let f = c.phy_address.ensures in
     let g = c.phy_address-2.ensures in
     sym (linked-by d a.f a.g refl refl (ne_eqb (address_of a.f) (address_of a.g) (λ e. omega arith))
     ∙ ap (λ b. down d a.f && b) (and-false (down d a.g)) ∙ and-false (down d a.f))
 
-pub is_down-requires : goal.is_down-requires
-is_down-requires c = c.requires.0
-
 pub returns-then-not-is_down : goal.returns-then-not-is_down
 returns-then-not-is_down c =
     let a = c.args in
-    sym (linked-by (domain_in a.rows.now) a.f a.g (sym c.is_down.ensures ∙ not-true _ c.if-not-is_down.true-raw) refl refl)
-
-pub is_down-requires-2 : goal.is_down-requires-2
-is_down-requires-2 c =
-    let at_pre = c.requires in
-    at_pre.1
+    sym (linked-by (domain_in a.d.now.rows.now) a.f a.g (sym c.is_down.ensures ∙ not-true _ c.if-not-is_down.true-raw) refl refl)
 
 pub returns : goal.returns
 returns c =
@@ -37,4 +29,4 @@ returns c =
     let f = c.phy_address.ensures in
     let g = c.phy_address-2.ensures in
     let same = eq-eqb (address_of a.f) (address_of a.g) (omega arith) in
-    c.is_down-2.ensures ∙ sym (linked-by (domain_in a.rows.now) a.f a.g (sym c.is_down.ensures ∙ not-false _ c.if-not-is_down.false-raw) refl same ∙ and-true _)
+    c.is_down-2.ensures ∙ sym (linked-by (domain_in a.d.now.rows.now) a.f a.g (sym c.is_down.ensures ∙ not-false _ c.if-not-is_down.false-raw) refl same ∙ and-true _)

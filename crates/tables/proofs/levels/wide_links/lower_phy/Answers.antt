@@ -6,22 +6,13 @@ use Rattle.tables.proofs.levels.LinkPhys.{linked-at}
 use native.Mathlib.Omega.{arith}
 use Rattle.tables.proofs.levels.wide_links.lower_phy.Goals as goal
 
-pub returns-then-phy_attribute-ne2 : goal.returns-then-phy_attribute-ne2
-returns-then-phy_attribute-ne2 c = λ h. absurd (omega (arith, h))
-
-pub returns-then-q-p : goal.returns-then-q-p
-returns-then-q-p c = λ h. absurd (omega (arith, h))
-
 pub are_one_link-requires : goal.are_one_link-requires
 are_one_link-requires c =
     let at_pre = c.requires in
-    (at_pre.0, record { index = at_pre.0.index; phy = c.phy_in_row-g.ensures ∙ phy-held _ _ _ (omega (arith, at_pre.1)) })
+    (at_pre.0, c.phy_in_row-g.ensures ∙ phy-held _ _ _ (omega (arith, at_pre.1)))
 
 pub returns-then-are_one_link : goal.returns-then-are_one_link
 returns-then-are_one_link c =
     let at-args = c.args in
     let at_pre = c.requires in
-    λ h. linked-at (domain_in at-args.rows.now) at_pre.0.phy (c.phy_in_row-g.ensures ∙ phy-held _ _ _ (omega (arith, at_pre.1))) c.are_one_link.ensures c.if-are_one_link.true
-
-pub returns : goal.returns
-returns c = λ h. absurd (omega (arith, h))
+    λ h. linked-at (domain_in at-args.d.now.rows.now) at_pre.0 (c.phy_in_row-g.ensures ∙ phy-held _ _ _ (omega (arith, at_pre.1))) c.are_one_link.ensures c.if-are_one_link.true

@@ -10,37 +10,22 @@ use Rattle.tables.specs.lists.OwnLists.{own_words}
 use Rattle.tables.proofs.lists.GrowingLists.{flat_next, flat_last}
 use Rattle.tables.proofs.lists.overlong.count_words.Goals as goal
 
-pub loop-k-init : goal.loop-k-init
-loop-k-init c = (omega arith, (omega arith, omega arith))
-
-pub own_count-sum-requires : goal.own_count-sum-requires
-own_count-sum-requires c =
-    let at_pre = c.requires in
-    at_pre.0
-
-pub overflow_add-sum : goal.overflow_add-sum
-overflow_add-sum c =
-    let at_pre = c.requires in
-    let n = at_pre.1 in
-    let r = c.own_count-sum.ensures.1 in
-    omega arith
-
 pub loop-k-preserved : goal.loop-k-preserved
 loop-k-preserved c =
     let a = c.args in
-    let d : Domain = domain_in a.rows.now in
+    let d : Domain = domain_in a.d.now.levels.attached.rows.now in
     let order : List ℕ = a.order.now in
     let r = c.own_count-sum.ensures in
     let here : List ℕ = own_words d (get_or order c.loop-k.k 0) in
     let rest : List ℕ = flat_map (own_words d) (drop (c.loop-k.k + 1) order) in
     let e = ap length (flat_next (own_words d) 0 order c.loop-k.k (omega arith)) ∙ length-append here rest in
-    let v = c.loop-k.invariant.1.1 in
-    (omega arith, (omega arith, omega arith))
+    let v = c.loop-k.invariant.1 in
+    (omega arith, omega arith)
 
 pub returns : goal.returns
 returns c =
     let a = c.args in
-    let d : Domain = domain_in a.rows.now in
+    let d : Domain = domain_in a.d.now.levels.attached.rows.now in
     let e = ap length (flat_last (own_words d) a.order.now c.loop-k.k (omega arith)) in
-    let v = c.loop-k.invariant.1.1 in
+    let v = c.loop-k.invariant.1 in
     omega arith

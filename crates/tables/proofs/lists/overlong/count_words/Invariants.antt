@@ -1,4 +1,4 @@
-use Prim.Native.Nat.{◌+◌, ◌-◌, ◌*◌, ◌≤◌}
+use Prim.Native.Nat.{◌+◌, ◌*◌, ◌≤◌}
 use mathlib.Core.List.{flat_map}
 use mathlib.Core.Path.{◌≡◌}
 use lib.ListN.{length, drop}
@@ -7,10 +7,5 @@ use Rattle.tables.specs.lists.OwnLists.{own_words}
 use Rattle.tables.proofs.lists.overlong.count_words.Given as goal
 
 abbrev pub invariant-loop-k : goal.invariant-loop-k
-invariant-loop-k l =
-    (l.k ≤ length l.order)
-    × ((l.sum ≤ 128 * l.k)
-    × (l.sum + length (flat_map (own_words (domain_in l.rows)) (drop l.k l.order)) ≡ length (flat_map (own_words (domain_in l.rows)) l.order)))
-
-abbrev pub decreases-loop-k : goal.decreases-loop-k
-decreases-loop-k l = length l.order - l.k
+invariant-loop-k l = (l.sum ≤ 128 * l.k)
+    × (l.sum + length (flat_map (own_words (domain_in l.d.levels.attached.rows.now)) (drop l.k l.order)) ≡ length (flat_map (own_words (domain_in l.d.levels.attached.rows.now)) l.order))

@@ -2,12 +2,5 @@
 use Rattle.tables.proofs.levels.LinkPhys.{attached-known}
 use Rattle.tables.proofs.lists.overlong.overlong_in.Goals as goal
 
-pub put_downstream-requires : goal.put_downstream-requires
-put_downstream-requires c =
-    let at_pre = c.requires in
-    (attached-known _ _ at_pre.0.firsts, at_pre.1.0)
-
-pub overlong_each-requires : goal.overlong_each-requires
-overlong_each-requires c =
-    let at_pre = c.requires in
-    (attached-known _ _ at_pre.0.firsts, (c.put_counts.ensures, (c.put_downstream.ensures, (at_pre.1.1.0, at_pre.1.1.1))))
+pub invariant_of-attached : goal.invariant_of-attached
+invariant_of-attached c = record { attached = attached-known _ _ c.args.d.now.indexed.firsts }

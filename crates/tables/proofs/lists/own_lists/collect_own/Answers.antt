@@ -12,26 +12,21 @@ use native.Mathlib.Omega.{arith}
 use Rattle.tables.proofs.lists.own_lists.collect_own.Goals as goal
 
 pub loop-p-init : goal.loop-p-init
-loop-p-init c = (omega arith, (refl, (omega arith, own_start (domain_in c.args.rows.now) c.args.i.0)))
-
-pub put_word-m-requires : goal.put_word-m-requires
-put_word-m-requires c =
-    let at_pre = c.requires in
-    omega (arith, c.loop-p.invariant.1.0, at_pre.1, c.phy_count-n.ensures.1)
+loop-p-init c = (refl, (omega arith, own_start (domain_in c.args.d.now.rows.now) c.args.i.0))
 
 pub loop-p-preserved : goal.loop-p-preserved
 loop-p-preserved c =
     let at_pre = c.requires in
     let a = c.args in
-    let φs : List Phy = (expander_at (domain_in a.rows.now) a.i.0).phys in
+    let φs : List Phy = (expander_at (domain_in a.d.now.rows.now) a.i.0).phys in
     let n = c.phy_count-n.ensures in
     let g = c.put_word-m.ensures in
     let most = put-most c.loop-p.m c.is_own-mine.result (word c.phy_in_row-f.result) g in
-    let o = c.is_own-mine.ensures ∙ owns-low (domain_in a.rows.now) a.i.0 c.loop-p.p a.low.now c.phy_in_row-f.result (c.phy_in_row-f.ensures ∙ phy-held _ _ _ (omega arith)) (omega arith) at_pre.0 in
-    (omega arith, (g.same ∙ c.loop-p.invariant.1.0, (omega arith, own_go φs c.loop-p.p (take c.loop-p.m c.loop-p.part) c.loop-p.invariant.1.1.1 c.phy_in_row-f.result (c.phy_in_row-f.ensures ∙ phy-held _ _ _ (omega arith)) o g.whole (omega arith))))
+    let o = c.is_own-mine.ensures ∙ owns-low (domain_in a.d.now.rows.now) a.i.0 c.loop-p.p a.d.now.low.now c.phy_in_row-f.result (c.phy_in_row-f.ensures ∙ phy-held _ _ _ (omega arith)) (omega arith) a.d.now.indexed.lows in
+    (g.same ∙ c.loop-p.invariant.0, (omega arith, own_go φs c.loop-p.p (take c.loop-p.m c.loop-p.part) c.loop-p.invariant.1.1 c.phy_in_row-f.result (c.phy_in_row-f.ensures ∙ phy-held _ _ _ (omega arith)) o g.whole (omega arith)))
 
 pub returns : goal.returns
 returns c =
     let at_pre = c.requires in
     let at-args = c.args in
-    record { same = c.loop-p.invariant.1.0; fits = omega (arith, c.loop-p.invariant.1.1.0, at_pre.1, c.phy_count-n.ensures.1); whole = own_end (expander_at (domain_in at-args.rows.now) at-args.i.0).phys c.loop-p.p (take c.loop-p.m c.loop-p.part) c.loop-p.invariant.1.1.1 (omega (arith, c.phy_count-n.ensures.0)) }
+    record { same = c.loop-p.invariant.0; fits = omega (arith, c.loop-p.invariant.1.0, at_pre, c.phy_count-n.ensures.1); whole = own_end (expander_at (domain_in at-args.d.now.rows.now) at-args.i.0).phys c.loop-p.p (take c.loop-p.m c.loop-p.part) c.loop-p.invariant.1.1 (omega (arith, c.phy_count-n.ensures.0)) }

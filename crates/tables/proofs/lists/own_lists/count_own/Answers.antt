@@ -11,21 +11,17 @@ use native.Mathlib.Omega.{arith}
 use Rattle.tables.proofs.lists.own_lists.count_own.Goals as goal
 
 pub loop-p-init : goal.loop-p-init
-loop-p-init c = (omega arith, (omega arith, omega (arith, ap length (own_start (domain_in c.args.rows.now) c.args.i.0))))
-
-pub counted-m-requires : goal.counted-m-requires
-counted-m-requires c = omega (arith, c.phy_count-n.ensures.1, c.loop-p.invariant.1.0)
+loop-p-init c = (omega arith, omega (arith, ap length (own_start (domain_in c.args.d.now.rows.now) c.args.i.0)))
 
 pub loop-p-preserved : goal.loop-p-preserved
 loop-p-preserved c =
-    let at_pre = c.requires in
     let a = c.args in
-    let φs : List Phy = (expander_at (domain_in a.rows.now) a.i.0).phys in
+    let φs : List Phy = (expander_at (domain_in a.d.now.rows.now) a.i.0).phys in
     let n = c.phy_count-n.ensures in
     let e = c.counted-m.ensures in
     let most = one-most c.is_own-mine.result in
-    let o = c.is_own-mine.ensures ∙ owns-low (domain_in a.rows.now) a.i.0 c.loop-p.p a.low.now c.phy_in_row-f.result (c.phy_in_row-f.ensures ∙ phy-held _ _ _ (omega arith)) (omega arith) (at_pre) in
-    (omega arith, (omega arith, count-go φs c.loop-p.p [] refl c.phy_in_row-f.result c.loop-p.m (c.phy_in_row-f.ensures ∙ phy-held _ _ _ (omega arith)) o e (omega arith) c.loop-p.invariant.1.1))
+    let o = c.is_own-mine.ensures ∙ owns-low (domain_in a.d.now.rows.now) a.i.0 c.loop-p.p a.d.now.low.now c.phy_in_row-f.result (c.phy_in_row-f.ensures ∙ phy-held _ _ _ (omega arith)) (omega arith) a.d.now.indexed.lows in
+    (omega arith, count-go φs c.loop-p.p [] refl c.phy_in_row-f.result c.loop-p.m (c.phy_in_row-f.ensures ∙ phy-held _ _ _ (omega arith)) o e (omega arith) c.loop-p.invariant.1)
 
 pub returns : goal.returns
-returns c = count-end (expander_at (domain_in c.args.rows.now) c.args.i.0).phys c.loop-p.p [] refl c.loop-p.m (omega (arith, c.phy_count-n.ensures.0)) c.loop-p.invariant.1.1
+returns c = count-end (expander_at (domain_in c.args.d.now.rows.now) c.args.i.0).phys c.loop-p.p [] refl c.loop-p.m (omega (arith, c.phy_count-n.ensures.0)) c.loop-p.invariant.1

@@ -1,4 +1,4 @@
-use Prim.Native.Nat.{◌+◌, ◌-◌, ◌≤◌}
+use Prim.Native.Nat.{◌+◌, ◌≤◌}
 use mathlib.Core.Path.{◌≡◌}
 use lib.ListN.{length, drop}
 use Rattle.files.specs.Domain.{expander_at}
@@ -7,7 +7,4 @@ use Rattle.tables.specs.lists.OwnLists.{lower, own_words_from, own_words}
 use Rattle.tables.proofs.lists.own_lists.count_own.Given as goal
 
 abbrev pub invariant-loop-p : goal.invariant-loop-p
-invariant-loop-p l = (l.p ≤ l.n) × ((l.m ≤ l.p) × (l.m + length (own_words_from (lower (expander_at (domain_in l.rows) l.i.0).phys l.p) (drop l.p (expander_at (domain_in l.rows) l.i.0).phys)) ≡ length (own_words (domain_in l.rows) l.i.0)))
-
-abbrev pub decreases-loop-p : goal.decreases-loop-p
-decreases-loop-p l = l.n - l.p
+invariant-loop-p l = (l.m ≤ l.p) × (l.m + length (own_words_from (lower (expander_at (domain_in l.d.rows.now) l.i.0).phys l.p) (drop l.p (expander_at (domain_in l.d.rows.now) l.i.0).phys)) ≡ length (own_words (domain_in l.d.rows.now) l.i.0))

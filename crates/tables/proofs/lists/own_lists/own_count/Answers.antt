@@ -10,17 +10,11 @@ pub returns-then-i-expander_count : goal.returns-then-i-expander_count
 returns-then-i-expander_count c =
     let a = c.args in
     let e = c.expander_count.ensures.0 in
-    (sym (ap length (own_none (domain_in a.rows.now) a.i.0 (omega arith))), omega arith)
-
-pub overflow_cast-result-2 : goal.overflow_cast-result-2
-overflow_cast-result-2 c =
-    let at-args = c.args in
-    omega (arith, c.shared_slice_known-3-1.given at-args.i.0)
+    (sym (ap length (own_none (domain_in a.d.now.levels.attached.rows.now) a.i.0 (omega arith))), omega arith)
 
 pub returns : goal.returns
 returns c =
-    let at_pre = c.requires in
     let a = c.args in
     let e = c.expander_count.ensures.0 in
-    let n = at_pre.each a.i.0 (omega arith) in
-    (n, omega (arith, n, own_few a.rows.now a.i.0))
+    let n = a.d.now.counted.each a.i.0 (omega arith) in
+    (n, omega (arith, n, own_few a.d.now.levels.attached.rows.now a.i.0))

@@ -1,4 +1,3 @@
-use Prim.Native.Nat.{◌-◌, ◌≤◌}
 use mathlib.Core.Path.{◌≡◌}
 use lib.ListN.{length}
 use Rattle.files.specs.Rows.{domain_in}
@@ -7,7 +6,4 @@ use Rattle.tables.specs.lists.PreparedLists.{Cells, own_list_words}
 use Rattle.tables.proofs.lists.own_lists.put_owns.Given as goal
 
 abbrev pub invariant-loop-i : goal.invariant-loop-i
-invariant-loop-i l = (l.i ≤ l.n) × ((length l.words ≡ length l.initial.words) × Cells own_list_words (own_words (domain_in l.rows)) l.i l.words)
-
-abbrev pub decreases-loop-i : goal.decreases-loop-i
-decreases-loop-i l = l.n - l.i
+invariant-loop-i l = (length l.words ≡ length l.initial.words) × Cells own_list_words (own_words (domain_in l.d.rows.now)) l.i l.words

@@ -4,7 +4,7 @@ use mathlib.Core.Path.{sym, ◌∙◌, ap}
 use native.Mathlib.Omega.{arith}
 use Rattle.wiring.proofs.graph.RoundSets.{all-below, left-count}
 use Rattle.wiring.proofs.CheckOutcomes.{chains_few, chains_long, chains_short}
-use Rattle.wiring.specs.phys.Checks.{check_answer}
+use Rattle.frames.specs.Refusals.{refused}
 use Rattle.files.specs.Rows.{domain_in}
 use Rattle.wiring.proofs.graph.chains.check_chains.Goals as goal
 
@@ -12,17 +12,17 @@ pub returns-then-n-chain : goal.returns-then-n-chain
 returns-then-n-chain c =
     let a = c.args in
     let e = c.expander_count-n.ensures.0 in
-    sym (chains_few a.chain (domain_in a.rows.now) (omega arith))
+    sym (chains_few a.chain (domain_in a.sets.now.rows.now) (omega arith))
 
 pub run_rounds-left-requires : goal.run_rounds-left-requires
-run_rounds-left-requires c = (c.requires, rw c.all_of-all.ensures (all-below _))
+run_rounds-left-requires c = rw c.all_of-all.ensures (all-below _)
 
 pub returns-then-left-chain : goal.returns-then-left-chain
 returns-then-left-chain c =
     let a = c.args in
     let n = c.expander_count-n.ensures.0 in
     let l = left-count _ (a.chain / 2) _ (rw c.all_of-all.ensures at c.run_rounds-left.ensures) in
-    ap (check_answer (domain_in a.rows.now)) c.check_refused.ensures ∙ sym (chains_long a.chain _ _ l (omega arith) c.if-left-chain.true)
+    ap refused c.refused.ensures ∙ sym (chains_long a.chain _ _ l (omega arith) c.if-left-chain.true)
 
 pub returns : goal.returns
 returns c =

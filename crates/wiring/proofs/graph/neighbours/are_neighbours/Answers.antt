@@ -6,52 +6,32 @@ use Rattle.wiring.proofs.graph.CableSets.{first-low, leads-cabled}
 use native.Mathlib.Omega.{arith}
 use Rattle.wiring.proofs.graph.neighbours.are_neighbours.Goals as goal
 
-pub bounds-words-a : goal.bounds-words-a
-bounds-words-a c =
-    let at_pre = c.requires in
-    omega (arith, at_pre.0.room)
-
-pub bounds-first-b : goal.bounds-first-b
-bounds-first-b c =
-    let at_pre = c.requires in
-    omega (arith, at_pre.0.index.slots)
-
-pub overflow_cast-first : goal.overflow_cast-first
-overflow_cast-first c =
+pub overflow_cast-d : goal.overflow_cast-d
+overflow_cast-d c =
     let a = c.args in
     let pre = c.requires in
-    omega (arith, first-low _ _ _ (domain-few a.rows.now) pre.0 a.j.0 pre.1.1)
+    omega (arith, first-low _ _ _ (domain-few a.d.now.rows.now) pre.0 a.j.0 pre.1.1)
 
 pub has-requires : goal.has-requires
 has-requires c =
     let a = c.args in
     let pre = c.requires in
-    first-low _ _ _ (domain-few a.rows.now) pre.0 a.j.0 pre.1.1
+    first-low _ _ _ (domain-few a.d.now.rows.now) pre.0 a.j.0 pre.1.1
 
-pub bounds-words-b : goal.bounds-words-b
-bounds-words-b c =
-    let at_pre = c.requires in
-    omega (arith, at_pre.0.room)
-
-pub bounds-first-a : goal.bounds-first-a
-bounds-first-a c =
-    let at_pre = c.requires in
-    omega (arith, at_pre.0.index.slots)
-
-pub overflow_cast-first-2 : goal.overflow_cast-first-2
-overflow_cast-first-2 c =
-    omega (arith, first-low _ _ _ (domain-few c.args.rows.now) c.requires.0 c.args.i.0 c.requires.1.0)
+pub overflow_cast-d-2 : goal.overflow_cast-d-2
+overflow_cast-d-2 c =
+    omega (arith, first-low _ _ _ (domain-few c.args.d.now.rows.now) c.requires.0 c.args.i.0 c.requires.1.0)
 
 pub has-requires-2 : goal.has-requires-2
 has-requires-2 c =
-    first-low _ _ _ (domain-few c.args.rows.now) c.requires.0 c.args.i.0 c.requires.1.0
+    first-low _ _ _ (domain-few c.args.d.now.rows.now) c.requires.0 c.args.i.0 c.requires.1.0
 
 pub returns : goal.returns
 unfolding neighbours
 returns c =
     let a = c.args in
     let p = c.requires in
-    let few = domain-few a.rows.now in
+    let few = domain-few a.d.now.rows.now in
     rw (
       c.has.ensures ∙ leads-cabled _ _ _ few p.0 a.i.0 a.j.0 p.1.0 p.1.1,
       c.has-2.ensures ∙ leads-cabled _ _ _ few p.0 a.j.0 a.i.0 p.1.1 p.1.0,

@@ -11,28 +11,21 @@ use Rattle.wiring.proofs.graph.neighbours.neighbour_word.Goals.{then-are_neighbo
 
 pub loop-j-init : goal.loop-j-init
 unfolding word_below
-loop-j-init c = (omega arith, refl)
-
-pub are_neighbours-requires : goal.are_neighbours-requires
-are_neighbours-requires c =
-    let pre = c.requires in
-    (pre.0, (pre.1, omega (arith, c.expander_count-n.ensures.0)))
+loop-j-init c = refl
 
 pub loop-j-preserved : goal.loop-j-preserved
 loop-j-preserved c =
     let a = c.args in
-    let t = neighbours (domain_in a.rows.now) a.i.0 in
-    let q = sym c.are_neighbours.ensures in (
-      omega arith,
-      elim c.if-are_neighbours.branch [
-        | then-are_neighbours w ↦ w.w-is ∙ bit-go t c.loop-j.w c.loop-j.j c.loop-j.invariant.1 (omega arith) (q ∙ w.if-are_neighbours.true)
-        | else-are_neighbours w ↦ w.w-is ∙ bit_skip t c.loop-j.w c.loop-j.j c.loop-j.invariant.1 (q ∙ w.if-are_neighbours.false)
-      ],
-    )
+    let t = neighbours (domain_in a.d.now.rows.now) a.i.0 in
+    let q = sym c.are_neighbours.ensures in
+    elim c.if-are_neighbours.branch [
+      | then-are_neighbours w ↦ w.w-is ∙ bit-go t c.loop-j.w c.loop-j.j c.loop-j.invariant (omega arith) (q ∙ w.if-are_neighbours.true)
+      | else-are_neighbours w ↦ w.w-is ∙ bit_skip t c.loop-j.w c.loop-j.j c.loop-j.invariant (q ∙ w.if-are_neighbours.false)
+    ]
 
 pub returns : goal.returns
 returns c =
     let a = c.args in
-    let d = domain_in a.rows.now in
+    let d = domain_in a.d.now.rows.now in
     let e : c.loop-j.j ≡ length d = omega arith in
-    c.loop-j.invariant.1 ∙ ap (word_below (neighbours d a.i.0)) e ∙ sym (neighbour_word_lem d a.i.0)
+    c.loop-j.invariant ∙ ap (word_below (neighbours d a.i.0)) e ∙ sym (neighbour_word_lem d a.i.0)

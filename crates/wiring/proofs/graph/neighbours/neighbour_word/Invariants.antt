@@ -1,4 +1,3 @@
-use Prim.Native.Nat.{◌-◌, ◌≤◌}
 use mathlib.Core.Path.{◌≡◌}
 use Rattle.wiring.specs.graph.Neighbours.{neighbours}
 use Rattle.files.specs.Rows.{domain_in}
@@ -6,7 +5,4 @@ use Rattle.wiring.proofs.graph.WordSets.{word_below}
 use Rattle.wiring.proofs.graph.neighbours.neighbour_word.Given as goal
 
 abbrev pub invariant-loop-j : goal.invariant-loop-j
-invariant-loop-j l = (l.j ≤ l.n) × (l.w ≡ word_below (neighbours (domain_in l.rows) l.i.0) l.j)
-
-abbrev pub decreases-loop-j : goal.decreases-loop-j
-decreases-loop-j l = l.n - l.j
+invariant-loop-j l = l.w ≡ word_below (neighbours (domain_in l.d.rows.now) l.i.0) l.j

@@ -14,9 +14,3 @@ put_index-requires t c = let h = c.if-rows-gt-ROWS_OF_64.true in (omega (arith, 
 
 pub returns-then-rows-gt-ROWS_OF_64 : goal.returns-then-rows-gt-ROWS_OF_64
 returns-then-rows-gt-ROWS_OF_64 t c = rw (rows_cut c.args.rows.now c.if-rows-gt-ROWS_OF_64.true) at c.put_index.ensures
-
-pub index_few-requires : goal.index_few-requires
-index_few-requires t c = let at_pre = c.requires in (at_pre, omega (arith, c.expander_count.ensures.0, c.if-expander_count-le8.true))
-
-pub index_many-requires : goal.index_many-requires
-index_many-requires t c = let at_pre = c.requires in at_pre

@@ -5,18 +5,15 @@ use Rattle.wiring.proofs.index.ExpanderNumbers.{number-stop, number-go, number-e
 use native.Mathlib.Omega.{arith}
 use Rattle.wiring.proofs.index.addresses.number_of.Goals as goal
 
-pub loop-i-init : goal.loop-i-init
-loop-i-init c = (omega arith, omega arith)
-
 pub returns-then-expander_address-s : goal.returns-then-expander_address-s
 returns-then-expander_address-s c =
     let at-args = c.args in
-    number-stop (domain_in at-args.rows.now) at-args.s c.loop-i.i c.loop-i.invariant.1 (omega (arith, c.expander_count-n.ensures.0)) (sym c.expander_address.ensures ∙ c.if-expander_address-s.true)
+    number-stop (domain_in at-args.rows.now) at-args.s c.loop-i.i c.loop-i.invariant (omega (arith, c.expander_count-n.ensures.0)) (sym c.expander_address.ensures ∙ c.if-expander_address-s.true)
 
 pub loop-i-preserved : goal.loop-i-preserved
 loop-i-preserved c =
     let at-args = c.args in
-    (omega arith, number-go (domain_in at-args.rows.now) at-args.s c.loop-i.i c.loop-i.invariant.1 (omega (arith, c.expander_count-n.ensures.0)) (λ z. c.if-expander_address-s.false (c.expander_address.ensures ∙ z)))
+    number-go (domain_in at-args.rows.now) at-args.s c.loop-i.i c.loop-i.invariant (omega (arith, c.expander_count-n.ensures.0)) (λ z. c.if-expander_address-s.false (c.expander_address.ensures ∙ z))
 
 pub returns : goal.returns
-returns c = omega (arith, number-end (domain_in c.args.rows.now) c.args.s c.loop-i.i c.loop-i.invariant.1 (omega (arith, c.expander_count-n.ensures.0)))
+returns c = omega (arith, number-end (domain_in c.args.rows.now) c.args.s c.loop-i.i c.loop-i.invariant (omega (arith, c.expander_count-n.ensures.0)))

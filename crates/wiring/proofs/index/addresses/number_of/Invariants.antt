@@ -1,4 +1,4 @@
-use Prim.Native.Nat.{◌+◌, ◌-◌, ◌≤◌}
+use Prim.Native.Nat.{◌+◌}
 use mathlib.Core.Path.{◌≡◌}
 use lib.ListN.{drop}
 use Rattle.files.specs.Domain.{number_of}
@@ -6,7 +6,4 @@ use Rattle.files.specs.Rows.{domain_in}
 use Rattle.wiring.proofs.index.addresses.number_of.Given as goal
 
 abbrev pub invariant-loop-i : goal.invariant-loop-i
-invariant-loop-i l = (l.i ≤ l.n) × (l.i + number_of (drop l.i (domain_in l.rows)) l.s ≡ number_of (domain_in l.rows) l.s)
-
-abbrev pub decreases-loop-i : goal.decreases-loop-i
-decreases-loop-i l = l.n - l.i
+invariant-loop-i l = l.i + number_of (drop l.i (domain_in l.rows)) l.s ≡ number_of (domain_in l.rows) l.s

@@ -1,26 +1,16 @@
 -- put_low meets its contract. The loop's invariant: the entries of the expander's phys below p are written, and its attached phys are in its tree.
-use mathlib.Core.Path.{refl, ◌∙◌}
+use mathlib.Core.Path.{◌∙◌}
 use Rattle.files.proofs.RowsAsDomain.{phy-held}
 use Rattle.wiring.proofs.index.IndexWriting.{lows-start, lows-end}
-use Rattle.wiring.proofs.index.IndexKept.{kept-none, kept_then}
-use borrow.Author.Rules.{rules}
+use Rattle.wiring.proofs.index.IndexKept.{kept-none}
 use native.Mathlib.Omega.{arith}
 use Rattle.wiring.proofs.index.addresses.put_low.Goals as goal
 
 pub loop-p-init : goal.loop-p-init
-loop-p-init c = (omega arith, (refl, (refl, (lows-start _ _ _ c.requires, kept-none _))))
-
-pub slice_bounds-add_low-end : goal.slice_bounds-add_low-end
-slice_bounds-add_low-end c = search (rules, c.loop-p.invariant.1.0)
+loop-p-init c = (lows-start _ _ _ c.requires, kept-none _)
 
 pub add_low-requires : goal.add_low-requires
-add_low-requires c = (c.loop-p.invariant.1.1.1.0, (c.phy_in_row-f.ensures ∙ phy-held _ _ _ (omega (arith, c.phy_count-n.ensures.0)), omega (arith, c.phy_count-n.ensures.0)))
-
-pub loop-p-preserved : goal.loop-p-preserved
-loop-p-preserved c = (omega arith, (c.add_low.auto.cells ∙ c.loop-p.invariant.1.0, (c.add_low.auto.low ∙ c.loop-p.invariant.1.1.0, (c.add_low.ensures.0, kept_then c.loop-p.invariant.1.1.1.1 c.add_low.ensures.1))))
-
-pub shape_of-low : goal.shape_of-low
-shape_of-low c = c.loop-p.invariant.1.1.0
+add_low-requires c = (c.loop-p.invariant.0, (c.phy_in_row-f.ensures ∙ phy-held _ _ _ (omega (arith, c.phy_count-n.ensures.0)), omega (arith, c.phy_count-n.ensures.0)))
 
 pub returns : goal.returns
-returns c = (lows-end _ _ _ _ _ c.loop-p.invariant.1.1.1.0 (omega (arith, c.phy_count-n.ensures.1)) (omega (arith, c.phy_count-n.ensures.0)), c.loop-p.invariant.1.1.1.1)
+returns c = (lows-end _ _ _ _ _ c.loop-p.invariant.0 (omega (arith, c.phy_count-n.ensures.1)) (omega (arith, c.phy_count-n.ensures.0)), c.loop-p.invariant.1)

@@ -1,5 +1,4 @@
 -- is_claimed meets its contract: the entry of the phy is below the slots of its expander where the address is taken.
-use Prim.Native.Nat.{◌+◌, ◌*◌}
 use mathlib.Core.Path.{◌∙◌, ap}
 use borrow.Author.Tests.{eq-eqb, ne_eqb}
 use Rattle.files.proofs.RowsAsDomain.{phy-held}
@@ -17,26 +16,21 @@ pub returns-then-phy_type-ne1 : goal.returns-then-phy_type-ne1
 unfolding claimed
 returns-then-phy_type-ne1 c =
     let a = c.args in
-    let e = c.phy_type.ensures ∙ ap type_of (c.phy_in_row.ensures ∙ phy-held _ _ _ c.requires.1) in
-    simp (ne_eqb (type_of (phy_at (domain_in a.rows.now) a.i.0 a.p.0)) 1 (λ x. omega arith))
+    let e = c.phy_type.ensures ∙ ap type_of (c.phy_in_row.ensures ∙ phy-held _ _ _ c.requires) in
+    simp (ne_eqb (type_of (phy_at (domain_in a.d.now.rows.now) a.i.0 a.p.0)) 1 (λ x. omega arith))
 
-pub bounds-first-from : goal.bounds-first-from
-bounds-first-from c =
+pub bounds-d-from : goal.bounds-d-from
+bounds-d-from c =
     let pre = c.requires in
     let a = c.args in
-    omega (arith, pre.1, short_in a.rows.now a.i.0, expander-range (domain_in a.rows.now) a.i.0 a.p.0 pre.1, pre.0.slots)
-
-pub overflow_cast-result-2 : goal.overflow_cast-result-2
-overflow_cast-result-2 c =
-    let a = c.args in
-    omega (arith, c.shared_slice_known-3-1.given (64 + 128 * a.i.0 + a.p.0))
+    omega (arith, pre, short_in a.d.now.rows.now a.i.0, expander-range (domain_in a.d.now.rows.now) a.i.0 a.p.0 pre, a.d.now.indexed.firsts.slots)
 
 pub returns : goal.returns
 unfolding claimed
 returns c =
     let pre = c.requires in
     let a = c.args in
-    let φ = phy_at (domain_in a.rows.now) a.i.0 a.p.0 in
-    let e = c.phy_type.ensures ∙ ap type_of (c.phy_in_row.ensures ∙ phy-held _ _ _ pre.1) in
+    let φ = phy_at (domain_in a.d.now.rows.now) a.i.0 a.p.0 in
+    let e = c.phy_type.ensures ∙ ap type_of (c.phy_in_row.ensures ∙ phy-held _ _ _ pre) in
     simp (eq-eqb (type_of φ) 1 (omega arith))
-    (taken-told _ a.i.0 a.p.0 (omega (arith, pre.1, short_in a.rows.now a.i.0)) a.first.now pre.0 (eq→eqb (type_of φ) 1 (omega arith)))
+    (taken-told _ a.i.0 a.p.0 (omega (arith, pre, short_in a.d.now.rows.now a.i.0)) a.d.now.first.now a.d.now.indexed.firsts (eq→eqb (type_of φ) 1 (omega arith)))

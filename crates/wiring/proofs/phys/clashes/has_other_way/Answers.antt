@@ -15,9 +15,6 @@ use Rattle.wiring.proofs.phys.LowerPhys.{way-found, way-none}
 use native.Mathlib.Omega.{arith}
 use Rattle.wiring.proofs.phys.clashes.has_other_way.Goals as goal
 
-pub loop-q-init : goal.loop-q-init
-loop-q-init c = (omega arith, λ r h k. absurd (omega arith))
-
 pub returns-then-is_subtractive : goal.returns-then-is_subtractive
 returns-then-is_subtractive c =
     let a = c.args in
@@ -27,7 +24,7 @@ returns-then-is_subtractive c =
     let e = c.phy_in_row-f.ensures ∙ phy-held _ _ _ (omega arith) in
     ap (λ (x : ℕ). not (eqb x a.s)) (c.phy_address.ensures ∙ ap address_of e)
     ∙ way-found d a.i.0 a.p.0 pre a.s (c.loop-q.q - 1) (omega arith)
-    (was_true _ (sym (c.is_subtractive.ensures ∙ ap subtractive e) ∙ c.if-is_subtractive.true)) (λ r h k. c.loop-q.invariant.1 r (omega arith) k)
+    (was_true _ (sym (c.is_subtractive.ensures ∙ ap subtractive e) ∙ c.if-is_subtractive.true)) (λ r h k. c.loop-q.invariant r (omega arith) k)
 
 pub loop-q-preserved : goal.loop-q-preserved
 loop-q-preserved c =
@@ -35,12 +32,10 @@ loop-q-preserved c =
     let a = c.args in
     let d = domain_in a.rows.now in
     let w = at_pre.within in
-    let e = c.phy_in_row-f.ensures ∙ phy-held _ _ _ (omega arith) in (
-      omega arith,
-      λ r h k. by_cases (ℕ_discrete r (c.loop-q.q - 1))
-          (λ z. ap (λ (x : ℕ). subtractive (phy_at d a.i.0 x)) z ∙ sym (c.is_subtractive.ensures ∙ ap subtractive e) ∙ c.if-is_subtractive.false)
-          (λ z. c.loop-q.invariant.1 r (omega arith) k),
-    )
+    let e = c.phy_in_row-f.ensures ∙ phy-held _ _ _ (omega arith) in
+    λ r h k. by_cases (ℕ_discrete r (c.loop-q.q - 1))
+    (λ z. ap (λ (x : ℕ). subtractive (phy_at d a.i.0 x)) z ∙ sym (c.is_subtractive.ensures ∙ ap subtractive e) ∙ c.if-is_subtractive.false)
+    (λ z. c.loop-q.invariant r (omega arith) k)
 
 pub returns : goal.returns
-returns c = way-none _ _ _ c.requires c.args.s (λ r h. c.loop-q.invariant.1 r (omega arith) h)
+returns c = way-none _ _ _ c.requires c.args.s (λ r h. c.loop-q.invariant r (omega arith) h)

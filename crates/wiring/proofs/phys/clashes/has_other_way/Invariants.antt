@@ -7,7 +7,4 @@ use Rattle.wiring.specs.phys.Clashes.{subtractive}
 use Rattle.wiring.proofs.phys.clashes.has_other_way.Given as goal
 
 abbrev pub invariant-loop-q : goal.invariant-loop-q
-invariant-loop-q l = (l.q ≤ l.initial.q) × ((r : ℕ) → l.q ≤ r → r < l.initial.q → subtractive (phy_at (domain_in l.rows) l.i.0 r) ≡ false)
-
-abbrev pub decreases-loop-q : goal.decreases-loop-q
-decreases-loop-q l = l.q
+invariant-loop-q l = (r : ℕ) → l.q ≤ r → r < l.fn.p.0 → subtractive (phy_at (domain_in l.rows) l.i.0 r) ≡ false

@@ -1,0 +1,6 @@
+-- tables_with meets its contract: there is room for as many expanders as the form reads as.
+use Rattle.forms.proofs.FormCallOutcomes.{room-for}
+use Rattle.forms.proofs.table_calls.tables_with.Goals as goal
+
+pub tables_in-requires : goal.tables_in-requires
+tables_in-requires g c = room-for c.args.form.now _ _ _ _ c.requires.0.0 c.requires.0.1 c.requires.1
