@@ -21,17 +21,6 @@ use Rattle.files.proofs.Domains.{phy-range, expander-range, end-attached, expand
 use Rattle.wiring.proofs.index.SearchTrees.{none_has, lowest-has, tree_skip, tree-same, tree-put, tree-none}
 use Rattle.wiring.proofs.index.SlotDevices.{short_in, slot-expander, slot_is, slot-address, device_expander, device_phy, attached-at, lowest-number, no_number, taken-by, lowest-phy, each_set}
 
--- how many roots a search tree of all slots has, for few expanders and for the most
-abbrev pub few_roots : ℕ
-few_roots = 256
-
-abbrev pub most_roots : ℕ
-most_roots = 8192
-
--- how many cells it has for so many expanders: its roots, and two for each slot
-abbrev pub tree_cells : ℕ → ℕ → ℕ
-tree_cells roots n = roots + 2 * slots_before n
-
 module _ (d : Domain) (from size : ℕ) (cells : List ℕ) (t s : ℕ) (can : Addable d from size cells t s) where
   pub can_search : Searchable d from size cells
   can_search = record { count = t - from; start = can.start; few = let a = can.above in let b = can.few in omega arith; tree = can.tree }

@@ -115,6 +115,12 @@ pub record IndexRoom (d : Domain) (first low : List ℕ) : Type 0 where
   pub slots : slots_before (length d) ≤ length first
   pub phys : most_phys * length d ≤ length low
 
+-- a tree of this size, no larger than the most expanders need, has room for all slots: so many roots, and two cells for each slot
+pub record TreeRoom (d : Domain) (roots cells : ℕ) : Type 0 where
+  pub some : 0 < roots
+  pub room : roots + 2 * slots_before (length d) ≤ cells
+  pub no_more : cells ≤ 8192 + 2 * most_slots
+
 -- for all slots of the domain
 pub record IndexedFirst (d : Domain) (first : List ℕ) : Type 0 where
   pub slots : slots_before (length d) ≤ length first

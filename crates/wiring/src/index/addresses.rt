@@ -6,7 +6,7 @@ ghost use Rattle.files.specs.Domain.{number_of};
 ghost use Rattle.files.specs.Rows.{domain_in};
 ghost use Rattle.wiring.specs.index.SearchTree.{key_in, WalkTo};
 ghost use Rattle.wiring.specs.index.AddressIndex.{slots_before, slot_of, slot_word, address_from, attached_expander, lowest_phy, tells, attached_at, EntriesKeptBut, IndexRoom, IndexPut, most_slots, PhyThere};
-ghost use Rattle.wiring.specs.index.AddressIndex.{Searchable, Addable, AddedTo, FirstsTo, LowsBefore, LowsTo};
+ghost use Rattle.wiring.specs.index.AddressIndex.{TreeRoom, Searchable, Addable, AddedTo, FirstsTo, LowsBefore, LowsTo};
 
 use files::Phy;
 use frames::{ExpanderNumber, PhyId};
@@ -189,27 +189,17 @@ fn put_all(rows: &[u64], cells: &mut [u16], size: usize, first: &mut [u16], low:
     }
 }
 
-// Writes both answers with a tree for few expanders: at most 2, or at most 8.
-fn index_few(rows: &[u64], first: &mut [u16], low: &mut [u8])
-    requires { IndexRoom (domain_in rows.now) first.old low.old × (length (domain_in rows.now) ≤ 8) }
+// Writes both answers with a tree of this size: its roots, and all its cells.
+fn index_with<const ROOTS: usize, const CELLS: usize>(
+    rows: &[u64],
+    first: &mut [u16],
+    low: &mut [u8],
+)
+    requires { IndexRoom (domain_in rows.now) first.old low.old × TreeRoom (domain_in rows.now) ROOTS CELLS }
     ensures { IndexPut (domain_in rows.now) first.old low.old first.new low.new }
 {
-    if files::expander_count(rows) <= 2 {
-        let mut cells = [0u16; TREE_OF_2];
-        put_all(rows, &mut cells[..], FEW_ROOTS, first, low);
-        return;
-    }
-    let mut cells = [0u16; TREE_OF_8];
-    put_all(rows, &mut cells[..], FEW_ROOTS, first, low);
-}
-
-// Writes both answers with a tree for the most expanders.
-fn index_many(rows: &[u64], first: &mut [u16], low: &mut [u8])
-    requires { IndexRoom (domain_in rows.now) first.old low.old }
-    ensures { IndexPut (domain_in rows.now) first.old low.old first.new low.new }
-{
-    let mut cells = [0u16; TREE_OF_64];
-    put_all(rows, &mut cells[..], MOST_ROOTS, first, low);
+    let mut cells = [0u16; CELLS];
+    put_all(rows, &mut cells[..], ROOTS, first, low);
 }
 
 // Writes for each slot of a domain who has its address (`first`), and for each attached phy the lowest phy of
@@ -223,11 +213,16 @@ pub(crate) fn put_index(rows: &[u64], first: &mut [u16], low: &mut [u8])
         put_index(&rows[..files::ROWS_OF_64], first, low);
         return;
     }
-    if files::expander_count(rows) <= 8 {
-        index_few(rows, first, low);
+    let n = files::expander_count(rows);
+    if n <= 2 {
+        index_with::<FEW_ROOTS, TREE_OF_2>(rows, first, low);
         return;
     }
-    index_many(rows, first, low);
+    if n <= 8 {
+        index_with::<FEW_ROOTS, TREE_OF_8>(rows, first, low);
+        return;
+    }
+    index_with::<MOST_ROOTS, TREE_OF_64>(rows, first, low);
 }
 
 // The number of the expander that has the attached address of phy p of expander i, where the phy is attached to
