@@ -1,6 +1,6 @@
 -- Many requests over one domain, as words: two for each request, start * 256 + arrival phy and then the address; one for each answer.
 use Rattle.std.specs.Prelude.{ℕ, ◌/◌, ◌%◌, ◌≤◌, ◌≡◌, ◌&&◌, List, [], ◌∷◌, ◌++◌, length, drop, ltb, leb}
-use Rattle.tables.specs.WiringDefinitions.{bytes_for, Result, refused, good, unless, then, refusal, Domain, IndexedFirst}
+use Rattle.tables.specs.WiringDefinitions.{bytes_for, Result, refused, good, unless, then, refusal, Domain}
 use Rattle.tables.specs.filling.Tables.{needed}
 use Rattle.tables.specs.filling.Entries.{Entries, Room, Enough}
 use Rattle.tables.specs.lists.PreparedLists.{judged_in}
@@ -46,6 +46,6 @@ pub record ListTraced (outcome : Result Domain) (t : Entries) (requests : List �
   pub answers : answer ≡ then outcome (λ d. good (request_count requests))
   pub words : after ≡ list_after outcome t requests before
 
--- tracing one request of a list: who has which address, and room for the tables and for the expanders passed
-abbrev pub RequestReady : Domain → List ℕ → Room → List ℕ → Type 0
-RequestReady d first room passed = IndexedFirst d first × (Enough (needed d) room × (length d ≤ length passed))
+-- tracing one request of a list: room for the tables and for the expanders passed
+abbrev pub RequestReady : Domain → Room → List ℕ → Type 0
+RequestReady d room passed = Enough (needed d) room × (length d ≤ length passed)

@@ -1,12 +1,13 @@
 // The trace call.
-ghost use Rattle.std.specs.Prelude.{◌≤◌, length};
+ghost use Rattle.std.specs.Prelude.{length};
+ghost use Rattle.wiring.specs.phys.Checks.{RoomFor};
 ghost use Rattle.tracing.specs.Trace.{request, trace_call, TraceDone};
 ghost use Rattle.tracing.specs.Answers.{request_in};
 ghost use Rattle.tables.specs.WiringDefinitions.{byte, domain_in, FileRoom, IndexLeft};
 ghost use Rattle.tables.specs.filling.Entries.{entries};
 
 use crate::{End, requests};
-use tables::{ExpanderNumber, PhyId, Refusal, Setting};
+use tables::{ExpanderNumber, IndexedRows, PhyId, Refusal, Setting};
 
 // Causes 7 to 12, 23, 14 and 15 to 18 of a request over rows, then the walk. A chain may have `chain` expanders. `first` and `low` have room for who has which
 // address, and are left as `judge_rows` leaves them; 16 where there is too little.
@@ -28,7 +29,12 @@ pub fn request_rows(
     ensures index_left { IndexLeft (domain_in rows.now) first.old low.old first.new low.new }
 {
     tables::judge_rows(rows, first, low, chain)?;
-    requests::trace_rows(rows, first, words, bits, start, arrival, s, passed)
+    let d = IndexedRows {
+        rows: rows,
+        first: &*first,
+        low: &*low,
+    };
+    requests::trace_rows(&d, words, bits, start, arrival, s, passed)
 }
 
 // The trace call, with room for the rows of the file's domain and for who has which address.
@@ -67,8 +73,8 @@ fn trace_in(
     )
 }
 
-// The trace call of a file that states few expanders: at most 2, or at most 8.
-fn trace_few(
+// The trace call, with room of this size: words for rows, and entries for slots and phys.
+fn trace_with<const ROWS: usize, const SLOTS: usize, const PHYS: usize>(
     setting: Setting,
     file: &[u8],
     words: &[u64],
@@ -78,65 +84,14 @@ fn trace_few(
     s: u64,
     passed: &mut [u8],
 ) -> Result<End, Refusal>
-    requires { byte file.now 1 ≤ 8 }
+    requires { RoomFor (byte file.now 1) ROWS SLOTS PHYS }
     ensures { TraceDone
         (trace_call setting file.now (entries words.now bits.now) (length passed.old) (request start.0 arrival.0 s))
         result passed.old passed.new }
 {
-    if tables::stated_count(file) <= 2 {
-        let mut rows = [0u64; tables::ROWS_OF_2];
-        let mut first = [0u16; tables::SLOTS_OF_2];
-        let mut low = [0u8; tables::PHYS_OF_2];
-        return trace_in(
-            setting,
-            file,
-            &mut rows[..],
-            &mut first[..],
-            &mut low[..],
-            words,
-            bits,
-            start,
-            arrival,
-            s,
-            passed,
-        );
-    }
-    let mut rows = [0u64; tables::ROWS_OF_8];
-    let mut first = [0u16; tables::SLOTS_OF_8];
-    let mut low = [0u8; tables::PHYS_OF_8];
-    trace_in(
-        setting,
-        file,
-        &mut rows[..],
-        &mut first[..],
-        &mut low[..],
-        words,
-        bits,
-        start,
-        arrival,
-        s,
-        passed,
-    )
-}
-
-// The trace call, with room for the most expanders.
-fn trace_many(
-    setting: Setting,
-    file: &[u8],
-    words: &[u64],
-    bits: &[u8],
-    start: ExpanderNumber,
-    arrival: PhyId,
-    s: u64,
-    passed: &mut [u8],
-) -> Result<End, Refusal>
-    ensures { TraceDone
-        (trace_call setting file.now (entries words.now bits.now) (length passed.old) (request start.0 arrival.0 s))
-        result passed.old passed.new }
-{
-    let mut rows = [0u64; tables::ROWS_OF_64];
-    let mut first = [0u16; tables::SLOTS_OF_64];
-    let mut low = [0u8; tables::PHYS_OF_64];
+    let mut rows = [0u64; ROWS];
+    let mut first = [0u16; SLOTS];
+    let mut low = [0u8; PHYS];
     trace_in(
         setting,
         file,
@@ -169,13 +124,22 @@ pub fn trace(
         result passed.old passed.new }
 {
     let n = tables::stated_count(file);
+    if n <= 2 {
+        return trace_with::<{ tables::ROWS_OF_2 }, { tables::SLOTS_OF_2 }, { tables::PHYS_OF_2 }>(
+            setting, file, words, bits, start, arrival, s, passed,
+        );
+    }
     if n <= 8 {
-        return trace_few(setting, file, words, bits, start, arrival, s, passed);
+        return trace_with::<{ tables::ROWS_OF_8 }, { tables::SLOTS_OF_8 }, { tables::PHYS_OF_8 }>(
+            setting, file, words, bits, start, arrival, s, passed,
+        );
     }
     if n > 64 {
         if file.len() > 2 {
             return trace(setting, &file[..2], words, bits, start, arrival, s, passed);
         }
     }
-    trace_many(setting, file, words, bits, start, arrival, s, passed)
+    trace_with::<{ tables::ROWS_OF_64 }, { tables::SLOTS_OF_64 }, { tables::PHYS_OF_64 }>(
+        setting, file, words, bits, start, arrival, s, passed,
+    )
 }

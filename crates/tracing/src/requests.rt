@@ -1,13 +1,13 @@
 // Requests: causes 15 to 18, and the walk.
 ghost use Rattle.std.specs.Prelude.{◌≡◌, length};
-ghost use Rattle.tables.specs.WiringDefinitions.{domain_in, IndexedFirst};
+ghost use Rattle.tables.specs.WiringDefinitions.{domain_in};
 ghost use Rattle.tables.specs.WiringDefinitions.{check_answer};
 ghost use Rattle.tables.specs.filling.Entries.{entries};
 ghost use Rattle.tracing.specs.Trace.{request, allowed, requested, traced_request, TraceDone};
 
 use crate::End;
 use crate::walks::walk;
-use tables::{ExpanderNumber, PhyId, Refusal};
+use tables::{ExpanderNumber, IndexedRows, PhyId, Refusal};
 
 // Whether cause 15 does not hold: the start is an expander, and the arrival phy is 255 or attached to an end
 // device.
@@ -55,11 +55,9 @@ fn check_request(
     Ok(())
 }
 
-// A request over rows: why it is refused, or how it ends; the expanders passed go into the lent bytes. `first`
-// has who has which address.
+// A request over rows: why it is refused, or how it ends; the expanders passed go into the lent bytes.
 pub(crate) fn trace_rows(
-    rows: &[u64],
-    first: &[u16],
+    d: &IndexedRows,
     words: &[u64],
     bits: &[u8],
     start: ExpanderNumber,
@@ -67,13 +65,12 @@ pub(crate) fn trace_rows(
     s: u64,
     passed: &mut [u8],
 ) -> Result<End, Refusal>
-    requires { IndexedFirst (domain_in rows.now) first.now }
     ensures { TraceDone
-        (traced_request (domain_in rows.now) (entries words.now bits.now) (length passed.old) (request start.0 arrival.0 s))
+        (traced_request (domain_in d.now.rows.now) (entries words.now bits.now) (length passed.old) (request start.0 arrival.0 s))
         result passed.old passed.new }
 {
     check_request(
-        rows,
+        d.rows,
         words.len(),
         bits.len(),
         passed.len(),
@@ -81,5 +78,5 @@ pub(crate) fn trace_rows(
         arrival,
         s,
     )?;
-    Ok(walk(rows, first, words, bits, start, arrival, s, passed))
+    Ok(walk(d, words, bits, start, arrival, s, passed))
 }

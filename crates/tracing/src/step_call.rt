@@ -1,6 +1,6 @@
 // The call that says one expander's step, and why.
 ghost use Rattle.std.specs.Prelude.{◌≡◌, length};
-ghost use Rattle.tables.specs.WiringDefinitions.{domain_in, check_answer, IndexedFirst, FileRoom};
+ghost use Rattle.tables.specs.WiringDefinitions.{domain_in, check_answer, FileRoom};
 ghost use Rattle.tables.specs.filling.Entries.{entries};
 ghost use Rattle.tracing.specs.Trace.{request};
 ghost use Rattle.tracing.specs.Reasons.{step_allowed, step_requested, step_asked, step_in, step_call, step_answer_of};
@@ -8,7 +8,7 @@ ghost use Rattle.tracing.specs.Reasons.{step_allowed, step_requested, step_asked
 use crate::Told;
 use crate::reasons::reason_for;
 use crate::steps::take_step;
-use tables::{ExpanderNumber, PhyId, Refusal, Setting};
+use tables::{ExpanderNumber, IndexedRows, PhyId, Refusal, Setting};
 
 // Whether cause 15 does not hold: there is such an expander, and the arrival phy is 255 or attached.
 fn may_arrive(rows: &[u64], i: ExpanderNumber, arrival: PhyId) -> bool
@@ -50,23 +50,21 @@ fn check_step(
     Ok(())
 }
 
-// One expander's step over rows: why it is refused, or the step and its reason. `first` has who has which address.
+// One expander's step over rows: why it is refused, or the step and its reason.
 fn step_rows(
-    rows: &[u64],
-    first: &[u16],
+    d: &IndexedRows,
     words: &[u64],
     bits: &[u8],
     i: ExpanderNumber,
     arrival: PhyId,
     s: u64,
 ) -> Result<Told, Refusal>
-    requires { IndexedFirst (domain_in rows.now) first.now }
-    ensures { result ≡ step_answer_of (step_asked (domain_in rows.now) (entries words.now bits.now) (request i.0 arrival.0 s)) }
+    ensures { result ≡ step_answer_of (step_asked (domain_in d.now.rows.now) (entries words.now bits.now) (request i.0 arrival.0 s)) }
 {
-    check_step(rows, words.len(), bits.len(), i, arrival, s)?;
+    check_step(d.rows, words.len(), bits.len(), i, arrival, s)?;
     Ok(Told {
-        reason: reason_for(rows, words, bits, i, arrival, s),
-        step: take_step(rows, first, words, bits, i, arrival, s),
+        reason: reason_for(d.rows, words, bits, i, arrival, s),
+        step: take_step(d, words, bits, i, arrival, s),
     })
 }
 
@@ -86,7 +84,12 @@ fn judged_step(
     ensures { result ≡ step_answer_of (step_in chain (length first.old) (length low.old) (domain_in rows.now) (entries words.now bits.now) (request i.0 arrival.0 s)) }
 {
     tables::judge_rows(rows, first, low, chain)?;
-    step_rows(rows, first, words, bits, i, arrival, s)
+    let d = IndexedRows {
+        rows: rows,
+        first: &*first,
+        low: &*low,
+    };
+    step_rows(&d, words, bits, i, arrival, s)
 }
 
 // The call, with room for the rows of the file's domain and for who has which address.

@@ -1,7 +1,7 @@
 // What an expander does with a request: steps (i) to (v).
 ghost use Rattle.std.specs.Prelude.{◌≡◌, cond, ◌&&◌, T, eqb};
 ghost use Rattle.tables.specs.WiringDefinitions.{domain_in};
-ghost use Rattle.tables.specs.WiringDefinitions.{IndexedFirst, phy_at, address_of, attached, is_subtractive, to_expander};
+ghost use Rattle.tables.specs.WiringDefinitions.{phy_at, address_of, attached, is_subtractive, to_expander};
 ghost use Rattle.tables.specs.filling.Tables.{offset};
 ghost use Rattle.tables.specs.filling.Entries.{entries, counted};
 ghost use Rattle.tracing.specs.Steps.{listing, came_from, move_by, arriving, step};
@@ -10,7 +10,7 @@ ghost use Rattle.tracing.specs.Answers.{subtractive_step, table_step, direct_ste
 
 use crate::stretches::lists;
 use crate::{Outcome, Step};
-use tables::{ExpanderNumber, Phy, PhyId, words_before};
+use tables::{ExpanderNumber, IndexedRows, Phy, PhyId, words_before};
 
 // Whether it is a subtractive phy attached to an expander.
 fn is_subtracting(f: Phy) -> bool
@@ -103,66 +103,56 @@ pub(crate) fn came_from(rows: &[u64], i: ExpanderNumber, arrival: PhyId) -> u64
 }
 
 // On over phy p of expander i, which is attached to an expander, or the end with outcome `back` where that has the address
-// at the arrival phy, `came`. `first` has who has which address.
-fn move_unless(
-    rows: &[u64],
-    first: &[u16],
-    i: ExpanderNumber,
-    p: PhyId,
-    came: u64,
-    back: Outcome,
-) -> Step
-    requires { IndexedFirst (domain_in rows.now) first.now × T (to_expander (phy_at (domain_in rows.now) i.0 p.0)) }
-    ensures { result ≡ cond (eqb (address_of (phy_at (domain_in rows.now) i.0 p.0)) came) (ended_here back) (step_of (move_by (domain_in rows.now) i.0 p.0)) }
+// at the arrival phy, `came`.
+fn move_unless(d: &IndexedRows, i: ExpanderNumber, p: PhyId, came: u64, back: Outcome) -> Step
+    requires { T (to_expander (phy_at (domain_in d.now.rows.now) i.0 p.0)) }
+    ensures { result ≡ cond (eqb (address_of (phy_at (domain_in d.now.rows.now) i.0 p.0)) came) (ended_here back) (step_of (move_by (domain_in d.now.rows.now) i.0 p.0)) }
 {
-    let f = tables::phy_at(rows, i, p);
+    let f = tables::phy_at(d.rows, i, p);
     if tables::phy_address(f) == came {
         return Step::Ended(back, PhyId(255));
     }
     Step::Onward(
-        tables::attached_expander(rows, first, i, p),
+        tables::attached_expander(d.rows, d.first, i, p),
         tables::attached_phy(f),
     )
 }
 
 // (iv), or (v).
-fn subtractive_step(rows: &[u64], first: &[u16], i: ExpanderNumber, came: u64) -> Step
-    requires { IndexedFirst (domain_in rows.now) first.now }
-    ensures { result ≡ step_of (subtractive_step (domain_in rows.now) i.0 came) }
+fn subtractive_step(d: &IndexedRows, i: ExpanderNumber, came: u64) -> Step
+    ensures { result ≡ step_of (subtractive_step (domain_in d.now.rows.now) i.0 came) }
 {
-    match pick_subtracting(rows, i) {
-        Some(p) => move_unless(rows, first, i, p, came, Outcome::NoDestination),
+    match pick_subtracting(d.rows, i) {
+        Some(p) => move_unless(d, i, p, came, Outcome::NoDestination),
         None => Step::Ended(Outcome::NoDestination, PhyId(255)),
     }
 }
 
 // (iii), or what comes after.
 fn table_step(
-    rows: &[u64],
-    first: &[u16],
+    d: &IndexedRows,
     words: &[u64],
     bits: &[u8],
     i: ExpanderNumber,
     came: u64,
     s: u64,
 ) -> Step
-    requires { IndexedFirst (domain_in rows.now) first.now }
-    ensures { result ≡ step_of (table_step (domain_in rows.now) (counted (entries words.now bits.now)) i.0 came s) }
+    ensures { result ≡ step_of (table_step (domain_in d.now.rows.now) (counted (entries words.now bits.now)) i.0 came s) }
 {
-    match pick_listing(rows, words, bits, i, s) {
-        Some(p) => move_unless(rows, first, i, p, came, Outcome::BadDestination),
-        None => subtractive_step(rows, first, i, came),
+    match pick_listing(d.rows, words, bits, i, s) {
+        Some(p) => move_unless(d, i, p, came, Outcome::BadDestination),
+        None => subtractive_step(d, i, came),
     }
 }
 
 // What (ii) does with the phy it picks: phy p of expander i, which is attached.
-fn arrive_unless(rows: &[u64], first: &[u16], i: ExpanderNumber, p: PhyId, came: u64) -> Step
-    requires { IndexedFirst (domain_in rows.now) first.now × T (attached (phy_at (domain_in rows.now) i.0 p.0)) }
-    ensures { result ≡ step_of (arriving (domain_in rows.now) i.0 came p.0) }
+fn arrive_unless(d: &IndexedRows, i: ExpanderNumber, p: PhyId, came: u64) -> Step
+    requires { T (attached (phy_at (domain_in d.now.rows.now) i.0 p.0)) }
+    ensures { result ≡ step_of (arriving (domain_in d.now.rows.now) i.0 came p.0) }
 {
-    let f = tables::phy_at(rows, i, p);
+    let f = tables::phy_at(d.rows, i, p);
     if tables::phy_type(f) != 1 {
-        return move_unless(rows, first, i, p, came, Outcome::BadDestination);
+        return move_unless(d, i, p, came, Outcome::BadDestination);
     }
     if tables::phy_address(f) == came {
         return Step::Ended(Outcome::BadDestination, PhyId(255));
@@ -172,38 +162,34 @@ fn arrive_unless(rows: &[u64], first: &[u16], i: ExpanderNumber, p: PhyId, came:
 
 // (ii), or what comes after.
 fn direct_step(
-    rows: &[u64],
-    first: &[u16],
+    d: &IndexedRows,
     words: &[u64],
     bits: &[u8],
     i: ExpanderNumber,
     came: u64,
     s: u64,
 ) -> Step
-    requires { IndexedFirst (domain_in rows.now) first.now }
-    ensures { result ≡ step_of (direct_step (domain_in rows.now) (counted (entries words.now bits.now)) i.0 came s) }
+    ensures { result ≡ step_of (direct_step (domain_in d.now.rows.now) (counted (entries words.now bits.now)) i.0 came s) }
 {
-    match pick_bearing(rows, i, s) {
-        Some(p) => arrive_unless(rows, first, i, p, came),
-        None => table_step(rows, first, words, bits, i, came, s),
+    match pick_bearing(d.rows, i, s) {
+        Some(p) => arrive_unless(d, i, p, came),
+        None => table_step(d, words, bits, i, came, s),
     }
 }
 
 // (i), or what comes after: what expander i does with a request for address s that arrived at this phy.
 pub(crate) fn take_step(
-    rows: &[u64],
-    first: &[u16],
+    d: &IndexedRows,
     words: &[u64],
     bits: &[u8],
     i: ExpanderNumber,
     arrival: PhyId,
     s: u64,
 ) -> Step
-    requires { IndexedFirst (domain_in rows.now) first.now }
-    ensures { result ≡ step_of (step (domain_in rows.now) (counted (entries words.now bits.now)) i.0 arrival.0 s) }
+    ensures { result ≡ step_of (step (domain_in d.now.rows.now) (counted (entries words.now bits.now)) i.0 arrival.0 s) }
 {
-    if tables::expander_address(rows, i) == s {
+    if tables::expander_address(d.rows, i) == s {
         return Step::Ended(Outcome::Arrived, PhyId(255));
     }
-    direct_step(rows, first, words, bits, i, came_from(rows, i, arrival), s)
+    direct_step(d, words, bits, i, came_from(d.rows, i, arrival), s)
 }

@@ -1,13 +1,13 @@
 // The walk of a request, step by step.
 ghost use Rattle.std.specs.Prelude.{◌≡◌, ◌≤◌, length};
-ghost use Rattle.tables.specs.WiringDefinitions.{domain_in, IndexedFirst};
+ghost use Rattle.tables.specs.WiringDefinitions.{domain_in};
 ghost use Rattle.tables.specs.filling.Entries.{entries, counted};
 ghost use Rattle.tracing.specs.Trace.{request, traced};
 ghost use Rattle.tracing.specs.Answers.{end_of, Walked};
 
 use crate::steps::take_step;
 use crate::{End, Outcome, Step};
-use tables::{ExpanderNumber, PhyId};
+use tables::{ExpanderNumber, IndexedRows, PhyId};
 
 // How a walk ends.
 fn ended(outcome: Outcome, last: ExpanderNumber, phy: PhyId, count: u8) -> End
@@ -21,11 +21,9 @@ fn ended(outcome: Outcome, last: ExpanderNumber, phy: PhyId, count: u8) -> End
     }
 }
 
-// Takes at most as many steps as there are expanders. The expanders passed go into the lent bytes. `first` has
-// who has which address.
+// Takes at most as many steps as there are expanders. The expanders passed go into the lent bytes.
 pub(crate) fn walk(
-    rows: &[u64],
-    first: &[u16],
+    d: &IndexedRows,
     words: &[u64],
     bits: &[u8],
     start: ExpanderNumber,
@@ -33,17 +31,17 @@ pub(crate) fn walk(
     s: u64,
     passed: &mut [u8],
 ) -> End
-    requires { IndexedFirst (domain_in rows.now) first.now × (length (domain_in rows.now) ≤ length passed.old) }
+    requires { length (domain_in d.now.rows.now) ≤ length passed.old }
     ensures { Walked
-        (traced (domain_in rows.now) (counted (entries words.now bits.now)) (request start.0 arrival.0 s))
+        (traced (domain_in d.now.rows.now) (counted (entries words.now bits.now)) (request start.0 arrival.0 s))
         result passed.old passed.new }
 {
-    let n = tables::expander_count(rows);
+    let n = tables::expander_count(d.rows);
     let mut i = start;
     let mut q = arrival;
     for k in 0..n {
         passed[k as usize] = i.0;
-        match take_step(rows, first, words, bits, i, q, s) {
+        match take_step(d, words, bits, i, q, s) {
             Step::Ended(o, p) => return ended(o, i, p, k + 1),
             Step::Onward(j, f) => {
                 i = j;

@@ -6,9 +6,8 @@ use Rattle.tables.proofs.CallOutcomes.{judged-room}
 use Rattle.tracing.proofs.RequestCauses.{rows-refused, rows-done}
 use Rattle.tracing.proofs.calls.request_rows.Goals as goal
 
-pub trace_rows-requires : goal.trace_rows-requires
-trace_rows-requires c =
-    (c.judge_rows.ensures.index_left.written (judged-room _ _ _ _ _ (sym c.judge_rows.ensures.result_value ∙ ap (check_answer _) c.in_ok-judge_rows.was))).index.firsts
+pub invariant_of-d : goal.invariant_of-d
+invariant_of-d c = record { indexed = (c.judge_rows.ensures.index_left.written (judged-room _ _ _ _ _ (sym c.judge_rows.ensures.result_value ∙ ap (check_answer _) c.in_ok-judge_rows.was))).index }
 
 pub returns-in_err-judge_rows-clause-trace_done : goal.returns-in_err-judge_rows-clause-trace_done
 returns-in_err-judge_rows-clause-trace_done c =

@@ -7,6 +7,4 @@ use Rattle.tracing.proofs.request_lists.answer_one.Goals as goal
 
 pub trace_lent-answer-requires : goal.trace_lent-answer-requires
 trace_lent-answer-requires c =
-    let at_pre = c.requires in
-    let at-args = c.args in
-    (at_pre.0, (at_pre.1, omega (arith, length-replicate {A = ℕ} 64 0, domain-few at-args.rows.now)))
+    (c.requires, omega (arith, length-replicate {A = ℕ} 64 0, domain-few c.args.d.now.rows.now))

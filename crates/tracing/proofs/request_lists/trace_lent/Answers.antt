@@ -13,7 +13,7 @@ use Rattle.tracing.proofs.request_lists.trace_lent.Goals as goal
 pub returns-then-not-is_allowed : goal.returns-then-not-is_allowed
 returns-then-not-is_allowed c =
     let a = c.args in
-    let d : Domain = domain_in a.rows.now in
+    let d : Domain = domain_in a.d.now.rows.now in
     let t = entries a.words.now a.bits.now in
     let q = request a.start.0 a.arrival.0 a.s in
     subst (λ (x : Refusal). TraceDone (traced_request d t (length a.passed.now) q) (refused x) a.passed.now a.passed.now) (sym c.refused.ensures)
@@ -23,17 +23,17 @@ pub returns-then-s-eq0 : goal.returns-then-s-eq0
 returns-then-s-eq0 c =
     let at_pre = c.requires in
     let a = c.args in
-    let d : Domain = domain_in a.rows.now in
+    let d : Domain = domain_in a.d.now.rows.now in
     let t = entries a.words.now a.bits.now in
     let q = request a.start.0 a.arrival.0 a.s in
     subst (λ (x : Refusal). TraceDone (traced_request d t (length a.passed.now) q) (refused x) a.passed.now a.passed.now) (sym c.refused-then-s-eq0.ensures)
-    (answer_no d t q a.passed.now (sym (requested-by (room_of t) (length a.passed.now) q d (sym c.is_allowed.ensures ∙ not-false _ c.if-not-is_allowed.false-raw) (le-leb (needed d) (length a.words.now) at_pre.1.0.words) (le-leb (length d) (length a.passed.now) at_pre.1.1) (le-leb (bytes_for (needed d)) (length a.bits.now) at_pre.1.0.bits) (eq-eqb a.s 0 c.if-s-eq0.true))))
+    (answer_no d t q a.passed.now (sym (requested-by (room_of t) (length a.passed.now) q d (sym c.is_allowed.ensures ∙ not-false _ c.if-not-is_allowed.false-raw) (le-leb (needed d) (length a.words.now) at_pre.0.words) (le-leb (length d) (length a.passed.now) at_pre.1) (le-leb (bytes_for (needed d)) (length a.bits.now) at_pre.0.bits) (eq-eqb a.s 0 c.if-s-eq0.true))))
 
 pub returns : goal.returns
 returns c =
     let at_pre = c.requires in
     let a = c.args in
-    let d : Domain = domain_in a.rows.now in
+    let d : Domain = domain_in a.d.now.rows.now in
     let t = entries a.words.now a.bits.now in
     let q = request a.start.0 a.arrival.0 a.s in
-    answer_yes d t q a.passed.now (sym (requested-by (room_of t) (length a.passed.now) q d (sym c.is_allowed.ensures ∙ not-false _ c.if-not-is_allowed.false-raw) (le-leb (needed d) (length a.words.now) at_pre.1.0.words) (le-leb (length d) (length a.passed.now) at_pre.1.1) (le-leb (bytes_for (needed d)) (length a.bits.now) at_pre.1.0.bits) (ne_eqb a.s 0 c.if-s-eq0.false))) c.walk.ensures
+    answer_yes d t q a.passed.now (sym (requested-by (room_of t) (length a.passed.now) q d (sym c.is_allowed.ensures ∙ not-false _ c.if-not-is_allowed.false-raw) (le-leb (needed d) (length a.words.now) at_pre.0.words) (le-leb (length d) (length a.passed.now) at_pre.1) (le-leb (bytes_for (needed d)) (length a.bits.now) at_pre.0.bits) (ne_eqb a.s 0 c.if-s-eq0.false))) c.walk.ensures

@@ -6,9 +6,8 @@ use Rattle.tables.proofs.CallOutcomes.{judged-room}
 use Rattle.tracing.proofs.RequestLists.{list-refused, list-judged}
 use Rattle.tracing.proofs.request_lists.trace_list.Goals as goal
 
-pub answer_list-requires : goal.answer_list-requires
-answer_list-requires c =
-    (c.judge_rows.ensures.index_left.written (judged-room _ _ _ _ _ (sym c.judge_rows.ensures.result_value ∙ ap (check_answer _) c.in_ok-judge_rows.was))).index.firsts
+pub invariant_of-d : goal.invariant_of-d
+invariant_of-d c = record { indexed = (c.judge_rows.ensures.index_left.written (judged-room _ _ _ _ _ (sym c.judge_rows.ensures.result_value ∙ ap (check_answer _) c.in_ok-judge_rows.was))).index }
 
 pub returns-in_err-judge_rows-clause-list_traced : goal.returns-in_err-judge_rows-clause-list_traced
 returns-in_err-judge_rows-clause-list_traced c =

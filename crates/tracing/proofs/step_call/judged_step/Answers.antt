@@ -7,9 +7,8 @@ use Rattle.tracing.specs.Reasons.{step_answer_of}
 use Rattle.tracing.proofs.StepRules.{rows_no, rows_yes}
 use Rattle.tracing.proofs.step_call.judged_step.Goals as goal
 
-pub step_rows-requires : goal.step_rows-requires
-step_rows-requires c =
-    (c.judge_rows.ensures.index_left.written (judged-room _ _ _ _ _ (sym c.judge_rows.ensures.result_value ∙ ap (check_answer _) c.in_ok-judge_rows.was))).index.firsts
+pub invariant_of-d : goal.invariant_of-d
+invariant_of-d c = record { indexed = (c.judge_rows.ensures.index_left.written (judged-room _ _ _ _ _ (sym c.judge_rows.ensures.result_value ∙ ap (check_answer _) c.in_ok-judge_rows.was))).index }
 
 pub returns-in_err-judge_rows : goal.returns-in_err-judge_rows
 returns-in_err-judge_rows c =

@@ -17,7 +17,7 @@ told r t = good (record { reason = r; step = t })
 pub returns-in_err-check_step : goal.returns-in_err-check_step
 returns-in_err-check_step c =
     let a = c.args in
-    let d : Domain = domain_in a.rows.now in
+    let d : Domain = domain_in a.d.now.rows.now in
     passed-on c.from_residual.result _ c.from_residual.ensures
     ∙ ap step_answer_of (asked_no d (entries a.words.now a.bits.now) (request a.i.0 a.arrival.0 a.s) (ap (check_answer d) (sym c.in_err-check_step.was) ∙ c.check_step.ensures))
 
@@ -25,6 +25,6 @@ pub returns : goal.returns
 unfolding told
 returns c =
     let a = c.args in
-    let d : Domain = domain_in a.rows.now in
+    let d : Domain = domain_in a.d.now.rows.now in
     ap₂ told c.reason_for.ensures c.take_step.ensures
     ∙ ap step_answer_of (asked_yes d (entries a.words.now a.bits.now) (request a.i.0 a.arrival.0 a.s) (ap (check_answer d) (sym c.in_ok-check_step.was) ∙ c.check_step.ensures) refl)

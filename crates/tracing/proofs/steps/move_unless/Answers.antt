@@ -9,7 +9,6 @@ use Rattle.tracing.proofs.steps.move_unless.Goals as goal
 pub returns : goal.returns
 returns c =
     let a = c.args in
-    let pre = c.requires in
     let e = c.phy_at-f.ensures in
-    move_on (domain_in a.rows.now) a.i.0 a.p.0 a.came (ended_here a.back) (c.phy_address.ensures ∙ ap address_of e) c.if-phy_address-came.false
-    (c.attached_expander.ensures ∙ far_in a.rows.now a.first.now a.i.0 a.p.0 pre.0 pre.1) (c.attached_phy.ensures ∙ ap attached_phy_of e)
+    move_on (domain_in a.d.now.rows.now) a.i.0 a.p.0 a.came (ended_here a.back) (c.phy_address.ensures ∙ ap address_of e) c.if-phy_address-came.false
+    (c.attached_expander.ensures ∙ far_in a.d.now.rows.now a.d.now.first.now a.i.0 a.p.0 a.d.now.indexed.firsts c.requires) (c.attached_phy.ensures ∙ ap attached_phy_of e)

@@ -15,7 +15,7 @@ pub loop-k-init : goal.loop-k-init
 unfolding traced
 loop-k-init c =
     let a = c.args in
-    let d : Domain = domain_in a.rows.now in (
+    let d : Domain = domain_in a.d.now.rows.now in (
       refl,
       refl,
       ap (λ (m : ℕ). trace_from m d (counted (entries a.words.now a.bits.now)) a.start.0 a.arrival.0 a.s) (sub-zero c.expander_count-n.result ∙ c.expander_count-n.ensures.0),
@@ -27,13 +27,13 @@ returns-in-Ended c =
     let n : ℕ = c.expander_count-n.result in
     let e = sym c.in-Ended.is ∙ c.take_step.ensures in
     rw c.ended.ensures
-    (walk-stop (domain_in a.rows.now) (counted (entries a.words.now a.bits.now)) a.s n c.loop-k.k c.loop-k.i.0 c.loop-k.q.0 c.loop-k.passed a.passed.now
+    (walk-stop (domain_in a.d.now.rows.now) (counted (entries a.words.now a.bits.now)) a.s n c.loop-k.k c.loop-k.i.0 c.loop-k.q.0 c.loop-k.passed a.passed.now
     c.loop-k.invariant.2 c.loop-k.invariant.1 e (omega arith) (omega arith))
 
 pub loop-k-preserved : goal.loop-k-preserved
 loop-k-preserved c =
     let a = c.args in
-    let d : Domain = domain_in a.rows.now in
+    let d : Domain = domain_in a.d.now.rows.now in
     let n : ℕ = c.expander_count-n.result in
     let e = sym c.in-Onward.is ∙ c.take_step.ensures in (
       simp length-set c.loop-k.invariant.0,
@@ -47,5 +47,5 @@ returns c =
     let a = c.args in
     let n : ℕ = c.expander_count-n.result in
     rw c.ended-2.ensures
-    (walk_end (domain_in a.rows.now) (counted (entries a.words.now a.bits.now)) a.s n c.loop-k.k c.loop-k.i.0 c.loop-k.q.0 c.loop-k.passed a.passed.now
+    (walk_end (domain_in a.d.now.rows.now) (counted (entries a.words.now a.bits.now)) a.s n c.loop-k.k c.loop-k.i.0 c.loop-k.q.0 c.loop-k.passed a.passed.now
     c.loop-k.invariant.2 c.loop-k.invariant.1 (omega arith) (omega arith))

@@ -10,4 +10,4 @@ abbrev pub invariant-loop-k : goal.invariant-loop-k
 invariant-loop-k l =
     (length l.passed ≡ length l.initial.passed)
     × (drop l.k l.passed ≡ drop l.k l.initial.passed)
-    × (after (take l.k l.passed) (trace_from (l.n - l.k) (domain_in l.rows) (counted (entries l.words l.bits)) l.i.0 l.q.0 l.s) ≡ traced (domain_in l.rows) (counted (entries l.words l.bits)) (request l.initial.i.0 l.initial.q.0 l.s))
+    × (after (take l.k l.passed) (trace_from (l.n - l.k) (domain_in l.d.rows.now) (counted (entries l.words l.bits)) l.i.0 l.q.0 l.s) ≡ traced (domain_in l.d.rows.now) (counted (entries l.words l.bits)) (request l.initial.i.0 l.initial.q.0 l.s))
