@@ -2,6 +2,7 @@
 // writing fails, one line on standard error says so.
 #![tactic(auto)]
 
+ghost use Rattle.std.specs.Prelude.{IfOk};
 ghost use Rattle.io.specs.Counts.{IsPrefixLen};
 
 use listing::{Counted, Refusal};
@@ -13,83 +14,56 @@ const MOST_INPUT: usize = 65536;
 // How many table words there is room for.
 const TABLE_WORDS: usize = 8192;
 
-// What reading standard input gives: how many bytes were read, and whether a read failed then.
-#[derive(Clone, Copy)]
-struct Input {
-    length: usize,
-    failed: bool,
-}
-
-// One read into the start of the buffer. It reads no byte where the input ends or the read fails.
-fn read_some(mut input: Stdin, buf: &mut [u8]) -> Input
-    ensures { IsPrefixLen result.length buf.new }
+// One read into the start of the buffer. It reads no byte where the input ends.
+fn read_some(mut input: Stdin, buf: &mut [u8]) -> std::io::Result<usize>
+    ensures { IfOk result (λ n. IsPrefixLen n buf.new) }
 {
-    match input.read(buf) {
-        Ok(n) => Input {
-            length: n,
-            failed: false,
-        },
-        Err(_) => Input {
-            length: 0,
-            failed: true,
-        },
-    }
+    input.read(buf)
 }
 
-// Reads until the buffer is full, the input ends or a read fails.
-fn read_input(input: Stdin, buf: &mut [u8]) -> Input
-    ensures { IsPrefixLen result.length buf.new }
+// Reads until the buffer is full or the input ends, and yields how many bytes were read.
+fn read_input(input: Stdin, buf: &mut [u8]) -> std::io::Result<usize>
+    ensures { IfOk result (λ n. IsPrefixLen n buf.new) }
 {
     let mut n: usize = 0;
     while n < buf.len() {
-        let more = read_some(input, &mut buf[n..]);
-        if more.length == 0 {
-            return Input {
-                length: n,
-                failed: more.failed,
-            };
+        let more = read_some(input, &mut buf[n..])?;
+        if more == 0 {
+            return Ok(n);
         }
-        n += more.length;
+        n += more;
     }
-    Input {
-        length: n,
-        failed: false,
-    }
+    Ok(n)
 }
 
-// Writes a text on standard output, and answers whether all of it was written.
-fn print(mut to: Stdout, text: &[u8]) -> bool {
-    to.write_all(text).is_ok()
+// Writes a text on standard output.
+fn print(mut to: Stdout, text: &[u8]) -> std::io::Result<()> {
+    to.write_all(text)
 }
 
 // Writes a text on standard error, as far as that can be written.
 fn tell(mut to: Stderr, text: &[u8]) {
-    to.write_all(text).is_ok();
+    let _ = to.write_all(text);
 }
 
-// Writes the lines of the table words of a domain in rows, chunk by chunk until one has no line, and
-// answers whether all were written.
-fn print_lines(to: Stdout, rows: &[u64], words: &[u64]) -> bool {
+// Writes the lines of the table words of a domain in rows, chunk by chunk until one has no line.
+fn print_lines(to: Stdout, rows: &[u64], words: &[u64]) -> std::io::Result<()> {
     let mut out = io::large_buffer();
     let mut at = listing::start();
     while at.word < words.len() {
         let chunk = listing::put_chunk(rows, words, at, &mut out);
         if chunk.end == 0 {
-            return true;
+            return Ok(());
         }
-        if !print(to, &out[..chunk.end]) {
-            return false;
-        }
+        print(to, &out[..chunk.end])?;
         at = chunk.next;
     }
-    true
+    Ok(())
 }
 
-// Writes the lines of all entries, and the totals, and answers whether all were written.
-fn print_tables(to: Stdout, rows: &[u64], words: &[u64], counted: Counted) -> bool {
-    if !print_lines(to, rows, words) {
-        return false;
-    }
+// Writes the lines of all entries, and the totals.
+fn print_tables(to: Stdout, rows: &[u64], words: &[u64], counted: Counted) -> std::io::Result<()> {
+    print_lines(to, rows, words)?;
     let mut line = [0u8; listing::LINE_BYTES];
     let end = listing::totals(
         &mut line,
@@ -99,16 +73,15 @@ fn print_tables(to: Stdout, rows: &[u64], words: &[u64], counted: Counted) -> bo
     print(to, &line[..end])
 }
 
-// Writes the refusal line, and answers whether it was written.
-fn print_refusal(to: Stdout, r: Refusal) -> bool {
+// Writes the refusal line.
+fn print_refusal(to: Stdout, r: Refusal) -> std::io::Result<()> {
     let mut line = [0u8; listing::LINE_BYTES];
     let end = listing::refused(&mut line, r);
     print(to, &line[..end])
 }
 
-// Writes the listing of a domain in rows, or why there is none, and answers whether all was written. A chain
-// may have `chain` expanders.
-fn print_rows(to: Stdout, rows: &[u64], chain: u8) -> bool {
+// Writes the listing of a domain in rows, or why there is none. A chain may have `chain` expanders.
+fn print_rows(to: Stdout, rows: &[u64], chain: u8) -> std::io::Result<()> {
     let mut first = [0u16; listing::SLOTS_OF_64];
     let mut low = [0u8; listing::PHYS_OF_64];
     let mut words = [0u64; TABLE_WORDS];
@@ -127,8 +100,8 @@ fn print_rows(to: Stdout, rows: &[u64], chain: u8) -> bool {
     }
 }
 
-// Writes the listing of a file, which is read once, under the widest setting, and answers whether all was written.
-fn print_listing(to: Stdout, file: &[u8]) -> bool {
+// Writes the listing of a file, which is read once, under the widest setting.
+fn print_listing(to: Stdout, file: &[u8]) -> std::io::Result<()> {
     if file.len() > MOST_INPUT {
         let mut line = [0u8; listing::LINE_BYTES];
         let end = listing::too_long(&mut line);
@@ -148,12 +121,11 @@ fn print_listing(to: Stdout, file: &[u8]) -> bool {
 // At most 65,536 bytes of input and 8,192 table words.
 fn main(rt: HostRuntime) {
     let mut file = [0u8; MOST_INPUT + 1];
-    let input = read_input(rt.stdin(), &mut file[..]);
-    if input.failed {
+    let Ok(n) = read_input(rt.stdin(), &mut file[..]) else {
         tell(rt.stderr(), b"routes: standard input cannot be read\n");
         return;
-    }
-    if !print_listing(rt.stdout(), &file[..input.length]) {
+    };
+    if print_listing(rt.stdout(), &file[..n]).is_err() {
         tell(rt.stderr(), b"routes: standard output cannot be written\n");
     }
 }
