@@ -49,6 +49,7 @@ pub struct Setting {
 
 // The fields of a phy that is not vacant: attached device type, routing attribute, attached
 // address, attached phy identifier.
+// Type and attribute are codes and no enums, as in `Discover`: the theorems on units and rows speak of the numbers.
 #[derive(Clone, Copy)]
 pub struct PhyFields {
     pub device_type: u8,

@@ -3,6 +3,7 @@
 ghost use Rattle.std.specs.Prelude.{◌≡◌};
 ghost use Rattle.frames.specs.Codes.{device_type, routing_attribute};
 
+// The codes are numbers and no enums: reserved codes are read and written back as they stand (`discover_fields`).
 // ATTACHED DEVICE TYPE (source document 002, table 6).
 pub const NO_DEVICE: u8 = 0b000;
 

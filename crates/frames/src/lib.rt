@@ -47,6 +47,7 @@ pub struct RouteIndex(pub u16);
 pub struct ExpanderNumber(pub u8);
 
 // A refusal: "number, expander, phy".
+// The number is a byte and no enum: C reads it, and `RefusesExactly` and `PartsBack` speak of any number.
 #[derive(Clone, Copy)]
 pub struct Refusal {
     pub number: u8,
@@ -87,6 +88,7 @@ pub enum GeneralSas2 {
 
 // The fields of a DISCOVER response: phy identifier, attached device type, own address, attached
 // address, attached phy identifier, routing attribute.
+// Type and attribute are codes and no enums: a frame may have reserved ones, and `discover_fields` has the number that stands there.
 #[derive(Clone, Copy)]
 pub struct Discover {
     pub identifier: PhyId,

@@ -44,6 +44,7 @@ pub fn put_chunk(
     let n = tables::expander_count(rows);
     let mut at = from;
     let mut end: usize = 0;
+    // No iterator: a cursor moves on over expander, phy, index and word, and stands where the next chunk begins.
     while at.expander.0 < n {
         if at.index.0 >= entries::entry_count(rows, at) {
             at = entries::next_place(rows, at);

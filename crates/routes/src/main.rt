@@ -26,6 +26,7 @@ fn read_input(input: Stdin, buf: &mut [u8]) -> std::io::Result<usize>
     ensures { IfOk result (λ n. IsPrefixLen n buf.new) }
 {
     let mut n: usize = 0;
+    // No iterator: each turn goes on by as many bytes as were read.
     while n < buf.len() {
         let more = read_some(input, &mut buf[n..])?;
         if more == 0 {
@@ -50,6 +51,7 @@ fn tell(mut to: Stderr, text: &[u8]) {
 fn print_lines(to: Stdout, rows: &[u64], words: &[u64]) -> std::io::Result<()> {
     let mut out = io::large_buffer();
     let mut at = listing::start();
+    // No iterator: each turn goes on to the cursor that the chunk yields.
     while at.word < words.len() {
         let chunk = listing::put_chunk(rows, words, at, &mut out);
         if chunk.end == 0 {

@@ -26,6 +26,7 @@ pub(crate) const SHELF_ENTRIES: usize = SHELF_PHYS * SHELF_INDEXES;
 // is not disabled; each phy's kind (0 vacant, 1 table, 2 other); how many route indexes each phy has (R); and how many
 // phys there are. Every byte belongs to a field, and whatever stands there is a shelf: phys past 16 and route indexes past
 // 64 do not exist.
+// Bytes and words beside each other, and no enum or Vec: C lends a shelf in this layout.
 #[repr(C)]
 #[derive(Clone, Copy)]
 pub struct Shelf {

@@ -33,6 +33,7 @@ pub enum Step {
 
 // Why an expander does what it does: the rule, 1 to 5 for (i) to (v), the phy picked (255 where there is none), and the
 // route index of the entry that matched (65535 where there is none).
+// The rule is a number and no enum: `because` and `done_by` have the number, and C reads it.
 #[derive(Clone, Copy)]
 pub struct Reason {
     pub rule: u8,

@@ -63,6 +63,7 @@ fn passed_over(words: &[u64], at: usize, n: usize, s: u64) -> usize
     }
     let room = words.len() - at;
     let mut r: usize = 0;
+    // No iterator: it goes on by eight words, which is what makes the search in a table fast.
     while 8 <= n - r {
         if room - r < 8 {
             return r;

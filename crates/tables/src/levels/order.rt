@@ -13,6 +13,7 @@ use crate::levels::wide_links;
 use wiring::{ExpanderNumber, Phy, PhyId};
 
 // Copies the numbers after the first m of `order`, and yields how many there are then.
+// Bytes, where `copy_words` has words: one size for both would make the room for 8 expanders eight times as large.
 fn append_numbers(order: &mut [u8], m: usize, more: &[u8]) -> usize
     requires { m + length more.now ≤ length order.old }
     ensures { Grown order.old order.new result (take m order.old ++ more.now) }
@@ -73,6 +74,7 @@ pub(crate) fn put_order(
 }
 
 // Whose order stands in the room for one: a phy of an expander, and how many numbers its order has.
+// The numbers themselves stand in lent room, with their count beside it, and in no Vec: no call takes heap memory.
 #[derive(Clone, Copy)]
 pub(crate) struct KeptOrder {
     pub(crate) phy: PhyId,

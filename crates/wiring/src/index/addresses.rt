@@ -58,6 +58,7 @@ fn find(rows: &[u64], from: usize, cells: &[u16], size: usize, s: u64) -> usize
     let mut bits = s;
     let mut c = key_in(s, size);
     let mut v = cells[c] as usize;
+    // No iterator: each turn goes from a cell to one of the two below it.
     while v > 0 {
         if slot_word(rows, from + v - 1) == s {
             return c;
