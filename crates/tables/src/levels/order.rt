@@ -18,8 +18,12 @@ fn append_numbers(order: &mut [u8], m: usize, more: &[u8]) -> usize
     requires { m + length more.now ≤ length order.old }
     ensures { Grown order.old order.new result (take m order.old ++ more.now) }
 {
-    let to = m + more.len();
-    order[m..to].copy_from_slice(more);
+    let mut to = m;
+    // No copy_from_slice: the archive would need memmove from outside, which a program without the C library does not have.
+    for k in 0..more.len() {
+        order[to] = more[k];
+        to += 1;
+    }
     to
 }
 
