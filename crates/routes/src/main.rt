@@ -47,7 +47,9 @@ fn tell(mut to: Stderr, text: &[u8]) {
     let _ = to.write_all(text);
 }
 
-// Writes the lines of the table words of a domain in rows, chunk by chunk until one has no line.
+// Writes the lines of the table words of a domain in rows, chunk by chunk until one has no line. Its buffer stands in a frame
+// of its own, so that the stack does not hold it while tables are filled.
+#[inline(never)]
 fn print_lines(to: Stdout, rows: &[u64], words: &[u64]) -> std::io::Result<()> {
     let mut out = io::large_buffer();
     let mut at = listing::start();

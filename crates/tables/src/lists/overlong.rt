@@ -103,7 +103,9 @@ fn overlong_in(d: &IndexedRows, downstream: &mut [u8], order: &mut [u8]) -> Resu
     overlong_each(&counted, order)
 }
 
-// The lowest such phy, with room of this size: bytes for those lists, and for the levels of one phy.
+// The lowest such phy, with room of this size: bytes for those lists, and for the levels of one phy. The room stands in a frame
+// of its own, so that the stack does not hold it while tables are filled.
+#[inline(never)]
 fn overlong_with<const DOWNSTREAM: usize, const ORDER: usize>(
     d: &IndexedRows,
 ) -> Result<(), Refusal>

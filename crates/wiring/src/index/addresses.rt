@@ -190,7 +190,9 @@ fn put_all(rows: &[u64], cells: &mut [u16], size: usize, first: &mut [u16], low:
     }
 }
 
-// Writes both answers with a tree of this size: its roots, and all its cells.
+// Writes both answers with a tree of this size: its roots, and all its cells. The tree stands in a frame of its own, so that
+// the stack does not hold it after the index is made.
+#[inline(never)]
 fn index_with<const ROOTS: usize, const CELLS: usize>(
     rows: &[u64],
     first: &mut [u16],
