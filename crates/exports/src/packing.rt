@@ -114,7 +114,7 @@ impl Packed for Counted {
     ghost as_number = { counts };
 
     fn pack(self) -> u64 {
-        two_counts(self.table_count, self.word_count)
+        two_counts(self.table_count, self.word_count) // tables, then words
     }
 }
 
